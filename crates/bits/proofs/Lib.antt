@@ -1,1 +1,3 @@
+pub mod Ones
+pub mod Said
 pub mod Xor

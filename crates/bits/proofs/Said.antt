@@ -1,0 +1,15 @@
+-- An answer that is a test of two numbers says a statement that is equal to the numbers being equal.
+-- Assumes nothing.
+use mathlib.Core.Path.{_≡_, refl}
+use mathlib.Core.Bool.{Bool, true, false}
+use Prim.Native.Nat.{ℕ}
+use lib.Dec.{eqb}
+use borrow.Author.Tests.{eqb-true, eqb-false}
+use Rattle.bits.specs.Says.{Says}
+
+pub says-equal : (a b : ℕ) (P : Type 0) → (a ≡ b → P) → (P → a ≡ b) → Says (eqb a b) P
+says-equal a b P to from = pick (eqb a b) refl
+  where
+    pick : (t : Bool) → eqb a b ≡ t → Says t P
+    pick true e = to (eqb-true a b e)
+    pick false e = λ p. eqb-false a b e (from p)

@@ -1,0 +1,4 @@
+pub mod Check
+pub mod Fields
+pub mod Flag
+pub mod Valid

@@ -1,0 +1,125 @@
+// The header of a packet: its fields, its check bits, and whether 32 bits are a valid one (001, 3.1 and 3.2).
+ghost use mathlib.Core.Path.{_≡_};
+ghost use Prim.Native.Nat.{_<_, _^_};
+ghost use Rattle.bits.specs.Says.{Says};
+ghost use Rattle.header.specs.Check.{checkOf};
+ghost use Rattle.header.specs.Fields.{fieldsIn, headerOf, sentFields, Fit, lowFlag, oneIf, wordOf};
+ghost use Rattle.header.specs.Valid.{Valid};
+
+pub struct Header {
+    // bits 7/6 of the flag
+    pub message: u8,
+    // bits 5/4/3
+    pub extended: u8,
+    // bit 2
+    pub sync: bool,
+    // bit 1, sent 0
+    pub spare: bool,
+    // the number of data bytes
+    pub length: u16,
+}
+
+impl Header {
+    // The message type of every binary packet.
+    pub const BINARY: u8 = 2;
+    // The extended types.
+    pub const OPEN: u8 = 0;
+
+    pub const PSEUDO_BINARY: u8 = 1;
+
+    pub const FULL_ASCII: u8 = 4;
+    // The most data bytes of one packet.
+    pub const LONGEST: u16 = 4000;
+    // x^10 + x^9 + x^8 + x^6 + x^5 + x^3 + 1, of the check bits.
+    pub const GENERATOR: u32 = 0x769;
+
+    // The header that we send for these fields.
+    pub fn from_fields(extended: u8, sync: bool, length: u16) -> Self
+        ensures { λ r. ⌜ r ≡ sentFields extended sync length ⌝ }
+    {
+        Header {
+            message: Header::BINARY,
+            extended,
+            sync,
+            spare: false,
+            length,
+        }
+    }
+
+    // The fields of 32 bits, valid or not.
+    pub fn from_bits(word: u32) -> Self
+        ensures { λ r. ⌜ r ≡ fieldsIn word ⌝ }
+    {
+        let flag = word / 0x100_0000;
+        Header {
+            message: (flag / 32 % 4) as u8,
+            extended: (flag / 4 % 8) as u8,
+            sync: flag / 2 % 2 == 1,
+            spare: flag % 2 == 1,
+            length: (word / 1024 % 16384) as u16,
+        }
+    }
+
+    // The seven bits of the flag below its parity.
+    fn low_flag(self) -> u32
+        requires { ⌜ Fit self ⌝ }
+        ensures { λ r. ⌜ r ≡ lowFlag self ⌝ }
+    {
+        (self.message as u32) * 32
+            + (self.extended as u32) * 4
+            + one_if(self.sync) * 2
+            + one_if(self.spare)
+    }
+
+    // The 32 bits of a header: the flag with its parity, the length, and the check bits over both.
+    pub fn to_bits(self) -> u32
+        requires { ⌜ Fit self ⌝ }
+        ensures { λ r. ⌜ r ≡ headerOf self ⌝ }
+    {
+        let low = self.low_flag();
+        let length = self.length as u32;
+        let flag = (u32::count_ones(low) + 1) % 2 * 128 + low;
+        flag * 0x100_0000 + length * 1024 + check_bits(low * 16384 + length)
+    }
+}
+
+fn one_if(set: bool) -> u32
+    ensures { λ r. ⌜ r ≡ oneIf set ⌝ }
+{
+    if set { 1 } else { 0 }
+}
+
+// The check bits: the remainder of a long division.
+fn check_bits(information: u32) -> u32
+    requires { ⌜ information < 2 ^ 21 ⌝ }
+    ensures { λ r. ⌜ r ≡ checkOf information ⌝ }
+{
+    let mut left: u32 = information << 10;
+    let mut power: u32 = 21;
+    while 0 < power {
+        power -= 1;
+        left ^= (left >> (power + 10)) % 2 * (Header::GENERATOR << power);
+    }
+    left
+}
+
+// Whether 32 bits are a valid header.
+pub fn is_valid(word: u32) -> bool
+    ensures { λ r. ⌜ Says r (Valid word) ⌝ }
+{
+    let flag = word / 0x100_0000;
+    if u32::count_ones(flag) % 2 == 0 {
+        return false;
+    }
+    check_bits(word / 1024 % 0x20_0000) == word % 1024
+}
+
+// The 32 bits of four bytes, the first byte at the top.
+pub fn word(first: u8, second: u8, third: u8, fourth: u8) -> u32
+    ensures { λ r. ⌜ r ≡ wordOf first second third fourth ⌝ }
+{
+    (first as u32) * 0x100_0000
+        + (second as u32) * 0x1_0000
+        + (third as u32) * 0x100
+        + (fourth as u32)
+}
