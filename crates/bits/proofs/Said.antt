@@ -1,6 +1,6 @@
--- An answer that is a test of two numbers says a statement that is equal to the numbers being equal.
+-- What an answer of yes or no says, taken apart; and an answer that is a test of two numbers.
 -- Assumes nothing.
-use mathlib.Core.Path.{_≡_, refl}
+use mathlib.Core.Path.{_≡_, refl, subst}
 use mathlib.Core.Bool.{Bool, true, false}
 use Prim.Native.Nat.{ℕ}
 use lib.Dec.{eqb}
@@ -13,3 +13,9 @@ says-equal a b P to from = pick (eqb a b) refl
     pick : (t : Bool) → eqb a b ≡ t → Says t P
     pick true e = to (eqb-true a b e)
     pick false e = λ p. eqb-false a b e (from p)
+
+pub said-yes : {P : Type 0} (b : Bool) → Says b P → b ≡ true → P
+said-yes {P} b s e = subst (λ (t : Bool). Says t P) e s
+
+pub said-no : {P : Type 0} (b : Bool) → Says b P → b ≡ false → P → ⊥
+said-no {P} b s e = subst (λ (t : Bool). Says t P) e s
