@@ -11,7 +11,7 @@ use lib.Dec.{lit<}
 use lib.Pow.{shl-lt, pow-pos, pow-add, pow-mono}
 use lib.Bits.{bitXor, xor-lt, xor-shr, xor-comm, xor-self, xor-zero-r}
 use lib.ListN.{length}
-use Rattle.bits.proofs.Xor.{xor-assoc, xor-undo}
+use Rattle.bits.proofs.Xor.{xor-assoc, xor-undo, xor-cross, xor-digits, xor-odd}
 use Rattle.header.specs.Check.{generator, remainder, checkOf, multiple, Leaves, Coefficients}
 
 two-pos : 0 < 2
@@ -65,6 +65,27 @@ remainder-lt (suc k) p h = remainder-lt k (bitXor p (p / 2 ^ (k + 10) % 2 * (gen
 pub check-lt : (i : ℕ) → i < 2 ^ 21 → checkOf i < 2 ^ 10
 unfolding checkOf
 check-lt i h = remainder-lt 21 (i * 2 ^ 10) (shl-lt 21 10 h)
+
+-- ---- the division goes through sums
+
+step-sum : (k p q : ℕ)
+    → bitXor (bitXor p q) (bitXor p q / 2 ^ (k + 10) % 2 * (generator * 2 ^ k))
+    ≡ bitXor (bitXor p (p / 2 ^ (k + 10) % 2 * (generator * 2 ^ k))) (bitXor q (q / 2 ^ (k + 10) % 2 * (generator * 2 ^ k)))
+step-sum k p q =
+    let x = p / 2 ^ (k + 10) in
+    let y = q / 2 ^ (k + 10) in
+    let g = generator * 2 ^ k in
+    ap (λ (n : ℕ). bitXor (bitXor p q) (n * g))
+    (ap (λ (n : ℕ). n % 2) (xor-shr p q (k + 10)) ∙ xor-odd x y)
+    ∙ ap (bitXor (bitXor p q)) (sym (xor-digits (x % 2) (y % 2) g (mod-lt x two-pos) (mod-lt y two-pos)))
+    ∙ xor-cross p q (x % 2 * g) (y % 2 * g)
+
+pub remainder-sum : (k p q : ℕ) → remainder k (bitXor p q) ≡ bitXor (remainder k p) (remainder k q)
+unfolding remainder
+remainder-sum zero p q = refl
+remainder-sum (suc k) p q =
+    ap (remainder k) (step-sum k p q)
+    ∙ remainder-sum k (bitXor p (p / 2 ^ (k + 10) % 2 * (generator * 2 ^ k))) (bitXor q (q / 2 ^ (k + 10) % 2 * (generator * 2 ^ k)))
 
 -- ---- a quotient goes with it
 
@@ -146,7 +167,7 @@ idle k p h =
     ap (remainder k)
     (ap (λ (n : ℕ). bitXor p (n % 2 * (generator * 2 ^ k))) (div-eq-of-lt h) ∙ ap (bitXor p) (zero-mul (generator * 2 ^ k)) ∙ xor-zero-r p)
 
-longer : (k m p : ℕ) → p < 2 ^ (k + 10) → k ≤ m → remainder m p ≡ remainder k p
+pub longer : (k m p : ℕ) → p < 2 ^ (k + 10) → k ≤ m → remainder m p ≡ remainder k p
 longer k m p h le =
     le-ind (λ (n : ℕ). remainder n p ≡ remainder k p) refl
     (λ n more e. idle n p (lt-of-lt-of-le h (pow-mono (let up : k + 10 ≤ n + 10 = omega arith in up))) ∙ e) m le

@@ -9,7 +9,7 @@ use native.Mathlib.Nat.{mod-lt, mod-eq-of-lt, div-one, zero-lt-suc}
 use native.Mathlib.Omega.{arith}
 use lib.Count.{onesIn}
 use lib.Dec.{eqb}
-use lib.Pow.{pow-pos, shr-shr, mod-pow-add}
+use lib.Pow.{field, mod-mod-pow, split, pow-pos, shr-shr, mod-pow-add}
 use Rattle.bits.proofs.Ones.{ones-split, ones-low}
 use Rattle.bits.proofs.Xor.{digit, digit-of}
 use Rattle.header.specs.declared.Header.{Header}
@@ -211,6 +211,18 @@ valid-made h v =
 
     whole : flagIn h * 2 ^ 24 + lengthIn h * 2 ^ 10 + checkIn h ≡ h
     whole = three h
+
+-- the parity bit tells nothing that the others do not: two valid headers that agree in those are the same
+pub valid-low : (v w : ℕ) → Valid v → Valid w → v % 2 ^ 31 ≡ w % 2 ^ 31 → v ≡ w
+unfolding flagIn
+valid-low v w hv hw e =
+    sym (split v 24)
+    ∙ ap₂ (λ (x y : ℕ). x * 2 ^ 24 + y)
+    (sym (parity-back (v / 2 ^ 24) (flag-in-lt v (hv .bits)) (hv .parity))
+    ∙ ap (λ (n : ℕ). parityFor n * 2 ^ 7 + n) (sym (field v 7 24) ∙ ap (λ (n : ℕ). n / 2 ^ 24) e ∙ field w 7 24)
+    ∙ parity-back (w / 2 ^ 24) (flag-in-lt w (hw .bits)) (hw .parity))
+    (sym (mod-mod-pow v 7 24) ∙ ap (λ (n : ℕ). n % 2 ^ 24) e ∙ mod-mod-pow w 7 24)
+    ∙ split w 24
 
 -- ---- four bytes
 

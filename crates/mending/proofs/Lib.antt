@@ -1,1 +1,3 @@
+pub mod Apart
 pub mod Search
+pub mod Unique

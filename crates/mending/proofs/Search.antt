@@ -76,7 +76,7 @@ pub found : (limit received place header bits : ℕ) (answer : Mending) → 0 < 
 found limit received place header bits answer some h lt m e =
     let near = subst (MendsWithin (limit - 1) (flip place received)) e (turned (limit - 1) received place answer h m) .0 in (
       subst (λ (n : ℕ). Near n received header) (let up : suc (limit - 1) ≡ limit = omega arith in up)
-      (further (limit - 1) received place header h near),
+          (further (limit - 1) received place header h near),
       counted received header lt (near .valid .bits),
     )
 

@@ -154,8 +154,8 @@ mend-within-loop-again t c =
     let place = c .before .before .before .before .loop .place in (
       omega arith,
       below-more (λ (i : ℕ). (header : ℕ) → Near (a .limit - 1) (flip i (a .received)) header → ⊥) place (c .before .before .before .before .loop .inv .1)
-      (passed (a .limit - 1) (a .received) place (c .before .before .mend-within .result) (omega arith) (c .before .before .mend-within .ensures)
-      (c .enum-told .given .1)),
+          (passed (a .limit - 1) (a .received) place (c .before .before .mend-within .result) (omega arith) (c .before .before .mend-within .ensures)
+          (c .enum-told .given .1)),
     )
 
 mend-within-returns-4 : (t : ℕ) → mend-within-lts.Need-returns-4 (

@@ -1,0 +1,212 @@
+-- Two different valid headers differ in at least five bits. The remainder goes through sums, so the bits in which two valid headers differ leave
+-- nothing, and one computed walk over the 31 remainders of single bits shows that no one to four bits do.
+-- Assumes nothing.
+use mathlib.Core.Path.{_≡_, refl, sym, ap, ap₂, _∙_, subst}
+use mathlib.Core.Bool.{Bool, true, false}
+use mathlib.Core.List.{List, [], _∷_}
+use mathlib.Core.Logic.{_⊎_, inl, inr}
+use Prim.Native.Nat.{ℕ, zero, suc, _+_, _*_, _/_, _%_, _^_, _≤_, _<_}
+use native.Mathlib.Nat.{zero-lt-suc, mod-lt, mod-eq-of-lt, pow-suc, one-mul, zero-mul, zero-add, add-comm}
+use native.Mathlib.Decide.{decLe}
+use native.Mathlib.Numerals.{add-one}
+use native.Mathlib.Omega.{arith}
+use lib.Arith.{lt-one}
+use lib.Bits.{bitXor, xor-shifted, xor-mod, xor-self, xor-comm, xor-lt}
+use lib.Count.{onesIn}
+use lib.Dec.{T, eqb, eqb→eq, eqb-refl, lit≤}
+use lib.Pow.{pow-pos, split, mod-pow-add, shr-lt}
+use Rattle.bits.specs.Word.{differences}
+use Rattle.bits.proofs.Xor.{digit, xor-undo, xor-zero}
+use Rattle.bits.proofs.Ones.{ones-split, ones-low, no-ones}
+use Rattle.header.specs.Check.{remainder, checkOf}
+use Rattle.header.specs.Valid.{Valid, checkIn, informationIn}
+use Rattle.header.proofs.Division.{remainder-sum, longer}
+use Rattle.header.proofs.Made.{valid-low, information-in}
+use Rattle.mending.specs.Mends.{distance}
+
+-- what 31 bits leave: nothing, where they are the information and the check of a header
+left : ℕ → ℕ
+left = remainder 21
+
+-- ---- the walk
+
+abbrev both : Bool → Bool → Bool
+both true b = b
+both false b = false
+
+both-left : (a b : Bool) → T (both a b) → T a
+both-left true b t = tt
+both-left false b t = t
+
+both-right : (a b : Bool) → T (both a b) → T b
+both-right true b t = t
+both-right false b t = absurd t
+
+abbrev differs : Bool → Bool
+differs true = false
+differs false = true
+
+differs-no : (b : Bool) → T (differs b) → T b → ⊥
+differs-no true t s = t
+differs-no false t s = s
+
+-- what each single bit below 2^k leaves, the highest first
+columns : ℕ → List ℕ
+columns zero = []
+columns (suc k) = left (2 ^ k) ∷ columns k
+
+-- no choice of at most so many columns adds up to s
+absent : ℕ → List ℕ → ℕ → Bool
+absent w [] s = differs (eqb s 0)
+absent zero (c ∷ cs) s = absent zero cs s
+absent (suc w) (c ∷ cs) s = both (absent (suc w) cs s) (absent w cs (bitXor s c))
+
+-- no choice of at least one and at most so many columns adds up to nothing
+alone : ℕ → List ℕ → Bool
+alone w [] = true
+alone zero (c ∷ cs) = true
+alone (suc w) (c ∷ cs) = both (alone (suc w) cs) (absent w cs c)
+
+four-alone : T (alone 4 (columns 31))
+unfolding alone absent columns left remainder checkOf Rattle.header.specs.Check.generator
+four-alone = tt
+
+-- ---- what the walk says of numbers
+
+left-nothing : left 0 ≡ 0
+unfolding left remainder Rattle.header.specs.Check.generator
+left-nothing = refl
+
+-- a number of k + 1 bits is one of k bits, or bit k and a number of k bits
+record Lower (k e : ℕ) : Type 0 where
+  small : e < 2 ^ k
+  ones : onesIn (suc k) e ≡ onesIn k e
+
+record Upper (k e : ℕ) : Type 0 where
+  rest : ℕ
+  small : rest < 2 ^ k
+  leaves : left e ≡ bitXor (left (2 ^ k)) (left rest)
+  ones : onesIn (suc k) e ≡ suc (onesIn k rest)
+
+ones-top : (k e : ℕ) → onesIn (suc k) e ≡ onesIn k e + e / 2 ^ k % 2
+unfolding onesIn
+ones-top k e =
+    ap (λ (n : ℕ). onesIn n e) (sym (add-one k)) ∙ ones-split k 1 e
+    ∙ (let same : onesIn k e + (e / 2 ^ k % 2 + 0) ≡ onesIn k e + e / 2 ^ k % 2 = omega arith in same)
+
+halves : (k e : ℕ) → e < 2 ^ suc k → Lower k e ⊎ Upper k e
+unfolding left
+halves k e h = pick (digit (e / 2 ^ k) (shr-lt 1 k (subst (λ (n : ℕ). e < 2 ^ n) (sym (add-one k) ∙ add-comm k 1) h)))
+  where
+    whole : e / 2 ^ k * 2 ^ k + e % 2 ^ k ≡ e
+    whole = split e k
+
+    pick : (e / 2 ^ k ≡ 0) ⊎ (e / 2 ^ k ≡ 1) → Lower k e ⊎ Upper k e
+    pick (inl z) =
+        inl
+        (record {
+          small =
+              subst (λ (n : ℕ). n < 2 ^ k)
+              (sym (zero-add (e % 2 ^ k)) ∙ ap (λ (n : ℕ). n + e % 2 ^ k) (sym (zero-mul (2 ^ k)) ∙ ap (λ (n : ℕ). n * 2 ^ k) (sym z)) ∙ whole)
+              (mod-lt e (pow-pos k));
+          ones = omega (arith, ones-top k e);
+        })
+    pick (inr o) =
+        inr
+        (record {
+          rest = e % 2 ^ k;
+          small = mod-lt e (pow-pos k);
+          leaves =
+              ap (remainder 21)
+              (sym whole ∙ ap (λ (n : ℕ). n * 2 ^ k + e % 2 ^ k) o ∙ sym (xor-shifted 1 k (e % 2 ^ k) (mod-lt e (pow-pos k)))
+              ∙ ap (λ (n : ℕ). bitXor n (e % 2 ^ k)) (one-mul (2 ^ k)))
+              ∙ remainder-sum 21 (2 ^ k) (e % 2 ^ k);
+          ones = omega (arith, ones-top k e, ones-low k e);
+        })
+
+-- ---- the walk is right, one column after the other
+
+abbrev Absent : ℕ → Type 0
+Absent k = (w s e : ℕ) → T (absent w (columns k) s) → e < 2 ^ k → onesIn k e ≤ w → left e ≡ s → ⊥
+
+absent-step : (k : ℕ) → Absent k → (w s e : ℕ) → T (absent w (columns (suc k)) s) → onesIn (suc k) e ≤ w → left e ≡ s → Lower k e ⊎ Upper k e → ⊥
+unfolding absent columns
+absent-step k law zero s e t o l (inl u) = law zero s e t (u .small) (omega (arith, u .ones)) l
+absent-step k law zero s e t o l (inr u) = omega (arith, u .ones)
+absent-step k law (suc w) s e t o l (inl u) =
+    law (suc w) s e (both-left (absent (suc w) (columns k) s) (absent w (columns k) (bitXor s (left (2 ^ k)))) t) (u .small) (omega (arith, u .ones)) l
+absent-step k law (suc w) s e t o l (inr u) =
+    law w (bitXor s (left (2 ^ k))) (u .rest) (both-right (absent (suc w) (columns k) s) (absent w (columns k) (bitXor s (left (2 ^ k)))) t) (u .small)
+    (omega (arith, u .ones))
+    (sym (xor-undo (left (2 ^ k)) (left (u .rest))) ∙ ap (bitXor (left (2 ^ k))) (sym (u .leaves) ∙ l) ∙ xor-comm (left (2 ^ k)) s)
+
+absent-law : (k : ℕ) → Absent k
+unfolding absent columns
+absent-law zero w s e t h o l =
+    differs-no (eqb s 0) t (subst (λ (n : ℕ). T (eqb n 0)) (sym (ap left (lt-one h) ∙ left-nothing) ∙ l) tt)
+absent-law (suc k) w s e t h o l = absent-step k (absent-law k) w s e t o l (halves k e h)
+
+abbrev Alone : ℕ → Type 0
+Alone k = (w e : ℕ) → T (alone w (columns k)) → e < 2 ^ k → onesIn k e ≤ w → left e ≡ 0 → e ≡ 0
+
+alone-step : (k : ℕ) → Alone k → (w e : ℕ) → T (alone w (columns (suc k))) → e < 2 ^ suc k → onesIn (suc k) e ≤ w → left e ≡ 0 → Lower k e ⊎ Upper k e → e ≡ 0
+unfolding alone columns
+alone-step k law zero e t h o l b = no-ones (suc k) e h (omega arith)
+alone-step k law (suc w) e t h o l (inl u) =
+    law (suc w) e (both-left (alone (suc w) (columns k)) (absent w (columns k) (left (2 ^ k))) t) (u .small) (omega (arith, u .ones)) l
+alone-step k law (suc w) e t h o l (inr u) =
+    absurd
+    (absent-law k w (left (2 ^ k)) (u .rest) (both-right (alone (suc w) (columns k)) (absent w (columns k) (left (2 ^ k))) t) (u .small)
+    (omega (arith, u .ones)) (sym (xor-zero (left (2 ^ k)) (left (u .rest)) (sym (u .leaves) ∙ l))))
+
+alone-law : (k : ℕ) → Alone k
+alone-law zero w e t h o l = lt-one h
+alone-law (suc k) w e t h o l = alone-step k (alone-law k) w e t h o l (halves k e h)
+
+-- ---- two valid headers
+
+left-sum : (p q : ℕ) → left (bitXor p q) ≡ bitXor (left p) (left q)
+unfolding left
+left-sum = remainder-sum 21
+
+no-steps : (p : ℕ) → remainder 0 p ≡ p
+unfolding remainder
+no-steps p = refl
+
+-- the information and the check of a valid header leave nothing
+valid-left : (h : ℕ) → Valid h → left (h % 2 ^ 31) ≡ 0
+unfolding left checkIn checkOf
+valid-left h v =
+    ap (remainder 21)
+    (mod-pow-add h 21 10 ∙ sym (xor-shifted (h / 2 ^ 10 % 2 ^ 21) 10 (h % 2 ^ 10) (mod-lt h (pow-pos 10))))
+    ∙ remainder-sum 21 (h / 2 ^ 10 % 2 ^ 21 * 2 ^ 10) (h % 2 ^ 10)
+    ∙ ap₂ bitXor
+    (ap (λ (n : ℕ). remainder 21 (n * 2 ^ 10)) (sym (information-in h)) ∙ sym (v .checked))
+    (longer 0 21 (h % 2 ^ 10) (mod-lt h (pow-pos 10)) (lit≤ tt) ∙ no-steps (h % 2 ^ 10))
+    ∙ xor-self (h % 2 ^ 10)
+
+low-apart : (v w : ℕ) → Valid v → Valid w → onesIn 31 (bitXor v w) ≤ 4 → v ≡ w
+low-apart v w hv hw few = valid-low v w hv hw (xor-zero (v % 2 ^ 31) (w % 2 ^ 31) none)
+  where
+    parts : bitXor v w % 2 ^ 31 ≡ bitXor (v % 2 ^ 31) (w % 2 ^ 31)
+    parts = xor-mod v w 31
+
+    none : bitXor (v % 2 ^ 31) (w % 2 ^ 31) ≡ 0
+    none =
+        alone-law 31 4 (bitXor (v % 2 ^ 31) (w % 2 ^ 31)) four-alone
+        (xor-lt 31 (v % 2 ^ 31) (w % 2 ^ 31) (mod-lt v (pow-pos 31)) (mod-lt w (pow-pos 31)))
+        (omega (arith, ap (onesIn 31) parts, ones-low 31 (bitXor v w)))
+        (left-sum (v % 2 ^ 31) (w % 2 ^ 31) ∙ ap₂ bitXor (valid-left v hv) (valid-left w hw))
+
+-- at most four bits apart, two valid headers are the same
+pub near-same : (v w : ℕ) → Valid v → Valid w → distance v w ≤ 4 → v ≡ w
+unfolding distance differences
+near-same v w hv hw few = low-apart v w hv hw (omega (arith, few, ones-top 31 (bitXor v w)))
+
+-- two different valid headers differ in at least five bits
+pub five-apart : (v w : ℕ) → Valid v → Valid w → (v ≡ w → ⊥) → 5 ≤ distance v w
+five-apart v w hv hw other = pick (decLe 5 (distance v w))
+  where
+    pick : Dec (5 ≤ distance v w) → 5 ≤ distance v w
+    pick (yes h) = h
+    pick (no h) = absurd (other (near-same v w hv hw (omega arith)))
