@@ -3,7 +3,7 @@
 use mathlib.Core.Path.{_≡_, refl, subst}
 use mathlib.Core.Bool.{Bool, true, false}
 use Prim.Native.Nat.{ℕ}
-use lib.Dec.{eqb}
+use lib.Dec.{T, eqb}
 use borrow.Author.Tests.{eqb-true, eqb-false}
 use Rattle.bits.specs.Says.{Says}
 
@@ -19,3 +19,17 @@ said-yes {P} b s e = subst (λ (t : Bool). Says t P) e s
 
 pub said-no : {P : Type 0} (b : Bool) → Says b P → b ≡ false → P → ⊥
 said-no {P} b s e = subst (λ (t : Bool). Says t P) e s
+
+-- ---- two tests in one, for a test that is computed over a whole table
+
+abbrev pub both : Bool → Bool → Bool
+both true b = b
+both false b = false
+
+pub both-left : (a b : Bool) → T (both a b) → T a
+both-left true b t = tt
+both-left false b t = t
+
+pub both-right : (a b : Bool) → T (both a b) → T b
+both-right true b t = t
+both-right false b t = absurd t

@@ -2,7 +2,7 @@
 -- nothing, and one computed walk over the 31 remainders of single bits shows that no one to four bits do.
 -- Assumes nothing.
 use mathlib.Core.Path.{_≡_, refl, sym, ap, ap₂, _∙_, subst}
-use mathlib.Core.Bool.{Bool, true, false}
+use mathlib.Core.Bool.{Bool, true, not}
 use mathlib.Core.List.{List, [], _∷_}
 use mathlib.Core.Logic.{_⊎_, inl, inr}
 use Prim.Native.Nat.{ℕ, zero, suc, _+_, _*_, _/_, _%_, _^_, _≤_, _<_}
@@ -13,9 +13,10 @@ use native.Mathlib.Omega.{arith}
 use lib.Arith.{lt-one}
 use lib.Bits.{bitXor, xor-shifted, xor-mod, xor-self, xor-comm, xor-lt}
 use lib.Count.{onesIn}
-use lib.Dec.{T, eqb, eqb→eq, eqb-refl, lit≤}
+use lib.Dec.{T, T-not, eqb, lit≤}
 use lib.Pow.{pow-pos, split, mod-pow-add, shr-lt}
 use Rattle.bits.specs.Word.{differences}
+use Rattle.bits.proofs.Said.{both, both-left, both-right}
 use Rattle.bits.proofs.Xor.{digit, xor-undo, xor-zero}
 use Rattle.bits.proofs.Ones.{ones-split, ones-low, no-ones}
 use Rattle.header.specs.Check.{remainder, checkOf}
@@ -30,26 +31,6 @@ left = remainder 21
 
 -- ---- the walk
 
-abbrev both : Bool → Bool → Bool
-both true b = b
-both false b = false
-
-both-left : (a b : Bool) → T (both a b) → T a
-both-left true b t = tt
-both-left false b t = t
-
-both-right : (a b : Bool) → T (both a b) → T b
-both-right true b t = t
-both-right false b t = absurd t
-
-abbrev differs : Bool → Bool
-differs true = false
-differs false = true
-
-differs-no : (b : Bool) → T (differs b) → T b → ⊥
-differs-no true t s = t
-differs-no false t s = s
-
 -- what each single bit below 2^k leaves, the highest first
 columns : ℕ → List ℕ
 columns zero = []
@@ -57,7 +38,7 @@ columns (suc k) = left (2 ^ k) ∷ columns k
 
 -- no choice of at most so many columns adds up to s
 absent : ℕ → List ℕ → ℕ → Bool
-absent w [] s = differs (eqb s 0)
+absent w [] s = not (eqb s 0)
 absent zero (c ∷ cs) s = absent zero cs s
 absent (suc w) (c ∷ cs) s = both (absent (suc w) cs s) (absent w cs (bitXor s c))
 
@@ -143,7 +124,7 @@ absent-step k law (suc w) s e t o l (inr u) =
 absent-law : (k : ℕ) → Absent k
 unfolding absent columns
 absent-law zero w s e t h o l =
-    differs-no (eqb s 0) t (subst (λ (n : ℕ). T (eqb n 0)) (sym (ap left (lt-one h) ∙ left-nothing) ∙ l) tt)
+    T-not (eqb s 0) t (subst (λ (n : ℕ). T (eqb n 0)) (sym (ap left (lt-one h) ∙ left-nothing) ∙ l) tt)
 absent-law (suc k) w s e t h o l = absent-step k (absent-law k) w s e t o l (halves k e h)
 
 abbrev Alone : ℕ → Type 0

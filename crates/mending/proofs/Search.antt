@@ -56,7 +56,7 @@ none-at received lt bad header n =
     let some : 0 < distance received header = different received header lt bad (n .valid) in
     omega (arith, n .near)
 
-none-around : (limit received : ℕ) → received < 2 ^ 32 → (Valid received → ⊥)
+pub none-around : (limit received : ℕ) → received < 2 ^ 32 → (Valid received → ⊥)
     → ((place : ℕ) → place < 32 → (header : ℕ) → Near limit (flip place received) header → ⊥)
     → (header : ℕ) → Near (suc limit) received header → ⊥
 unfolding distance
