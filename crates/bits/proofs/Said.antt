@@ -14,6 +14,13 @@ says-equal a b P to from = pick (eqb a b) refl
     pick true e = to (eqb-true a b e)
     pick false e = λ p. eqb-false a b e (from p)
 
+-- no statement has both answers
+pub says-one : (P : Type 0) (q r : Bool) → Says q P → Says r P → q ≡ r
+says-one P true true p p′ = refl
+says-one P true false p none = absurd (none p)
+says-one P false true none p = absurd (none p)
+says-one P false false p p′ = refl
+
 pub said-yes : {P : Type 0} (b : Bool) → Says b P → b ≡ true → P
 said-yes {P} b s e = subst (λ (t : Bool). Says t P) e s
 

@@ -1,6 +1,6 @@
 -- Words of bits as numbers: bit k of a number is its binary digit of weight 2^k.
 -- Assumes nothing.
-use Prim.Native.Nat.{ℕ, _*_, _/_, _%_, _^_}
+use Prim.Native.Nat.{ℕ, _/_, _%_, _^_}
 use lib.Bits.{bitXor}
 use lib.Count.{onesIn}
 

@@ -1,0 +1,5 @@
+pub mod Alike
+pub mod Detect
+pub mod Published
+pub mod Register
+pub mod Row

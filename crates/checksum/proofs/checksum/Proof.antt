@@ -1,0 +1,65 @@
+-- `checksum::checksum` meets its contract. The loop's invariant: the bytes that are left take the register to the checksum of all.
+-- Assumes nothing.
+use mathlib.Core.Path.{_≡_, refl, sym, ap, _∙_}
+use Prim.Native.Nat.{ℕ, _≤_, _+_, _-_}
+use borrow.Author.Needs.{needs}
+use native.Mathlib.Omega.{arith}
+use lib.ListN.{length, drop, drop-of-length-le}
+use Rattle.checksum.specs.Checksum.{start, checksumFrom, checksumOf}
+use Rattle.checksum.proofs.Row.{checksum-next}
+use Rattle.checksum.proofs.checksum.Statement.{statement}
+use Rattle.checksum.proofs.checksum.Tie as tie
+
+abbrev Inv-loop : tie.InvT-loop
+Inv-loop «data» register₀ i₀ register i = (i ≤ length «data») × (checksumFrom register (drop i «data») ≡ checksumOf «data»)
+
+abbrev μ-loop : tie.MeasureT-loop
+μ-loop «data» register₀ i₀ register i = length «data» - i
+
+loop-holds : tie.Need-loop-holds Inv-loop μ-loop
+unfolding checksumOf start
+loop-holds c = (omega arith, refl)
+
+shared-slice-read-byte-step : tie.Need-shared-slice-read-byte-step Inv-loop μ-loop
+shared-slice-read-byte-step c = omega arith
+
+byte-step-requires : tie.Need-byte-step-requires Inv-loop μ-loop
+byte-step-requires c κs = search needs
+
+add-i : tie.Need-add-i Inv-loop μ-loop
+add-i c = omega arith
+
+loop-less : tie.Need-loop-less Inv-loop μ-loop
+loop-less c = omega arith
+
+loop-again : tie.Need-loop-again Inv-loop μ-loop
+loop-again c =
+    let at = c .before .before .before in
+    let bytes = at .before .before .args .«data» .now in (
+      omega arith,
+      ap (λ (r : ℕ). checksumFrom r (drop (at .loop .i + 1) bytes)) (c .byte-step .ensures)
+          ∙ checksum-next (at .loop .register) bytes (at .loop .i) (omega arith)
+          ∙ at .loop .inv .1,
+    )
+
+returns : tie.Need-returns Inv-loop μ-loop
+unfolding checksumFrom
+returns c =
+    let at = c .before .loop in
+    let bytes = c .before .before .before .args .«data» .now in
+    let ended : length bytes ≤ at .i = omega arith in
+    sym (ap (checksumFrom (at .register)) (drop-of-length-le bytes ended)) ∙ at .inv .1
+
+pub checksum-spec : {M : Type 1} → statement M
+checksum-spec =
+    tie.close
+    (tie.spec
+    Inv-loop
+    μ-loop
+    loop-holds
+    shared-slice-read-byte-step
+    byte-step-requires
+    add-i
+    loop-less
+    loop-again
+    returns)
