@@ -30,6 +30,10 @@ abbrev mend-within-below : ℕ → In 0 mend-within-kinds.ps
 mend-within-below t =
     and 0 mend-within-kinds.ps (falls 0 mend-within-kinds.ps _<_ μ-mend-within t) mend-within.Pre
 
+-- what the callees ask and tell
+abbrev claims : ℕ → mend-within-lts.Claims
+claims t = (is-valid-reads.Asked, is-valid-reads.Learnt, mend-within-below t, mend-within.Post)
+
 abbrev mend-within-Inv-loop : mend-within-lts.InvT-loop
 mend-within-Inv-loop received limit place₀ place =
     (place ≤ 32) × ((i : ℕ) → i < place → (header : ℕ) → Near (limit - 1) (flip i received) header → ⊥)
@@ -37,81 +41,36 @@ mend-within-Inv-loop received limit place₀ place =
 abbrev mend-within-μ-loop : mend-within-lts.MeasureT-loop
 mend-within-μ-loop received limit place₀ place = 32 - place
 
-mend-within-is-valid-requires : (t : ℕ) → mend-within-lts.Need-is-valid-requires (
-  is-valid-reads.Asked,
-  is-valid-reads.Learnt,
-  mend-within-below t,
-  mend-within.Post,
-) (mend-within-at t) mend-within.Post mend-within-Inv-loop mend-within-μ-loop
+mend-within-is-valid-requires : (t : ℕ) → mend-within-lts.Need-is-valid-requires (claims t) (mend-within-at t) mend-within.Post mend-within-Inv-loop mend-within-μ-loop
 mend-within-is-valid-requires t c κs = tt
 
-mend-within-returns : (t : ℕ) → mend-within-lts.Need-returns (
-  is-valid-reads.Asked,
-  is-valid-reads.Learnt,
-  mend-within-below t,
-  mend-within.Post,
-) (mend-within-at t) mend-within.Post mend-within-Inv-loop mend-within-μ-loop
+mend-within-returns : (t : ℕ) → mend-within-lts.Need-returns (claims t) (mend-within-at t) mend-within.Post mend-within-Inv-loop mend-within-μ-loop
 mend-within-returns t c =
     let a = c .before .before .args in
     (itself (a .limit) (a .received) (said-yes (c .before .is-valid .result) (c .before .is-valid .ensures) (c .if1 .taken)), at-itself (a .received))
 
-mend-within-returns-2 : (t : ℕ) → mend-within-lts.Need-returns-2 (
-  is-valid-reads.Asked,
-  is-valid-reads.Learnt,
-  mend-within-below t,
-  mend-within.Post,
-) (mend-within-at t) mend-within.Post mend-within-Inv-loop mend-within-μ-loop
+mend-within-returns-2 : (t : ℕ) → mend-within-lts.Need-returns-2 (claims t) (mend-within-at t) mend-within.Post mend-within-Inv-loop mend-within-μ-loop
 mend-within-returns-2 t c =
     let a = c .before .before .before .args in
     let none = none-at (a .received) (omega arith) (said-no (c .before .before .is-valid .result) (c .before .before .is-valid .ensures) (c .before .if1 .left)) in
     λ header n. none header (subst (λ (m : ℕ). Near m (a .received) header) (c .if2 .taken) n)
 
-mend-within-loop-holds : (t : ℕ) → mend-within-lts.Need-loop-holds (
-  is-valid-reads.Asked,
-  is-valid-reads.Learnt,
-  mend-within-below t,
-  mend-within.Post,
-) (mend-within-at t) mend-within.Post mend-within-Inv-loop mend-within-μ-loop
+mend-within-loop-holds : (t : ℕ) → mend-within-lts.Need-loop-holds (claims t) (mend-within-at t) mend-within.Post mend-within-Inv-loop mend-within-μ-loop
 mend-within-loop-holds t c = (omega arith, λ i h. absurd (let no : ⊥ = omega arith in no))
 
-mend-within-shl-mend-within : (t : ℕ) → mend-within-lts.Need-shl-mend-within (
-  is-valid-reads.Asked,
-  is-valid-reads.Learnt,
-  mend-within-below t,
-  mend-within.Post,
-) (mend-within-at t) mend-within.Post mend-within-Inv-loop mend-within-μ-loop
+mend-within-shl-mend-within : (t : ℕ) → mend-within-lts.Need-shl-mend-within (claims t) (mend-within-at t) mend-within.Post mend-within-Inv-loop mend-within-μ-loop
 mend-within-shl-mend-within t c = omega arith
 
-mend-within-sub-mend-within : (t : ℕ) → mend-within-lts.Need-sub-mend-within (
-  is-valid-reads.Asked,
-  is-valid-reads.Learnt,
-  mend-within-below t,
-  mend-within.Post,
-) (mend-within-at t) mend-within.Post mend-within-Inv-loop mend-within-μ-loop
+mend-within-sub-mend-within : (t : ℕ) → mend-within-lts.Need-sub-mend-within (claims t) (mend-within-at t) mend-within.Post mend-within-Inv-loop mend-within-μ-loop
 mend-within-sub-mend-within t c = omega arith
 
-mend-within-mend-within-requires : (t : ℕ) → mend-within-lts.Need-mend-within-requires (
-  is-valid-reads.Asked,
-  is-valid-reads.Learnt,
-  mend-within-below t,
-  mend-within.Post,
-) (mend-within-at t) mend-within.Post mend-within-Inv-loop mend-within-μ-loop
+mend-within-mend-within-requires : (t : ℕ) → mend-within-lts.Need-mend-within-requires (claims t) (mend-within-at t) mend-within.Post mend-within-Inv-loop mend-within-μ-loop
 mend-within-mend-within-requires t c κs = (omega arith, tt)
 
-mend-within-enum-known-near : (t : ℕ) → mend-within-lts.Need-enum-known-near (
-  is-valid-reads.Asked,
-  is-valid-reads.Learnt,
-  mend-within-below t,
-  mend-within.Post,
-) (mend-within-at t) mend-within.Post mend-within-Inv-loop mend-within-μ-loop
+mend-within-enum-known-near : (t : ℕ) → mend-within-lts.Need-enum-known-near (claims t) (mend-within-at t) mend-within.Post mend-within-Inv-loop mend-within-μ-loop
 mend-within-enum-known-near t c = search needs
 
-mend-within-returns-3 : (t : ℕ) → mend-within-lts.Need-returns-3 (
-  is-valid-reads.Asked,
-  is-valid-reads.Learnt,
-  mend-within-below t,
-  mend-within.Post,
-) (mend-within-at t) mend-within.Post mend-within-Inv-loop mend-within-μ-loop
+mend-within-returns-3 : (t : ℕ) → mend-within-lts.Need-returns-3 (claims t) (mend-within-at t) mend-within.Post mend-within-Inv-loop mend-within-μ-loop
 mend-within-returns-3 t c =
     let a = c .before .before .before .before .before .before .before .before .before .args in
     let place = c .before .before .before .before .before .loop .place in
@@ -119,36 +78,16 @@ mend-within-returns-3 t c =
     found (a .limit) (a .received) place (near .0 .0) (near .0 .1 .0) (c .before .before .before .mend-within .result) (omega arith) (omega arith) (omega arith)
     (c .before .before .before .mend-within .ensures) (near .1)
 
-mend-within-enum-told : (t : ℕ) → mend-within-lts.Need-enum-told (
-  is-valid-reads.Asked,
-  is-valid-reads.Learnt,
-  mend-within-below t,
-  mend-within.Post,
-) (mend-within-at t) mend-within.Post mend-within-Inv-loop mend-within-μ-loop
+mend-within-enum-told : (t : ℕ) → mend-within-lts.Need-enum-told (claims t) (mend-within-at t) mend-within.Post mend-within-Inv-loop mend-within-μ-loop
 mend-within-enum-told t c = search needs
 
-mend-within-add-place : (t : ℕ) → mend-within-lts.Need-add-place (
-  is-valid-reads.Asked,
-  is-valid-reads.Learnt,
-  mend-within-below t,
-  mend-within.Post,
-) (mend-within-at t) mend-within.Post mend-within-Inv-loop mend-within-μ-loop
+mend-within-add-place : (t : ℕ) → mend-within-lts.Need-add-place (claims t) (mend-within-at t) mend-within.Post mend-within-Inv-loop mend-within-μ-loop
 mend-within-add-place t c = omega arith
 
-mend-within-loop-less : (t : ℕ) → mend-within-lts.Need-loop-less (
-  is-valid-reads.Asked,
-  is-valid-reads.Learnt,
-  mend-within-below t,
-  mend-within.Post,
-) (mend-within-at t) mend-within.Post mend-within-Inv-loop mend-within-μ-loop
+mend-within-loop-less : (t : ℕ) → mend-within-lts.Need-loop-less (claims t) (mend-within-at t) mend-within.Post mend-within-Inv-loop mend-within-μ-loop
 mend-within-loop-less t c = omega arith
 
-mend-within-loop-again : (t : ℕ) → mend-within-lts.Need-loop-again (
-  is-valid-reads.Asked,
-  is-valid-reads.Learnt,
-  mend-within-below t,
-  mend-within.Post,
-) (mend-within-at t) mend-within.Post mend-within-Inv-loop mend-within-μ-loop
+mend-within-loop-again : (t : ℕ) → mend-within-lts.Need-loop-again (claims t) (mend-within-at t) mend-within.Post mend-within-Inv-loop mend-within-μ-loop
 mend-within-loop-again t c =
     let a = c .before .before .before .before .before .before .before .before .args in
     let place = c .before .before .before .before .loop .place in (
@@ -158,12 +97,7 @@ mend-within-loop-again t c =
           (c .enum-told .given .1)),
     )
 
-mend-within-returns-4 : (t : ℕ) → mend-within-lts.Need-returns-4 (
-  is-valid-reads.Asked,
-  is-valid-reads.Learnt,
-  mend-within-below t,
-  mend-within.Post,
-) (mend-within-at t) mend-within.Post mend-within-Inv-loop mend-within-μ-loop
+mend-within-returns-4 : (t : ℕ) → mend-within-lts.Need-returns-4 (claims t) (mend-within-at t) mend-within.Post mend-within-Inv-loop mend-within-μ-loop
 mend-within-returns-4 t c =
     let a = c .before .before .before .before .before .args in
     let all : 32 ≤ c .before .loop .place = omega arith in
@@ -172,12 +106,7 @@ mend-within-returns-4 t c =
     (λ i h. c .before .loop .inv .1 i (omega arith))
 
 pub +mend-within-spec : {M : Type 1} → statement M
-+mend-within-spec = close μ-mend-within λ t. mend-within-lts.spec (
-  is-valid-reads.Asked,
-  is-valid-reads.Learnt,
-  mend-within-below t,
-  mend-within.Post,
-)
++mend-within-spec = close μ-mend-within λ t. mend-within-lts.spec (claims t)
     (mend-within-at t)
     mend-within.Post
     mend-within-Inv-loop
