@@ -1,0 +1,5 @@
+pub mod Begin
+pub mod Every
+pub mod Fill
+pub mod Laws
+pub mod Search
