@@ -3,3 +3,4 @@ pub mod Every
 pub mod Fill
 pub mod Laws
 pub mod Search
+pub mod Reading
