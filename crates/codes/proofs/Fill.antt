@@ -30,8 +30,9 @@ ones-all (b ∷ f) e =
 pub fills-fill : (f : List ℕ) → T (fills f) → Fill f
 unfolding fills
 fills-fill f t = record {
-    few = leb→le (length f) 7 (and-left (leb (length f) 7) (every (eqb 1) f) t);
-    ones = all-ones f (and-right (leb (length f) 7) (every (eqb 1) f) t) }
+  few = leb→le (length f) 7 (and-left (leb (length f) 7) (every (eqb 1) f) t);
+  ones = all-ones f (and-right (leb (length f) 7) (every (eqb 1) f) t);
+}
 
 pub fill-fills : (f : List ℕ) → Fill f → T (fills f)
 unfolding fills
@@ -40,11 +41,13 @@ fill-fills f h =
 
 pub fill-front : (c r : List ℕ) → Fill (c ++ r) → Fill c
 fill-front c r h = record {
-    few = omega (arith, length-append c r, h .few);
-    ones = all-ones c (every-front (eqb 1) c r (ones-all (c ++ r) (h .ones))) }
+  few = omega (arith, length-append c r, h .few);
+  ones = all-ones c (every-front (eqb 1) c r (ones-all (c ++ r) (h .ones)));
+}
 
 -- seven or fewer ones are a fill
 pub ones-fill : (k : ℕ) → k ≤ 7 → Fill (replicate k 1)
 ones-fill k h = record {
-    few = omega (arith, length-replicate {A = ℕ} k 1);
-    ones = ap (λ (n : ℕ). replicate n 1) (sym (length-replicate k 1)) }
+  few = omega (arith, length-replicate {A = ℕ} k 1);
+  ones = ap (λ (n : ℕ). replicate n 1) (sym (length-replicate k 1));
+}

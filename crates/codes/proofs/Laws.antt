@@ -88,6 +88,7 @@ unfilled-never es t e h f fill b =
 -- the tests give the laws
 pub tested : (tables : Tables) → ((m : ℕ) → T (apart (tables m))) → T (unfilled (tables 0)) → Laws tables
 tested tables a u = record {
-    alone = λ m. apart-alone (tables m) (a m);
-    has-bits = λ m. apart-has-bits (tables m) (a m);
-    no-fill = unfilled-never (tables 0) u }
+  alone = λ m. apart-alone (tables m) (a m);
+  has-bits = λ m. apart-has-bits (tables m) (a m);
+  no-fill = unfilled-never (tables 0) u;
+}

@@ -4,3 +4,8 @@ pub mod Fill
 pub mod Laws
 pub mod Search
 pub mod Reading
+pub mod Speaks
+pub mod Least
+pub mod Low
+pub mod Pack
+pub mod Numbers

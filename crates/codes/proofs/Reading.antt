@@ -24,25 +24,27 @@ pub reads-more : {tables : Tables} {m : ℕ} {e : Entry} {bs text : List ℕ} �
     → Reads tables (after m e) bs text → Reads tables m (e .code ++ bs) (e .says ++ text)
 unfolding codes texts
 reads-more {e = e} h r = record {
-    entries = e ∷ r .entries;
-    fill = r .fill;
-    row = (h, r .row);
-    says = ap (λ (t : List ℕ). e .says ++ t) (r .says);
-    ends = r .ends;
-    bits = ap (λ (l : List ℕ). e .code ++ l) (r .bits) ∙ sym (append-assoc (e .code) (codes (r .entries)) (r .fill)) }
+  entries = e ∷ r .entries;
+  fill = r .fill;
+  row = (h, r .row);
+  says = ap (λ (t : List ℕ). e .says ++ t) (r .says);
+  ends = r .ends;
+  bits = ap (λ (l : List ℕ). e .code ++ l) (r .bits) ∙ sym (append-assoc (e .code) (codes (r .entries)) (r .fill));
+}
 
 pub stuck-more : {tables : Tables} {m i : ℕ} {e : Entry} {bs : List ℕ} → In e (tables m)
     → Stuck tables (after m e) bs i → Stuck tables m (e .code ++ bs) (length (e .code) + i)
 unfolding codes
 stuck-more {e = e} h s = record {
-    entries = e ∷ s .entries;
-    state = s .state;
-    rest = s .rest;
-    row = (h, s .row);
-    place = ap (λ (n : ℕ). length (e .code) + n) (s .place) ∙ sym (length-append (e .code) (codes (s .entries)));
-    bits = ap (λ (l : List ℕ). e .code ++ l) (s .bits) ∙ sym (append-assoc (e .code) (codes (s .entries)) (s .rest));
-    none = s .none;
-    no-end = s .no-end }
+  entries = e ∷ s .entries;
+  state = s .state;
+  rest = s .rest;
+  row = (h, s .row);
+  place = ap (λ (n : ℕ). length (e .code) + n) (s .place) ∙ sym (length-append (e .code) (codes (s .entries)));
+  bits = ap (λ (l : List ℕ). e .code ++ l) (s .bits) ∙ sym (append-assoc (e .code) (codes (s .entries)) (s .rest));
+  none = s .none;
+  no-end = s .no-end;
+}
 
 -- the end of a reading
 pub reads-end : (tables : Tables) {f : List ℕ} → Fill f → Reads tables 0 f []
@@ -52,7 +54,15 @@ reads-end tables {f} h = record { entries = []; fill = f; row = refl; says = ref
 pub stuck-here : {tables : Tables} {m : ℕ} {bs : List ℕ} → Halts tables m bs → (m ≡ 0 → Fill bs → ⊥) → Stuck tables m bs 0
 unfolding codes
 stuck-here {m = m} {bs = bs} h k = record {
-    entries = []; state = m; rest = bs; row = refl; place = refl; bits = refl; none = h; no-end = k }
+  entries = [];
+  state = m;
+  rest = bs;
+  row = refl;
+  place = refl;
+  bits = refl;
+  none = h;
+  no-end = k;
+}
 
 -- what a reading comes to
 abbrev pub Outcome : Tables → ℕ → List ℕ → Type 0
@@ -85,10 +95,10 @@ module _ {tables : Tables} (laws : Laws tables) where
       let left : codes (e ∷ es) ++ r ≡ e .code ++ (codes es ++ r) = append-assoc (e .code) (codes es) r in
       let right : codes (e ∷ es) ++ r ≡ d .code ++ (codes ds ++ s) = x ∙ append-assoc (d .code) (codes ds) s in
       let same : e ≡ d =
-        laws .alone m e d (re .0) (rd .0) (codes (e ∷ es) ++ r) (codes es ++ r, left) (codes ds ++ s, right) in
+      laws .alone m e d (re .0) (rd .0) (codes (e ∷ es) ++ r) (codes es ++ r, left) (codes ds ++ s, right) in
       let rest : codes es ++ r ≡ codes ds ++ s =
-        append-cancel-left (e .code) (codes es ++ r) (codes ds ++ s)
-        (sym left ∙ right ∙ ap (λ (z : Entry). z .code ++ (codes ds ++ s)) (sym same)) in
+      append-cancel-left (e .code) (codes es ++ r) (codes ds ++ s)
+      (sym left ∙ right ∙ ap (λ (z : Entry). z .code ++ (codes ds ++ s)) (sym same)) in
       let row : Row tables (after m e) ds p = subst⁻¹ (λ (z : Entry). Row tables (after m z) ds p) same (rd .1) in
       let ih : (es ≡ ds) × (n ≡ p) × (r ≡ s) = agree (after m e) n p es ds r s (re .1) row he hd rest in
       (ap₂ (λ (z : Entry) (l : List Entry). z ∷ l) same (ih .0), ih .1, ih .2)
@@ -114,8 +124,8 @@ module _ {tables : Tables} (laws : Laws tables) where
   pub never-both : {m i : ℕ} {bs t : List ℕ} → Reads tables m bs t → Stuck tables m bs i → ⊥
   never-both {m = m} a b =
       let same : (a .entries ≡ b .entries) × (0 ≡ b .state) × (a .fill ≡ b .rest) =
-        agree m 0 (b .state) (a .entries) (b .entries) (a .fill) (b .rest) (a .row) (b .row)
-        (λ e h. laws .no-fill e h (a .fill) (a .ends)) (b .none) (sym (a .bits) ∙ b .bits) in
+      agree m 0 (b .state) (a .entries) (b .entries) (a .fill) (b .rest) (a .row) (b .row)
+      (λ e h. laws .no-fill e h (a .fill) (a .ends)) (b .none) (sym (a .bits) ∙ b .bits) in
       b .no-end (sym (same .1)) (subst Fill (same .2) (a .ends))
 
   from-search : (m : ℕ) (bs : List ℕ) (o : Option Entry) → Found (tables m) bs o

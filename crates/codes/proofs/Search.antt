@@ -28,8 +28,8 @@ found (e ∷ es) bs = pick (begun (e .code) bs) refl (find es bs) (found es bs)
     pick : (t : Bool) → begun (e .code) bs ≡ t → (o : Option Entry) → Found es bs o → Found (e ∷ es) bs (cond t (some e) o)
     pick true x o h = (List·Memᴰ·head refl, begun-begins (e .code) bs (subst⁻¹ T x tt))
     pick false x none h = λ d k b.
-      ⊎-elim (λ y. subst T x (begins-begun (e .code) bs (subst (λ (z : Entry). Begins (z .code) bs) y b)))
-      (λ j. h d j b) (List·Memᴰ·cases-cons k)
+        ⊎-elim (λ y. subst T x (begins-begun (e .code) bs (subst (λ (z : Entry). Begins (z .code) bs) y b)))
+        (λ j. h d j b) (List·Memᴰ·cases-cons k)
     pick false x (some d) h = (List·Memᴰ·tail (h .0), h .1)
 
 -- and no other answer means so
