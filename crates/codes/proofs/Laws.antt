@@ -1,9 +1,9 @@
 -- What the reading of a format rests on: no code begins another, and the fill is never a code. A computed test of its tables gives it.
 -- Assumes nothing.
 use mathlib.Core.Path.{_≡_, sym, _∙_, subst}
-use mathlib.Core.Bool.{Bool, true, false, not, _&&_}
+use mathlib.Core.Bool.{Bool, true, not, _&&_}
 use mathlib.Core.Logic.{_⊎_, inl, inr, ⊎-elim}
-use mathlib.Core.List.{List, [], _∷_, _++_, List·Memᴰ·not-nil, List·Memᴰ·cases-cons}
+use mathlib.Core.List.{List, [], _∷_, List·Memᴰ·not-nil, List·Memᴰ·cases-cons}
 use Prim.Native.Nat.{ℕ, _<_}
 use lib.Dec.{T, T-not, ltb, ltb→lt}
 use lib.ListN.{length}
@@ -20,12 +20,11 @@ pub record Laws (tables : Tables) : Type 0 where
   pub no-fill : (e : Entry) → In e (tables 0) → (f : List ℕ) → Fill f → Begins (e .code) f → ⊥
 
 -- neither code begins the other
-unfoldable parted : Entry → Entry → Bool
+unfoldable pub parted : Entry → Entry → Bool
 parted d e = not (begun (d .code) (e .code)) && not (begun (e .code) (d .code))
 
 -- each code has bits, and no code begins another
 unfoldable pub apart : List Entry → Bool
-unfolding parted
 apart [] = true
 apart (e ∷ es) = ltb 0 (length (e .code)) && (every (parted e) es && apart es)
 

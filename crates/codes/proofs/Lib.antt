@@ -9,3 +9,4 @@ pub mod Least
 pub mod Low
 pub mod Pack
 pub mod Numbers
+pub mod Single

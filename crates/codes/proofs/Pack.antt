@@ -11,7 +11,7 @@ use lib.ListN.{length, take, drop, replicate, length-append, length-drop, length
 use lib.Seq.{length-take-le}
 use Rattle.bits.specs.Row.{bits, Bytes}
 use Rattle.bits.specs.Word.{bit}
-use Rattle.codes.specs.Chain.{Entry, Tables, after, Row, codes, texts, Fill, Reads, Built}
+use Rattle.codes.specs.Chain.{Entry, Tables, after, Row, codes, texts, Fill, Built}
 use Rattle.codes.specs.Pack.{Binary, low, value, bytes, packed, ones, filled, written}
 use Rattle.codes.proofs.Every.{every, every-at, and-left, and-right}
 use Rattle.codes.proofs.Fill.{ones-fill}

@@ -16,6 +16,10 @@ pub record Entry : Type 0 where
 abbrev pub Tables : Type 0
 Tables = ℕ → List Entry
 
+-- a format in which nothing is announced has one table
+abbrev pub single : List Entry → Tables
+single table m = table
+
 -- the entry stands in the table
 abbrev pub In : Entry → List Entry → Type 0
 In e table = List·Memᴰ e table

@@ -1,0 +1,3 @@
+pub mod Entries
+pub mod Table
+pub mod Writer
