@@ -14,7 +14,8 @@ use Rattle.codes.proofs.Fill.{fills, fill-fills, fill-front}
 
 pub record Laws (tables : Tables) : Type 0 where
   -- two entries of one table whose codes begin the same bits are the same
-  pub alone : (m : ℕ) (d e : Entry) → In d (tables m) → In e (tables m) → (bs : List ℕ) → Begins (d .code) bs → Begins (e .code) bs → d ≡ e
+  pub alone : (m : ℕ) (d e : Entry) → In d (tables m) → In e (tables m) → (bs : List ℕ) → Begins (d .code) bs
+      → Begins (e .code) bs → d ≡ e
   pub has-bits : (m : ℕ) (e : Entry) → In e (tables m) → 0 < length (e .code)
   -- where no value is announced, no code begins a fill
   pub no-fill : (e : Entry) → In e (tables 0) → (f : List ℕ) → Fill f → Begins (e .code) f → ⊥

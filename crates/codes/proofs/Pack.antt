@@ -3,7 +3,7 @@
 use mathlib.Core.Path.{_≡_, refl, sym, ap, ap₂, subst, _∙_}
 use mathlib.Core.Bool.{Bool}
 use mathlib.Core.List.{List, [], _∷_, _++_}
-use Prim.Native.Nat.{ℕ, zero, suc, _+_, _-_, _*_, _/_, _%_, _^_, _≤_, _<_}
+use Prim.Native.Nat.{ℕ, zero, suc, _+_, _*_, _/_, _%_, _^_, _≤_, _<_}
 use native.Mathlib.Nat.{mod-eq-of-lt}
 use native.Mathlib.Omega.{arith}
 use lib.Dec.{T, ltb, ltb→lt, lit<}
@@ -11,8 +11,8 @@ use lib.ListN.{length, take, drop, replicate, length-append, length-drop, length
 use lib.Seq.{length-take-le}
 use Rattle.bits.specs.Row.{bits, Bytes}
 use Rattle.bits.specs.Word.{bit}
-use Rattle.codes.specs.Chain.{Entry, Tables, after, Row, codes, texts, Fill, Built}
-use Rattle.codes.specs.Pack.{Binary, low, value, bytes, packed, ones, filled, written}
+use Rattle.codes.specs.Chain.{Entry, Tables, after, Row, codes, texts, Built}
+use Rattle.codes.specs.Pack.{Binary, low, value, bytes, packed, gap, filled, written}
 use Rattle.codes.proofs.Every.{every, every-at, and-left, and-right}
 use Rattle.codes.proofs.Fill.{ones-fill}
 use Rattle.codes.proofs.Low.{low-binary, value-low, value-lt, low-value}
@@ -103,25 +103,24 @@ packed-bits s h =
     ap (λ (n : ℕ). bytes n (bits s)) (let e : length (bits s) / 8 ≡ length s = omega (arith, length-bits s) in e) ∙ bytes-bits s h
 
 -- ones up to the byte's end
-gap : (n : ℕ) → (8 - n % 8) % 8 ≤ 7
-gap n = omega arith
+pub gap-few : (n : ℕ) → gap n ≤ 7
+unfolding gap
+gap-few n = omega arith
 
-pub fill-of : (n : ℕ) → Fill (ones n)
-unfolding ones
-fill-of n = ones-fill ((8 - n % 8) % 8) (gap n)
+gap-whole : (n : ℕ) → n + gap n ≡ (n + 7) / 8 * 8
+unfolding gap
+gap-whole n = omega arith
 
 pub filled-binary : (bs : List ℕ) → Binary bs → Binary (filled bs)
-unfolding filled ones
-filled-binary bs h = binary-append bs (ones (length bs)) h (binary-ones ((8 - length bs % 8) % 8))
-
-round : (n : ℕ) → n + (8 - n % 8) % 8 ≡ (n + 7) / 8 * 8
-round n = omega arith
+unfolding filled
+filled-binary bs h = binary-append bs (replicate (gap (length bs)) 1) h (binary-ones (gap (length bs)))
 
 pub length-filled : (bs : List ℕ) → length (filled bs) ≡ (length bs + 7) / 8 * 8
-unfolding filled ones
+unfolding filled
 length-filled bs =
-    length-append bs (ones (length bs))
-    ∙ ap (λ (n : ℕ). length bs + n) (length-replicate ((8 - length bs % 8) % 8) 1) ∙ round (length bs)
+    length-append bs (replicate (gap (length bs)) 1)
+    ∙ ap (λ (n : ℕ). length bs + n) (length-replicate (gap (length bs)) 1)
+    ∙ gap-whole (length bs)
 
 pub filled-whole : (bs : List ℕ) → length (filled bs) % 8 ≡ 0
 filled-whole bs = omega (arith, length-filled bs)
@@ -151,7 +150,7 @@ module _ (es : List Entry) where
   unfolding written
   length-written = omega (arith, length-packed (filled (codes es)), length-filled (codes es))
 
-  pub bits-written : Binary (codes es) → bits (written es) ≡ codes es ++ ones (length (codes es))
+  pub bits-written : Binary (codes es) → bits (written es) ≡ codes es ++ replicate (gap (length (codes es))) 1
   unfolding written filled
   bits-written h = bits-packed (filled (codes es)) (filled-binary (codes es) h) (filled-whole (codes es))
 
@@ -163,10 +162,10 @@ module _ (es : List Entry) where
   pub written-built : {tables : Tables} → Row tables 0 es 0 → Binary (codes es) → Built tables (texts es) (written es)
   written-built r h = record {
     entries = es;
-    fill = ones (length (codes es));
+    fill = replicate (gap (length (codes es))) 1;
     row = r;
     says = refl;
-    ends = fill-of (length (codes es));
+    ends = ones-fill (gap (length (codes es))) (gap-few (length (codes es)));
     bits = bits-written h;
   }
 

@@ -1,15 +1,15 @@
 -- The reading of codes in a row: one text, one place, never both and always one; and how one entry in front changes it.
 -- Assumes nothing.
 use mathlib.Core.Path.{_≡_, refl, sym, ap, ap₂, subst, subst⁻¹, _∙_}
-use mathlib.Core.Bool.{Bool, true, false}
-use mathlib.Core.Logic.{_⊎_, inl, inr}
+use mathlib.Core.Bool.{Bool, true, false, cond}
 use mathlib.Core.Option.{Option, none, some}
 use mathlib.Core.List.{List, [], _∷_, _++_, append-assoc, append-cancel-left}
 use Prim.Native.Nat.{ℕ, zero, suc, _+_, _≤_}
 use native.Mathlib.Nat.{le-refl}
 use native.Mathlib.Omega.{arith}
 use lib.Dec.{T}
-use lib.ListN.{length, length-append}
+use lib.ListN.{length, drop, length-append, length-drop}
+use lib.Seq.{drop-append-seam}
 use Rattle.codes.specs.Chain.{Entry, Tables, In, after, Row, codes, texts, Fill, Begins, Reads, Stuck}
 use Rattle.codes.proofs.Fill.{fills, fills-fill, fill-fills}
 use Rattle.codes.proofs.Laws.{Laws}
@@ -20,8 +20,8 @@ abbrev pub Halts : Tables → ℕ → List ℕ → Type 0
 Halts tables n bs = (e : Entry) → In e (tables n) → Begins (e .code) bs → ⊥
 
 -- an entry in front of a reading
-pub reads-more : {tables : Tables} {m : ℕ} {e : Entry} {bs text : List ℕ} → In e (tables m)
-    → Reads tables (after m e) bs text → Reads tables m (e .code ++ bs) (e .says ++ text)
+pub reads-more : {tables : Tables} {m : ℕ} {e : Entry} {bs t : List ℕ} → In e (tables m)
+    → Reads tables (after m e) bs t → Reads tables m (e .code ++ bs) (e .says ++ t)
 unfolding codes texts
 reads-more {e = e} h r = record {
   entries = e ∷ r .entries;
@@ -64,22 +64,47 @@ stuck-here {m = m} {bs = bs} h k = record {
   no-end = k;
 }
 
--- what a reading comes to
-abbrev pub Outcome : Tables → ℕ → List ℕ → Type 0
-Outcome tables m bs = ((text : List ℕ) × Reads tables m bs text) ⊎ ((i : ℕ) × Stuck tables m bs i)
+-- what a reading comes to: a text, or the bit at which it is stuck
+pub data Answer : Type 0 where
+  text : List ℕ → Answer
+  stuck : ℕ → Answer
 
-outcome-more : {tables : Tables} {m : ℕ} {e : Entry} {bs : List ℕ} → In e (tables m) → Outcome tables (after m e) bs
-    → Outcome tables m (e .code ++ bs)
-outcome-more {e = e} h (inl r) = inl (e .says ++ r .0, reads-more h (r .1))
-outcome-more {e = e} h (inr s) = inr (length (e .code) + s .0, stuck-more h (s .1))
+abbrev pub Means : Tables → ℕ → List ℕ → Answer → Type 0
+Means tables m bs (text t) = Reads tables m bs t
+Means tables m bs (stuck i) = Stuck tables m bs i
 
-outcome-here : (tables : Tables) (m : ℕ) (bs : List ℕ) → Halts tables m bs → Outcome tables m bs
-outcome-here tables (suc m) bs h = inr (0, stuck-here h (λ e. absurd (let no′ : ⊥ = omega arith in no′)))
-outcome-here tables zero bs h = pick (fills bs) refl
+-- the answer with an entry in front
+abbrev pub front : Entry → Answer → Answer
+front e (text t) = text (e .says ++ t)
+front e (stuck i) = stuck (length (e .code) + i)
+
+-- the answer where no entry begins the bits
+abbrev pub last : ℕ → List ℕ → Answer
+last zero bs = cond (fills bs) (text []) (stuck 0)
+last (suc m) bs = stuck 0
+
+abbrev pub first : Option Entry → Answer → (Entry → Answer) → Answer
+first none a f = a
+first (some e) a f = front e (f e)
+
+-- a reading that computes, of at most n entries
+unfoldable pub answer : Tables → ℕ → ℕ → List ℕ → Answer
+answer tables zero m bs = last m bs
+answer tables (suc n) m bs =
+    first (find (tables m) bs) (last m bs) (λ (e : Entry). answer tables n (after m e) (drop (length (e .code)) bs))
+
+front-means : (tables : Tables) (m : ℕ) (e : Entry) (bs : List ℕ) (a : Answer) → In e (tables m) → Means tables (after m e) bs a
+    → Means tables m (e .code ++ bs) (front e a)
+front-means tables m e bs (text t) h r = reads-more h r
+front-means tables m e bs (stuck i) h s = stuck-more h s
+
+last-means : (tables : Tables) (m : ℕ) (bs : List ℕ) → Halts tables m bs → Means tables m bs (last m bs)
+last-means tables (suc m) bs h = stuck-here h (λ e. absurd (let no′ : ⊥ = omega arith in no′))
+last-means tables zero bs h = pick (fills bs) refl
   where
-    pick : (t : Bool) → fills bs ≡ t → Outcome tables 0 bs
-    pick true x = inl ([], reads-end tables (fills-fill bs (subst⁻¹ T x tt)))
-    pick false x = inr (0, stuck-here h (λ e f. subst T x (fill-fills bs f)))
+    pick : (t : Bool) → fills bs ≡ t → Means tables 0 bs (cond t (text []) (stuck 0))
+    pick true x = reads-end tables (fills-fill bs (subst⁻¹ T x tt))
+    pick false x = stuck-here h (λ e f. subst T x (fill-fills bs f))
 
 module _ {tables : Tables} (laws : Laws tables) where
   -- entries that go as far as they can, whichever they are, are the same, and leave the same
@@ -128,43 +153,55 @@ module _ {tables : Tables} (laws : Laws tables) where
       (λ e h. laws .no-fill e h (a .fill) (a .ends)) (b .none) (sym (a .bits) ∙ b .bits) in
       b .no-end (sym (same .1)) (subst Fill (same .2) (a .ends))
 
-  from-search : (m : ℕ) (bs : List ℕ) (o : Option Entry) → Found (tables m) bs o
-      → ((e : Entry) (rest : List ℕ) → In e (tables m) → bs ≡ e .code ++ rest → Outcome tables (after m e) rest) → Outcome tables m bs
-  from-search m bs none h below = outcome-here tables m bs h
-  from-search m bs (some e) h below =
-      subst⁻¹ (Outcome tables m) (h .1 .1) (outcome-more (h .0) (below e (h .1 .0) (h .0) (h .1 .1)))
+  -- one answer
+  pub one-answer : (m : ℕ) (bs : List ℕ) (a b : Answer) → Means tables m bs a → Means tables m bs b → a ≡ b
+  one-answer m bs (text t) (text u) r s = ap {B = Answer} text (one-text r s)
+  one-answer m bs (text t) (stuck j) r s = absurd (never-both r s)
+  one-answer m bs (stuck i) (text u) r s = absurd (never-both s r)
+  one-answer m bs (stuck i) (stuck j) r s = ap {B = Answer} stuck (one-place r s)
 
-  within : (n m : ℕ) (bs : List ℕ) → length bs ≤ n → Outcome tables m bs
-  within zero m bs k =
-      from-search m bs (find (tables m) bs) (found (tables m) bs)
-      (λ e rest h x.
-      absurd (let no′ : ⊥ = omega (arith, laws .has-bits m e h, length-append (e .code) rest, ap length x) in no′))
-  within (suc n) m bs k =
-      from-search m bs (find (tables m) bs) (found (tables m) bs)
-      (λ e rest h x.
-      within n (after m e) rest (omega (arith, laws .has-bits m e h, length-append (e .code) rest, ap length x)))
+  first-means : (m : ℕ) (bs : List ℕ) (f : Entry → Answer) (o : Option Entry) → Found (tables m) bs o
+      → ((e : Entry) → In e (tables m) → (b : Begins (e .code) bs) → Means tables (after m e) (b .0) (f e))
+      → Means tables m bs (first o (last m bs) f)
+  first-means m bs f none h below = last-means tables m bs h
+  first-means m bs f (some e) h below =
+      subst⁻¹ (λ (l : List ℕ). Means tables m l (front e (f e))) (h .1 .1) (front-means tables m e (h .1 .0) (f e) (h .0) (below e (h .0) (h .1)))
 
-  -- a text is read, or the reading is stuck somewhere
-  pub always : (m : ℕ) (bs : List ℕ) → Outcome tables m bs
-  always m bs = within (length bs) m bs (le-refl (length bs))
+  -- and always one, which computes
+  pub answer-means : (n m : ℕ) (bs : List ℕ) → length bs ≤ n → Means tables m bs (answer tables n m bs)
+  unfolding answer
+  answer-means zero m bs k =
+      last-means tables m bs
+      (λ e h b. let no′ : ⊥ = omega (arith, laws .has-bits m e h, length-append (e .code) (b .0), ap length (b .1)) in no′)
+  answer-means (suc n) m bs k =
+      first-means m bs (λ (e : Entry). answer tables n (after m e) (drop (length (e .code)) bs)) (find (tables m) bs)
+      (found (tables m) bs)
+      (λ e h b.
+      subst (λ (l : List ℕ). Means tables (after m e) l (answer tables n (after m e) (drop (length (e .code)) bs)))
+      (ap (drop (length (e .code))) (b .1) ∙ drop-append-seam (e .code) (b .0))
+      (answer-means n (after m e) (drop (length (e .code)) bs)
+      (omega (arith, laws .has-bits m e h, length-drop (length (e .code)) bs))))
+
+  pub always : (m : ℕ) (bs : List ℕ) → Means tables m bs (answer tables (length bs) m bs)
+  always m bs = answer-means (length bs) m bs (le-refl (length bs))
 
   -- the entry whose code begins the bits is the first to be read
-  pub reads-less : {m : ℕ} {e : Entry} {bs text : List ℕ} → In e (tables m) → Reads tables m (e .code ++ bs) text
-      → (later : List ℕ) × (text ≡ e .says ++ later) × Reads tables (after m e) bs later
-  reads-less {m} {e} {bs} {text} h r = pick (always (after m e) bs)
+  pub reads-less : {m : ℕ} {e : Entry} {bs t : List ℕ} → In e (tables m) → Reads tables m (e .code ++ bs) t
+      → (later : List ℕ) × (t ≡ e .says ++ later) × Reads tables (after m e) bs later
+  reads-less {m} {e} {bs} {t} h r = pick (answer tables (length bs) (after m e) bs) (always (after m e) bs)
     where
-      pick : Outcome tables (after m e) bs → (later : List ℕ) × (text ≡ e .says ++ later) × Reads tables (after m e) bs later
-      pick (inl a) = (a .0, one-text r (reads-more h (a .1)), a .1)
-      pick (inr s) = absurd (never-both r (stuck-more h (s .1)))
+      pick : (a : Answer) → Means tables (after m e) bs a → (later : List ℕ) × (t ≡ e .says ++ later) × Reads tables (after m e) bs later
+      pick (text t) a = (t, one-text r (reads-more h a), a)
+      pick (stuck i) s = absurd (never-both r (stuck-more h s))
 
   pub stuck-less : {m i : ℕ} {e : Entry} {bs : List ℕ} → In e (tables m) → Stuck tables m (e .code ++ bs) i
       → (later : ℕ) × (i ≡ length (e .code) + later) × Stuck tables (after m e) bs later
-  stuck-less {m} {i} {e} {bs} h s = pick (always (after m e) bs)
+  stuck-less {m} {i} {e} {bs} h s = pick (answer tables (length bs) (after m e) bs) (always (after m e) bs)
     where
-      pick : Outcome tables (after m e) bs → (later : ℕ) × (i ≡ length (e .code) + later) × Stuck tables (after m e) bs later
-      pick (inl a) = absurd (never-both (reads-more h (a .1)) s)
-      pick (inr b) = (b .0, one-place s (stuck-more h (b .1)), b .1)
+      pick : (a : Answer) → Means tables (after m e) bs a → (later : ℕ) × (i ≡ length (e .code) + later) × Stuck tables (after m e) bs later
+      pick (text t) a = absurd (never-both (reads-more h a) s)
+      pick (stuck j) b = (j, one-place s (stuck-more h b), b)
 
   -- fill is no text
-  pub reads-fill : {f text : List ℕ} → Fill f → Reads tables 0 f text → text ≡ []
+  pub reads-fill : {f t : List ℕ} → Fill f → Reads tables 0 f t → t ≡ []
   reads-fill h r = one-text r (reads-end tables h)

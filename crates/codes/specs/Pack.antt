@@ -30,13 +30,13 @@ bytes (suc n) bs = value (take 8 bs) ∷ bytes n (drop 8 bs)
 unfoldable pub packed : List ℕ → List ℕ
 packed bs = bytes (length bs / 8) bs
 
--- the ones from bit n up to the byte's end
-unfoldable pub ones : ℕ → List ℕ
-ones n = replicate ((8 - n % 8) % 8) 1
+-- how many bits are left from bit n up to the byte's end
+unfoldable pub gap : ℕ → ℕ
+gap n = (8 - n % 8) % 8
 
 -- the bits, then ones up to the byte's end
 unfoldable pub filled : List ℕ → List ℕ
-filled bs = bs ++ ones (length bs)
+filled bs = bs ++ replicate (gap (length bs)) 1
 
 -- the data of these entries: their codes in a row, then fill, in bytes
 unfoldable pub written : List Entry → List ℕ
