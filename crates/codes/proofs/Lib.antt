@@ -10,3 +10,4 @@ pub mod Low
 pub mod Pack
 pub mod Numbers
 pub mod Single
+pub mod Ahead
