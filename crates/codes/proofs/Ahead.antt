@@ -1,16 +1,20 @@
 -- A byte more in a buffer of bits, and bits taken out of it.
 -- Assumes nothing.
-use mathlib.Core.Path.{_≡_, refl, sym, ap, ap₂, subst, _∙_}
+use mathlib.Core.Path.{_≡_, refl, sym, ap, ap₂, subst, subst⁻¹, _∙_}
 use mathlib.Core.List.{List, [], _∷_, _++_, append-assoc}
 use Prim.Native.Nat.{ℕ, zero, suc, _+_, _-_, _*_, _/_, _%_, _^_, _≤_, _<_}
+use native.Mathlib.Nat.{mod-lt, zero-lt-suc, one-mul, mul-mod-left, add-zero}
 use native.Mathlib.Numerals.{add-one}
 use native.Mathlib.Omega.{arith}
-use lib.ListN.{length, drop, getD}
-use lib.Seq.{drop-cons, drop-at}
+use lib.Arith.{digits-lt}
+use lib.Dec.{lit<}
+use lib.ListN.{length, take, drop, getD, replicate, length-append, length-replicate, replicate-append-replicate}
+use lib.Pow.{shl-exact, shl-shr, mod-mod-pow, mod-pow-add, pow-add, pow-pos, ones-lt}
+use lib.Seq.{take-at, drop-cons, drop-at}
 use Rattle.bits.specs.Row.{bits}
 use Rattle.codes.specs.Pack.{low}
-use Rattle.codes.specs.Ahead.{ahead}
-use Rattle.codes.proofs.Low.{length-low, low-mod, low-join, low-add}
+use Rattle.codes.specs.Ahead.{ahead, Window}
+use Rattle.codes.proofs.Low.{length-low, low-mod, low-join, low-add, low-padded}
 use Rattle.codes.proofs.Pack.{bits-cons}
 
 -- higher bits are not seen
@@ -70,3 +74,46 @@ ahead-drop s held have next w h =
     ∙ ap (drop w) (append-assoc (low w (held / 2 ^ (have - w))) (low (have - w) held) (bits (drop next s)))
     ∙ drop-at (low w (held / 2 ^ (have - w))) (low (have - w) held ++ bits (drop next s)) w
     (length-low w (held / 2 ^ (have - w)))
+
+-- the next nine bits
+pub window-whole : (held have : ℕ) → 9 ≤ have → Window held have (held / 2 ^ (have - 9) % 512)
+window-whole held have h = record {
+  nine = low-mod 9 0 (held / 2 ^ (have - 9))
+      ∙ sym (take-at (low 9 (held / 2 ^ (have - 9))) (low (have - 9) held ++ replicate 9 1) 9 (length-low 9 (held / 2 ^ (have - 9))))
+      ∙ ap (take 9)
+      (sym (append-assoc (low 9 (held / 2 ^ (have - 9))) (low (have - 9) held) (replicate 9 1))
+      ∙ ap (λ (l : List ℕ). l ++ replicate 9 1)
+      (sym (low-add 9 (have - 9) held) ∙ ap (λ (n : ℕ). low n held) (let e : 9 + (have - 9) ≡ have = omega arith in e)));
+  small = mod-lt (held / 2 ^ (have - 9)) (zero-lt-suc 511);
+}
+
+-- what the code works out where there are fewer
+pub one-shifted : (k : ℕ) → k ≤ 9 → 1 * 2 ^ k % 2 ^ 64 ≡ 2 ^ k
+one-shifted k h = shl-exact 1 k 64 (lit< tt) (omega arith) ∙ one-mul (2 ^ k)
+
+pub held-shifted : (held h k : ℕ) → h + k ≡ 9 → held * 2 ^ k % 2 ^ 64 % 512 ≡ held % 2 ^ h * 2 ^ k
+held-shifted held h k e =
+    mod-mod-pow (held * 2 ^ k) 55 9
+    ∙ ap (λ (n : ℕ). held * 2 ^ k % 2 ^ n) (sym e)
+    ∙ mod-pow-add (held * 2 ^ k) h k
+    ∙ ap₂ (λ (x y : ℕ). x % 2 ^ h * 2 ^ k + y) (shl-shr held k) (mul-mod-left held (2 ^ k))
+    ∙ add-zero (held % 2 ^ h * 2 ^ k)
+
+pub window-short : (held have w : ℕ) → have < 9 → w ≡ held % 2 ^ have * 2 ^ (9 - have) + (2 ^ (9 - have) - 1) → Window held have w
+window-short held have w h e =
+    let k : ℕ = 9 - have in
+    let whole : have + k ≡ 9 = omega arith in
+    record {
+      nine = ap (low 9) e
+          ∙ ap (λ (n : ℕ). low n (held % 2 ^ have * 2 ^ k + (2 ^ k - 1))) (sym whole)
+          ∙ low-padded have k held
+          ∙ sym (take-at (low have held ++ replicate k 1) (replicate have 1) 9
+          (length-append (low have held) (replicate k 1) ∙ ap₂ (λ (x y : ℕ). x + y) (length-low have held) (length-replicate k 1) ∙ whole))
+          ∙ ap (take 9)
+          (append-assoc (low have held) (replicate k 1) (replicate have 1)
+          ∙ ap (λ (l : List ℕ). low have held ++ l)
+          (replicate-append-replicate k have 1 ∙ ap (λ (n : ℕ). replicate n 1) (let x : k + have ≡ 9 = omega arith in x)));
+      small = subst⁻¹ (λ (n : ℕ). n < 512) e
+          (subst (λ (n : ℕ). held % 2 ^ have * 2 ^ k + (2 ^ k - 1) < n) (sym (pow-add 2 have k) ∙ ap (λ (n : ℕ). 2 ^ n) whole)
+          (digits-lt (mod-lt held (pow-pos have)) (ones-lt k)));
+    }

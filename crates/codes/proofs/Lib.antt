@@ -11,3 +11,4 @@ pub mod Pack
 pub mod Numbers
 pub mod Single
 pub mod Ahead
+pub mod Passed

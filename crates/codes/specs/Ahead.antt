@@ -4,7 +4,7 @@ use mathlib.Core.Path.{_≡_}
 use mathlib.Core.Logic.{_⊎_}
 use mathlib.Core.List.{List, _++_}
 use Prim.Native.Nat.{ℕ, _+_, _*_, _≤_, _<_}
-use lib.ListN.{length, drop}
+use lib.ListN.{length, take, drop, replicate}
 use Rattle.bits.specs.Row.{bits}
 use Rattle.codes.specs.Pack.{low}
 use Rattle.codes.specs.declared.Buffer.{Buffer}
@@ -20,3 +20,8 @@ pub record Refilled (s : List ℕ) (b r : Buffer) : Type 0 where
   pub more : b .next < r .next
   pub bytes : r .have + 8 * b .next ≡ b .have + 8 * r .next
   pub few : r .have ≤ b .have + 32
+
+-- w is the next nine of the lowest `have` bits of `held`, with ones for those that are not there
+pub record Window (held have w : ℕ) : Type 0 where
+  pub nine : low 9 w ≡ take 9 (low have held ++ replicate 9 1)
+  pub small : w < 512
