@@ -1,0 +1,119 @@
+-- A byte more in a buffer of bits, and bits taken out of it.
+-- Assumes nothing.
+use mathlib.Core.Path.{_≡_, refl, sym, ap, ap₂, subst, subst⁻¹, _∙_}
+use mathlib.Core.List.{List, [], _∷_, _++_, append-assoc}
+use Prim.Native.Nat.{ℕ, zero, suc, _+_, _-_, _*_, _/_, _%_, _^_, _≤_, _<_}
+use native.Mathlib.Nat.{mod-lt, zero-lt-suc, one-mul, mul-mod-left, add-zero}
+use native.Mathlib.Numerals.{add-one}
+use native.Mathlib.Omega.{arith}
+use lib.Arith.{digits-lt}
+use lib.Dec.{lit<}
+use lib.ListN.{length, take, drop, getD, replicate, length-append, length-replicate, replicate-append-replicate}
+use lib.Pow.{shl-exact, shl-shr, mod-mod-pow, mod-pow-add, pow-add, pow-pos, ones-lt}
+use lib.Seq.{take-at, drop-cons, drop-at}
+use Rattle.bits.specs.Row.{bits}
+use Rattle.codes.specs.Pack.{low}
+use Rattle.codes.specs.Ahead.{ahead, Window}
+use Rattle.codes.proofs.Low.{length-low, low-mod, low-join, low-add, low-padded}
+use Rattle.codes.proofs.Pack.{bits-cons}
+
+-- higher bits are not seen
+pub ahead-mod : (s : List ℕ) (held have next k : ℕ) → have ≤ k → ahead s (held % 2 ^ k) have next ≡ ahead s held have next
+unfolding ahead
+ahead-mod s held have next k h =
+    ap (λ (l : List ℕ). l ++ bits (drop next s))
+    (ap (λ (n : ℕ). low have (held % 2 ^ n)) (let e : k ≡ (k - have) + have = omega arith in e) ∙ low-mod have (k - have) held)
+
+low-byte : (n v b : ℕ) → b < 256 → low (n + 8) (v * 256 + b) ≡ low n v ++ low 8 b
+low-byte n v b h =
+    low-add n 8 (v * 256 + b)
+    ∙ ap₂ (λ (x : ℕ) (l : List ℕ). low n x ++ l) (let e : (v * 256 + b) / 256 ≡ v = omega arith in e) (low-join 8 v b h)
+
+-- the next byte, at the lower end
+pub ahead-byte : (s : List ℕ) (held have next : ℕ) → next < length s → getD s next 0 < 256
+    → ahead s (held * 256 + getD s next 0) (have + 8) (next + 1) ≡ ahead s held have next
+unfolding ahead
+ahead-byte s held have next h k =
+    ap₂ (λ (l : List ℕ) (n : ℕ). l ++ bits (drop n s)) (low-byte have held (getD s next 0) k) (add-one next)
+    ∙ append-assoc (low have held) (low 8 (getD s next 0)) (bits (drop (suc next) s))
+    ∙ ap (λ (l : List ℕ). low have held ++ l)
+    (sym (bits-cons (getD s next 0) (drop (suc next) s)) ∙ ap bits (sym (drop-cons s next 0 h)))
+
+-- the same, with the numbers as they come
+byte-at : (s : List ℕ) (held have next held′ have′ next′ i : ℕ) → i ≡ next → held′ ≡ held * 256 + getD s i 0 → have′ ≡ have + 8
+    → next′ ≡ next + 1 → i < length s → getD s i 0 < 256 → ahead s held′ have′ next′ ≡ ahead s held have next
+byte-at s held have next held′ have′ next′ i e x y z h k =
+    ap₂ (λ (a b : ℕ). ahead s a b next′) x y
+    ∙ ap (λ (a : ℕ). ahead s (held * 256 + getD s i 0) (have + 8) a) (z ∙ ap (λ (a : ℕ). a + 1) (sym e))
+    ∙ ahead-byte s held have i h k
+    ∙ ap (λ (a : ℕ). ahead s held have a) e
+
+pub refill-one : (s : List ℕ) (held have next : ℕ) → have ≤ 32 → next < length s → getD s next 0 < 256
+    → ahead s (held % 4294967296 * 256 + getD s next 0) (have + 8) (next + 1) ≡ ahead s held have next
+refill-one s held have next h k b = ahead-byte s (held % 4294967296) have next k b ∙ ahead-mod s held have next 32 h
+
+pub refill-four : (s : List ℕ) (held have next word : ℕ) → have ≤ 32 → next + 3 < length s → ((i : ℕ) → getD s i 0 < 256)
+    → word ≡ (getD s next 0 * 256 + getD s (next + 1) 0) * 65536 + (getD s (next + 2) 0 * 256 + getD s (next + 3) 0)
+    → ahead s (held % 4294967296 * 4294967296 + word) (have + 32) (next + 4) ≡ ahead s held have next
+refill-four s held have next word h k bytes e =
+    let a : ℕ = held % 4294967296 * 256 + getD s next 0 in
+    let b : ℕ = a * 256 + getD s (next + 1) 0 in
+    let d : ℕ = b * 256 + getD s (next + 2) 0 in
+    byte-at s d (have + 24) (next + 3) (held % 4294967296 * 4294967296 + word) (have + 32) (next + 4) (next + 3) refl (omega arith)
+    (omega arith) (omega arith) (omega arith) (bytes (next + 3))
+    ∙ byte-at s b (have + 16) (next + 2) d (have + 24) (next + 3) (next + 2) refl refl (omega arith) (omega arith) (omega arith) (bytes (next + 2))
+    ∙ byte-at s a (have + 8) (next + 1) b (have + 16) (next + 2) (next + 1) refl refl (omega arith) (omega arith) (omega arith) (bytes (next + 1))
+    ∙ refill-one s held have next h (omega arith) (bytes next)
+
+-- w bits taken out
+pub ahead-drop : (s : List ℕ) (held have next w : ℕ) → w ≤ have → drop w (ahead s held have next) ≡ ahead s held (have - w) next
+unfolding ahead
+ahead-drop s held have next w h =
+    ap (λ (l : List ℕ). drop w (l ++ bits (drop next s)))
+    (ap (λ (n : ℕ). low n held) (let e : have ≡ w + (have - w) = omega arith in e) ∙ low-add w (have - w) held)
+    ∙ ap (drop w) (append-assoc (low w (held / 2 ^ (have - w))) (low (have - w) held) (bits (drop next s)))
+    ∙ drop-at (low w (held / 2 ^ (have - w))) (low (have - w) held ++ bits (drop next s)) w
+    (length-low w (held / 2 ^ (have - w)))
+
+-- the next nine bits
+pub window-whole : (held have : ℕ) → 9 ≤ have → Window held have (held / 2 ^ (have - 9) % 512)
+window-whole held have h = record {
+  nine = low-mod 9 0 (held / 2 ^ (have - 9))
+      ∙ sym (take-at (low 9 (held / 2 ^ (have - 9))) (low (have - 9) held ++ replicate 9 1) 9 (length-low 9 (held / 2 ^ (have - 9))))
+      ∙ ap (take 9)
+      (sym (append-assoc (low 9 (held / 2 ^ (have - 9))) (low (have - 9) held) (replicate 9 1))
+      ∙ ap (λ (l : List ℕ). l ++ replicate 9 1)
+      (sym (low-add 9 (have - 9) held) ∙ ap (λ (n : ℕ). low n held) (let e : 9 + (have - 9) ≡ have = omega arith in e)));
+  small = mod-lt (held / 2 ^ (have - 9)) (zero-lt-suc 511);
+}
+
+-- what the code works out where there are fewer
+pub one-shifted : (k : ℕ) → k ≤ 9 → 1 * 2 ^ k % 2 ^ 64 ≡ 2 ^ k
+one-shifted k h = shl-exact 1 k 64 (lit< tt) (omega arith) ∙ one-mul (2 ^ k)
+
+pub held-shifted : (held h k : ℕ) → h + k ≡ 9 → held * 2 ^ k % 2 ^ 64 % 512 ≡ held % 2 ^ h * 2 ^ k
+held-shifted held h k e =
+    mod-mod-pow (held * 2 ^ k) 55 9
+    ∙ ap (λ (n : ℕ). held * 2 ^ k % 2 ^ n) (sym e)
+    ∙ mod-pow-add (held * 2 ^ k) h k
+    ∙ ap₂ (λ (x y : ℕ). x % 2 ^ h * 2 ^ k + y) (shl-shr held k) (mul-mod-left held (2 ^ k))
+    ∙ add-zero (held % 2 ^ h * 2 ^ k)
+
+pub window-short : (held have w : ℕ) → have < 9 → w ≡ held % 2 ^ have * 2 ^ (9 - have) + (2 ^ (9 - have) - 1) → Window held have w
+window-short held have w h e =
+    let k : ℕ = 9 - have in
+    let whole : have + k ≡ 9 = omega arith in
+    record {
+      nine = ap (low 9) e
+          ∙ ap (λ (n : ℕ). low n (held % 2 ^ have * 2 ^ k + (2 ^ k - 1))) (sym whole)
+          ∙ low-padded have k held
+          ∙ sym (take-at (low have held ++ replicate k 1) (replicate have 1) 9
+          (length-append (low have held) (replicate k 1) ∙ ap₂ (λ (x y : ℕ). x + y) (length-low have held) (length-replicate k 1) ∙ whole))
+          ∙ ap (take 9)
+          (append-assoc (low have held) (replicate k 1) (replicate have 1)
+          ∙ ap (λ (l : List ℕ). low have held ++ l)
+          (replicate-append-replicate k have 1 ∙ ap (λ (n : ℕ). replicate n 1) (let x : k + have ≡ 9 = omega arith in x)));
+      small = subst⁻¹ (λ (n : ℕ). n < 512) e
+          (subst (λ (n : ℕ). held % 2 ^ have * 2 ^ k + (2 ^ k - 1) < n) (sym (pow-add 2 have k) ∙ ap (λ (n : ℕ). 2 ^ n) whole)
+          (digits-lt (mod-lt held (pow-pos have)) (ones-lt k)));
+    }

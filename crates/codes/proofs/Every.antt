@@ -1,0 +1,39 @@
+-- Tests that antt computes: two at once, and one at each element of a list.
+-- Assumes nothing.
+use mathlib.Core.Path.{subst⁻¹}
+use mathlib.Core.Bool.{Bool, true, false, _&&_}
+use mathlib.Core.Logic.{⊎-elim}
+use mathlib.Core.List.{List, [], _∷_, _++_, List·Memᴰ, List·Memᴰ·not-nil, List·Memᴰ·cases-cons}
+use lib.Dec.{T}
+
+pub and-left : (a b : Bool) → T (a && b) → T a
+and-left true b t = tt
+and-left false b t = t
+
+pub and-right : (a b : Bool) → T (a && b) → T b
+and-right true b t = t
+and-right false b t = absurd t
+
+pub and-both : (a b : Bool) → T a → T b → T (a && b)
+and-both true b s t = t
+and-both false b s t = s
+
+module _ {A : Type 0} where
+  -- the test passes at each element
+  unfoldable pub every : (A → Bool) → List A → Bool
+  every f [] = true
+  every f (x ∷ xs) = f x && every f xs
+
+  pub every-at : (f : A → Bool) (xs : List A) → T (every f xs) → (x : A) → List·Memᴰ x xs → T (f x)
+  unfolding every
+  every-at f [] t x h = absurd (List·Memᴰ·not-nil h)
+  every-at f (y ∷ xs) t x h =
+      ⊎-elim (λ e. subst⁻¹ (λ (z : A). T (f z)) e (and-left (f y) (every f xs) t))
+      (every-at f xs (and-right (f y) (every f xs) t) x) (List·Memᴰ·cases-cons h)
+
+  pub every-front : (f : A → Bool) (xs ys : List A) → T (every f (xs ++ ys)) → T (every f xs)
+  unfolding every
+  every-front f [] ys t = tt
+  every-front f (x ∷ xs) ys t =
+      and-both (f x) (every f xs) (and-left (f x) (every f (xs ++ ys)) t)
+      (every-front f xs ys (and-right (f x) (every f (xs ++ ys)) t))

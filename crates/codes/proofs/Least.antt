@@ -1,0 +1,21 @@
+-- No row of entries is shorter than a cost that no entry brings down by more than its own code.
+-- Assumes nothing.
+use mathlib.Core.Path.{_≡_, ap, _∙_}
+use mathlib.Core.List.{List, [], _∷_, _++_}
+use Prim.Native.Nat.{ℕ, _+_, _≤_}
+use native.Mathlib.Nat.{le-of-eq}
+use native.Mathlib.Omega.{arith}
+use lib.ListN.{length, length-append}
+use Rattle.codes.specs.Chain.{Entry, Tables, In, after, Row, codes, texts}
+
+-- a cost of text that is still to be said in a state: none at the end, and an entry in front of what a row says costs at most its code
+pub record Cost (tables : Tables) (cost : ℕ → List ℕ → ℕ) : Type 0 where
+  pub nothing : cost 0 [] ≡ 0
+  pub entry : (m : ℕ) (e : Entry) (es : List Entry) → In e (tables m) → Row tables (after m e) es 0
+      → cost m (e .says ++ texts es) ≤ length (e .code) + cost (after m e) (texts es)
+
+pub least : {tables : Tables} {cost : ℕ → List ℕ → ℕ} → Cost tables cost → (m : ℕ) (es : List Entry) → Row tables m es 0
+    → cost m (texts es) ≤ length (codes es)
+unfolding codes texts
+least {cost = cost} c m [] r = le-of-eq (ap (λ (n : ℕ). cost n []) r ∙ c .nothing)
+least c m (e ∷ es) r = omega (arith, c .entry m e es (r .0) (r .1), least c (after m e) es (r .1), length-append (e .code) (codes es))

@@ -1,0 +1,14 @@
+pub mod Begin
+pub mod Every
+pub mod Fill
+pub mod Laws
+pub mod Search
+pub mod Reading
+pub mod Speaks
+pub mod Least
+pub mod Low
+pub mod Pack
+pub mod Numbers
+pub mod Single
+pub mod Ahead
+pub mod Passed

@@ -1,0 +1,83 @@
+-- What both compact kinds share: codes in a row, then ones up to the byte's end. What a maker may build, and where data is malformed.
+-- Assumes nothing.
+use mathlib.Core.Path.{_≡_}
+use mathlib.Core.List.{List, [], _∷_, _++_, List·Memᴰ}
+use Prim.Native.Nat.{ℕ, pred, _+_, _≤_}
+use lib.ListN.{length, replicate}
+use Rattle.bits.specs.Row.{bits}
+
+-- an indicator, a value or a code: its bits, the text that it says, and how many values it announces
+pub record Entry : Type 0 where
+  pub code : List ℕ
+  pub says : List ℕ
+  pub announces : ℕ
+
+-- a format has a table for each state; the state is how many values are still announced
+abbrev pub Tables : Type 0
+Tables = ℕ → List Entry
+
+-- a format in which nothing is announced has one table
+abbrev pub single : List Entry → Tables
+single table m = table
+
+-- the entry stands in the table
+abbrev pub In : Entry → List Entry → Type 0
+In e table = List·Memᴰ e table
+
+-- the state after an entry that was met in state m: a value uses up one of those announced
+unfoldable pub after : ℕ → Entry → ℕ
+after m e = pred m + e .announces
+
+-- the entries, each out of the table of the state that it is met in, lead from state m to state n
+abbrev pub Row : Tables → ℕ → List Entry → ℕ → Type 0
+Row tables m [] n = m ≡ n
+Row tables m (e ∷ es) n = In e (tables m) × Row tables (after m e) es n
+
+-- their codes in a row
+unfoldable pub codes : List Entry → List ℕ
+codes [] = []
+codes (e ∷ es) = e .code ++ codes es
+
+-- what they say
+unfoldable pub texts : List Entry → List ℕ
+texts [] = []
+texts (e ∷ es) = e .says ++ texts es
+
+-- seven or fewer bits that are all ones
+pub record Fill (f : List ℕ) : Type 0 where
+  pub few : length f ≤ 7
+  pub ones : f ≡ replicate (length f) 1
+
+-- the bits c begin the bits bs
+abbrev pub Begins : List ℕ → List ℕ → Type 0
+Begins c bs = (rest : List ℕ) × (bs ≡ c ++ rest)
+
+-- from state m these bits are a building of the text: entries that say it, their codes in a row, then fill.
+-- No announced value is missing at the end
+pub record Reads (tables : Tables) (m : ℕ) (bs text : List ℕ) : Type 0 where
+  pub entries : List Entry
+  pub fill : List ℕ
+  pub row : Row tables m entries 0
+  pub says : texts entries ≡ text
+  pub ends : Fill fill
+  pub bits : bs ≡ codes entries ++ fill
+
+-- from state m the reading is stuck at bit i: entries take the bits before it, no entry of the table begins what follows, and the reading does not
+-- end there. It ends where the next indicator or code would start and no bits remain, or seven or fewer that are all ones
+pub record Stuck (tables : Tables) (m : ℕ) (bs : List ℕ) (i : ℕ) : Type 0 where
+  pub entries : List Entry
+  pub state : ℕ
+  pub rest : List ℕ
+  pub row : Row tables m entries state
+  pub place : i ≡ length (codes entries)
+  pub bits : bs ≡ codes entries ++ rest
+  pub none : (e : Entry) → In e (tables state) → Begins (e .code) rest → ⊥
+  pub no-end : state ≡ 0 → Fill rest → ⊥
+
+-- what a maker may build of the text: its data bytes are such codes and fill, from where no value is announced
+abbrev pub Built : Tables → List ℕ → List ℕ → Type 0
+Built tables text sent = Reads tables 0 (bits sent) text
+
+-- the data is malformed, and the first unreadable indicator, value or code starts at bit i
+abbrev pub Malformed : Tables → List ℕ → ℕ → Type 0
+Malformed tables sent i = Stuck tables 0 (bits sent) i

@@ -1,0 +1,4 @@
+pub mod Ahead
+pub mod Chain
+pub mod Pack
+pub mod Measure

@@ -1,0 +1,68 @@
+// Codes in a row, then fill: definitions in specs/, what holds of every format of this shape in proofs/. The code here reads bits through a buffer.
+
+ghost use mathlib.Core.Path.{_≡_};
+ghost use Prim.Native.Nat.{_+_, _*_, _≤_, _<_};
+ghost use lib.ListN.{length};
+ghost use Rattle.codes.specs.Ahead.{Refilled, Window};
+
+// The bits that are still to be read: the lowest `have` bits of `held`, then those of the bytes from `next` on.
+pub struct Buffer {
+    pub held: u64,
+    pub have: u64,
+    pub next: usize,
+}
+
+fn wide(b: u8) -> u64
+    ensures { λ r. ⌜ (r ≡ b) × (r < 256) ⌝ }
+{
+    b as u64
+}
+
+// Four bytes in a row as one number.
+fn word(a: u8, b: u8, c: u8, d: u8) -> u64
+    ensures { λ r. ⌜ (r ≡ (a * 256 + b) * 65536 + (c * 256 + d)) × (r < 4294967296) ⌝ }
+{
+    (wide(a) * 256 + wide(b)) * 65536 + (wide(c) * 256 + wide(d))
+}
+
+// Four bytes more in the buffer, or one where there are not four.
+pub fn refill(s: &[u8], b: Buffer) -> Buffer
+    requires { ⌜ (b .have ≤ 32) × (b .next < length (now s)) ⌝ }
+    ensures { λ r. ⌜ Refilled (now (s .entry)) b r ⌝ }
+{
+    let held = b.held;
+    let have = b.have;
+    let next = b.next;
+    if 4 <= s.len() - next {
+        let four = word(s[next], s[next + 1], s[next + 2], s[next + 3]);
+        Buffer {
+            held: held % 4294967296 * 4294967296 + four,
+            have: have + 32,
+            next: next + 4,
+        }
+    } else {
+        Buffer {
+            held: held % 4294967296 * 256 + wide(s[next]),
+            have: have + 8,
+            next: next + 1,
+        }
+    }
+}
+
+// The next nine bits, with ones for those that are not there.
+pub fn window(held: u64, have: u64) -> u64
+    requires { ⌜ have ≤ 64 ⌝ }
+    ensures { λ r. ⌜ Window held have r ⌝ }
+{
+    if 9 <= have {
+        return (held >> (have - 9)) % 512;
+    }
+    let short = 9 - have;
+    (held << short) % 512 + ((1 << short) - 1)
+}
+
+// What a reading comes to, its text unwritten: the text's length, or the bit at which it is malformed.
+pub enum Measured {
+    Text(usize),
+    Malformed(usize),
+}

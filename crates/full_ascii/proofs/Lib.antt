@@ -1,0 +1,4 @@
+pub mod Entries
+pub mod Nine
+pub mod Table
+pub mod Writer

@@ -1,0 +1,30 @@
+-- The table of Compact Full ASCII: no code begins another, the fill is never a code, each code is bits and says something.
+-- Assumes nothing.
+use Prim.Native.Nat.{ℕ}
+use lib.Dec.{T}
+use Rattle.bits.specs.Word.{bit}
+use Rattle.codes.specs.Pack.{low, numbers}
+use Rattle.codes.proofs.Every.{every}
+use Rattle.codes.proofs.Begin.{begun}
+use Rattle.codes.proofs.Fill.{fills}
+use Rattle.codes.proofs.Laws.{Laws, parted, apart, unfilled, tested}
+use Rattle.codes.proofs.Speaks.{Speaks, heard, said, speaks}
+use Rattle.codes.proofs.Pack.{binary}
+use Rattle.codes.proofs.Single.{mute}
+use Rattle.full_ascii.specs.Table.{six, seven, special, pair, table, tables}
+
+pub laws : Laws tables
+unfolding table six seven special pair numbers low bit apart parted unfilled every begun fills
+laws = tested tables (λ m. tt) tt
+
+pub sounds : Speaks tables
+unfolding table six seven special pair numbers low bit every heard said
+sounds = speaks tables tt (λ m. tt)
+
+pub mutes : T (every mute table)
+unfolding table six seven special pair numbers every mute
+mutes = tt
+
+pub all-bits : (m : ℕ) → T (every binary (tables m))
+unfolding table six seven special pair numbers low bit every binary
+all-bits m = tt

@@ -1,0 +1,146 @@
+-- What our writer builds is a building of its text and no building of that text is shorter. Texts that can be read have codes, and are never empty.
+-- Assumes nothing.
+use mathlib.Core.Path.{_≡_, refl, sym, ap, ap₂, subst, subst⁻¹, subst₂, _∙_}
+use mathlib.Core.Bool.{Bool, true, false, cond, _&&_}
+use mathlib.Core.Logic.{inl, inr}
+use mathlib.Core.List.{List, [], _∷_, _++_}
+use Prim.Native.Nat.{ℕ, _+_, _≤_, _<_}
+use native.Mathlib.Nat.{le-of-eq}
+use native.Mathlib.Omega.{arith}
+use lib.Dec.{T, eqb, eqb→eq}
+use lib.ListN.{length, length-append}
+use Rattle.bits.specs.Row.{Bytes}
+use Rattle.bits.specs.Word.{bit}
+use Rattle.codes.specs.Chain.{Entry, Row, codes, texts, Reads, Built}
+use Rattle.codes.specs.Pack.{Binary, low, written}
+use Rattle.codes.proofs.Every.{and-left, and-right}
+use Rattle.codes.proofs.Least.{Cost, least}
+use Rattle.codes.proofs.Pack.{row-binary, written-built, written-bytes, length-written, length-bits, built-length}
+use Rattle.codes.proofs.Single.{row-one, row-rest, reads-one}
+use Rattle.codes.proofs.Speaks.{never-silent}
+use Rattle.full_ascii.specs.Table.{LF, CR, special, pair, tables}
+use Rattle.full_ascii.specs.Writer.{coded, Coded, own, ours}
+use Rattle.full_ascii.proofs.Table.{sounds, mutes, all-bits}
+use Rattle.full_ascii.proofs.Entries.{Sayer, entry-of, own-in, own-says, pair-in}
+
+line-end : (c d : ℕ) → (eqb c CR && eqb d LF) ≡ true → (c ≡ CR) × (d ≡ LF)
+line-end c d x =
+    let both : T (eqb c CR && eqb d LF) = subst⁻¹ T x tt in
+    (eqb→eq c CR (and-left (eqb c CR) (eqb d LF) both), eqb→eq d LF (and-right (eqb c CR) (eqb d LF) both))
+
+module _ (P : List ℕ → List Entry → Type 0) (none : P [] []) (one : (c : ℕ) (t : List ℕ) (es : List Entry) → P t es → P (c ∷ t) (own c ∷ es))
+    (two : (t : List ℕ) (es : List Entry) → P t es → P (CR ∷ LF ∷ t) (pair ∷ es)) where
+  either-cut : (b : Bool) (c d : ℕ) (t : List ℕ) (es ds : List Entry) → (eqb c CR && eqb d LF) ≡ b → P t es → P (d ∷ t) ds
+      → P (c ∷ d ∷ t) (cond b (pair ∷ es) (own c ∷ ds))
+  either-cut true c d t es ds x h k =
+      let l = line-end c d x in
+      subst₂ (λ (y z : ℕ). P (y ∷ z ∷ t) (pair ∷ es)) (sym (l .0)) (sym (l .1)) (two t es h)
+  either-cut false c d t es ds x h k = one c (d ∷ t) ds k
+
+  -- what holds of each way to cut holds of ours
+  ours-has : (t : List ℕ) → P t (ours t)
+  unfolding ours
+  ours-has [] = none
+  ours-has (c ∷ []) = one c [] [] none
+  ours-has (c ∷ d ∷ t) = either-cut (eqb c CR && eqb d LF) c d t (ours t) (ours (d ∷ t)) refl (ours-has t) (ours-has (d ∷ t))
+
+pub ours-says : (t : List ℕ) → texts (ours t) ≡ t
+unfolding texts pair special
+ours-says =
+    ours-has (λ (t : List ℕ) (es : List Entry). texts es ≡ t) refl
+    (λ c t es h. ap₂ (λ (a b : List ℕ). a ++ b) (own-says c) h) (λ t es h. ap (λ (l : List ℕ). CR ∷ LF ∷ l) h)
+
+pub ours-row : (t : List ℕ) → Coded t → Row tables 0 (ours t) 0
+ours-row =
+    ours-has (λ (t : List ℕ) (es : List Entry). Coded t → Row tables 0 es 0) (λ h. refl)
+    (λ c t es k h. row-one mutes es (own-in c (h .0)) (k (h .1))) (λ t es k h. row-one mutes es pair-in (k (h .1 .1)))
+
+ours-binary : (t : List ℕ) → Coded t → Binary (codes (ours t))
+ours-binary t h = row-binary tables all-bits 0 0 (ours t) (ours-row t h)
+
+-- what the writer builds is a building of the text, in bytes
+pub ours-built : (t : List ℕ) → Coded t → Built tables t (written (ours t))
+ours-built t h =
+    subst (λ (u : List ℕ). Built tables u (written (ours t))) (ours-says t)
+    (written-built (ours t) (ours-row t h) (ours-binary t h))
+
+pub ours-bytes : (t : List ℕ) → Coded t → Bytes (written (ours t))
+ours-bytes t h = written-bytes (ours t) (ours-binary t h)
+
+-- every character of a text that was built has a code
+coded-append : (a b : List ℕ) → Coded a → Coded b → Coded (a ++ b)
+coded-append [] b h k = k
+coded-append (c ∷ a) b h k = (h .0, coded-append a b (h .1) k)
+
+sayer-coded : (e : Entry) → Sayer e → Coded (e .says)
+unfolding pair special coded
+sayer-coded e (inl s) = subst⁻¹ Coded (ap (λ (d : Entry). d .says) (s .2) ∙ own-says (s .0)) (s .1, tt)
+sayer-coded e (inr x) = subst⁻¹ (λ (d : Entry). Coded (d .says)) x (tt, (tt, tt))
+
+row-coded : (es : List Entry) → Row tables 0 es 0 → Coded (texts es)
+unfolding texts
+row-coded [] r = tt
+row-coded (e ∷ es) r =
+    coded-append (e .says) (texts es) (sayer-coded e (entry-of e (r .0))) (row-coded es (row-rest mutes e es r))
+
+pub built-coded : {t : List ℕ} (sent : List ℕ) → Built tables t sent → Coded t
+built-coded sent b = subst Coded (b .says) (row-coded (b .entries) (b .row))
+
+-- data of one byte or more that can be read has a text
+pub built-nonempty : {t : List ℕ} (sent : List ℕ) → 0 < length sent → Built tables t sent → 0 < length t
+built-nonempty sent h b = never-silent sounds b (omega (arith, length-bits sent))
+
+-- how many bits the writer takes for a text
+size : List ℕ → ℕ
+size t = length (codes (ours t))
+
+size-pair : (t : List ℕ) → size (CR ∷ LF ∷ t) ≡ length (pair .code) + size t
+unfolding size ours codes pair special low bit
+size-pair t = omega arith
+
+size-feed : (t : List ℕ) → size t ≤ size (LF ∷ t)
+unfolding size ours codes own special low bit
+size-feed [] = omega arith
+size-feed (c ∷ t) = omega arith
+
+cut-size : (b : Bool) (c d : ℕ) (t : List ℕ) → (eqb c CR && eqb d LF) ≡ b
+    → length (codes (cond b (pair ∷ ours t) (own c ∷ ours (d ∷ t)))) ≤ length (own c .code) + size (d ∷ t)
+unfolding size codes own pair special low bit
+cut-size true c d t x =
+    let l = line-end c d x in
+    subst₂ (λ (y z : ℕ). length (codes (pair ∷ ours t)) ≤ length (own y .code) + size (z ∷ t)) (sym (l .0)) (sym (l .1))
+    (omega (arith, size-feed t))
+cut-size false c d t x = omega (arith, length-append (own c .code) (codes (ours (d ∷ t))))
+
+-- a character in front costs at most its own code
+size-own : (c : ℕ) (t : List ℕ) → size (c ∷ t) ≤ length (own c .code) + size t
+unfolding size ours codes
+size-own c [] = omega (arith, length-append (own c .code) [])
+size-own c (d ∷ t) = cut-size (eqb c CR && eqb d LF) c d t refl
+
+sayer-size : (e : Entry) (t : List ℕ) → Sayer e → size (e .says ++ t) ≤ length (e .code) + size t
+unfolding pair special
+sayer-size e t (inl s) =
+    subst⁻¹ (λ (d : Entry). size (d .says ++ t) ≤ length (d .code) + size t) (s .2)
+    (subst⁻¹ (λ (u : List ℕ). size (u ++ t) ≤ length (own (s .0) .code) + size t) (own-says (s .0)) (size-own (s .0) t))
+sayer-size e t (inr x) =
+    subst⁻¹ (λ (d : Entry). size (d .says ++ t) ≤ length (d .code) + size t) x (le-of-eq (size-pair t))
+
+cost : Cost tables (λ (m : ℕ) (t : List ℕ). size t)
+unfolding size ours codes
+cost = record { nothing = refl; entry = λ m e es h r. sayer-size e (texts es) (entry-of e h) }
+
+-- no building of the text has fewer bits before its fill than the writer's, and none fewer bytes
+pub no-shorter : {t : List ℕ} (sent : List ℕ) (b : Built tables t sent) → length (codes (ours t)) ≤ length (codes (b .entries))
+unfolding size
+no-shorter sent b =
+    subst (λ (u : List ℕ). size u ≤ length (codes (b .entries))) (b .says) (least cost 0 (b .entries) (b .row))
+
+pub no-fewer-bytes : {t : List ℕ} (sent : List ℕ) → Built tables t sent → length (written (ours t)) ≤ length sent
+no-fewer-bytes {t} sent b = omega (arith, no-shorter sent b, length-written (ours t), built-length sent b)
+
+-- a line end reads the same, cut either way
+pub either-way : {bs t : List ℕ} → Reads tables 0 bs t
+    → Reads tables 0 (own CR .code ++ (own LF .code ++ bs)) (CR ∷ LF ∷ t) × Reads tables 0 (pair .code ++ bs) (CR ∷ LF ∷ t)
+unfolding own pair special coded
+either-way r = (reads-one mutes (own-in CR tt) (reads-one mutes (own-in LF tt) r), reads-one mutes pair-in r)

@@ -1,0 +1,42 @@
+-- The codes of Compact Full ASCII (001, 4.5).
+-- Assumes nothing.
+use mathlib.Core.List.{List, [], _∷_, _++_, map}
+use Prim.Native.Nat.{ℕ, _-_}
+use lib.ListN.{replicate}
+use Rattle.codes.specs.Chain.{Entry, Tables, single}
+use Rattle.codes.specs.Pack.{low, numbers}
+
+abbrev pub HT : ℕ
+HT = 9
+
+abbrev pub LF : ℕ
+LF = 10
+
+abbrev pub CR : ℕ
+CR = 13
+
+-- a six-bit code, the character less 32
+unfoldable pub six : ℕ → Entry
+six c = record { code = low 6 (c - 32); says = c ∷ []; announces = 0 }
+
+-- a seven-bit code, the character itself
+unfoldable pub seven : ℕ → Entry
+seven c = record { code = low 7 c; says = c ∷ []; announces = 0 }
+
+-- seven ones, then the two bits of k
+unfoldable pub special : ℕ → List ℕ → Entry
+special k text = record { code = replicate 7 1 ++ low 2 k; says = text; announces = 0 }
+
+-- CR with LF after it, in one code
+unfoldable pub pair : Entry
+pair = special 3 (CR ∷ LF ∷ [])
+
+-- characters 32 to 63, characters 64 to 126, then HT, CR, LF, and CR with LF after it
+unfoldable pub table : List Entry
+table =
+    map six (numbers 32 32)
+    ++ (map seven (numbers 64 63) ++ (special 0 (HT ∷ []) ∷ special 1 (CR ∷ []) ∷ special 2 (LF ∷ []) ∷ pair ∷ []))
+
+-- nothing is announced: one table
+abbrev pub tables : Tables
+tables = single table
