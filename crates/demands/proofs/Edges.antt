@@ -17,7 +17,7 @@ use Rattle.bits.proofs.Said.{both, both-left, both-right}
 use Rattle.header.specs.Check.{generator, remainder, checkOf}
 use Rattle.header.specs.Flag.{Odd, flagBits, spareIn, syncIn, extendedIn, messageIn, parityFor}
 use Rattle.header.specs.Valid.{Valid, flagIn, lengthIn, checkIn, informationIn}
-use Rattle.header.specs.Fields.{fieldsIn, headerOf, lowFlag, bytesOf, Ours}
+use Rattle.header.specs.Fields.{fieldsIn, headerOf, lowFlag, bytesOf}
 use Rattle.mending.specs.Mends.{distance, Near}
 use Rattle.mending.proofs.Search.{none-at, none-around}
 use Rattle.demands.specs.Edges.{Edge, checks, heads, mends, hopeless, foreign, Holds, edges, Every}
@@ -105,7 +105,7 @@ p7 = (record { valid = valid-by-test 0x80000000 (lit< tt) tt; near = lit≤ tt }
 
 p7-foreign : Holds (foreign 0x80000000)
 unfolding fieldsIn flagIn messageIn flagBits
-p7-foreign o = eqb-false 0 2 refl (o .message)
+p7-foreign format o = eqb-false 0 2 refl (o .message)
 
 p6-computed : T (none 2 0x400004DA)
 unfolding none every valid flip onesIn flagIn checkIn checkOf informationIn lengthIn remainder generator

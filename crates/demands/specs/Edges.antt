@@ -5,7 +5,9 @@ use mathlib.Core.List.{List, [], _∷_}
 use mathlib.Core.Path.{_≡_}
 use Prim.Native.Nat.{ℕ, _+_, _*_, _%_, _^_}
 use Rattle.header.specs.Check.{checkOf}
-use Rattle.header.specs.Fields.{fieldsIn, headerOf, sentFields, bytesOf, Ours}
+use Rattle.header.specs.Fields.{fieldsIn, headerOf, sentFields, bytesOf}
+use Rattle.header.specs.declared.Format.{Format}
+use Rattle.header.specs.Typed.{Typed}
 use Rattle.mending.specs.declared.Mending.the-variants.{Mended, Hopeless}
 use Rattle.mending.specs.Mends.{Mends}
 
@@ -27,7 +29,7 @@ Holds (checks flag length check bytes) =
 Holds (heads extended sync length bytes) = bytesOf (headerOf (sentFields extended sync length)) ≡ bytes
 Holds (mends received header bits) = Mends received (Mended header bits)
 Holds (hopeless received) = Mends received Hopeless
-Holds (foreign header) = Ours (fieldsIn header) → ⊥
+Holds (foreign header) = (format : Format) → Typed (fieldsIn header) format → ⊥
 
 abbrev pub edges : List Edge
 edges =

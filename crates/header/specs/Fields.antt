@@ -2,8 +2,6 @@
 -- Assumes nothing.
 use mathlib.Core.Bool.{Bool, true, false}
 use mathlib.Core.List.{List, [], _∷_}
-use mathlib.Core.Logic.{_⊎_}
-use mathlib.Core.Path.{_≡_}
 use Prim.Native.Nat.{ℕ, _+_, _*_, _/_, _%_, _^_, _<_}
 use lib.Dec.{eqb}
 use Rattle.header.specs.declared.Header.{Header}
@@ -46,12 +44,6 @@ pub record Fit (f : Header) : Type 0 where
 -- what we send: type 10, binary, and the spare bit 0
 abbrev pub sentFields : ℕ → Bool → ℕ → Header
 sentFields extended sync length = record { message = 2; extended = extended; sync = sync; spare = false; length = length }
-
--- a header of ours: the spare bit 0, type 10, and one of the three extended types: 000 Open, 001 Compact Pseudo Binary, 100 Compact Full ASCII
-pub record Ours (f : Header) : Type 0 where
-  pub spare : f .spare ≡ false
-  pub message : f .message ≡ 2
-  pub extended : (f .extended ≡ 0) ⊎ (f .extended ≡ 1) ⊎ (f .extended ≡ 4)
 
 -- ---- four bytes, the first at the top
 

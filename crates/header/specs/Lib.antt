@@ -1,4 +1,5 @@
 pub mod Check
 pub mod Fields
 pub mod Flag
+pub mod Typed
 pub mod Valid

@@ -4,7 +4,21 @@ ghost use Prim.Native.Nat.{_<_, _^_};
 ghost use Rattle.bits.specs.Says.{Says};
 ghost use Rattle.header.specs.Check.{checkOf};
 ghost use Rattle.header.specs.Fields.{fieldsIn, headerOf, sentFields, Fit, lowFlag, oneIf, wordOf};
+ghost use Rattle.header.specs.Typed.{Types};
 ghost use Rattle.header.specs.Valid.{Valid};
+
+// The formats that we read and write.
+pub enum Format {
+    Open,
+    PseudoBinary,
+    FullAscii,
+}
+
+// What the type bits say: one of our formats, or none.
+pub enum Typing {
+    Ours(Format),
+    Foreign,
+}
 
 pub struct Header {
     // bits 7/6 of the flag
@@ -57,6 +71,26 @@ impl Header {
             sync: flag / 2 % 2 == 1,
             spare: flag % 2 == 1,
             length: (word / 1024 % 16384) as u16,
+        }
+    }
+
+    // The format that the type bits pick; none where the spare bit is 1 or the type is not one of ours.
+    pub fn typing(self) -> Typing
+        ensures { λ r. ⌜ Types self r ⌝ }
+    {
+        let message = self.message;
+        let extended = self.extended;
+        if self.spare {
+            return Typing::Foreign;
+        }
+        if message != Header::BINARY {
+            return Typing::Foreign;
+        }
+        match extended {
+            Header::OPEN => Typing::Ours(Format::Open),
+            Header::PSEUDO_BINARY => Typing::Ours(Format::PseudoBinary),
+            Header::FULL_ASCII => Typing::Ours(Format::FullAscii),
+            _ => Typing::Foreign,
         }
     }
 
