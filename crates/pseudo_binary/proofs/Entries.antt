@@ -1,0 +1,55 @@
+-- The entries of the tables: indicators of each kind, up to the most that one counts, and the 64 values.
+-- Assumes nothing.
+use mathlib.Core.Path.{_≡_, sym}
+use mathlib.Core.Logic.{⊎-elim}
+use mathlib.Core.List.{map, List·Memᴰ·append-cases, Memᴰ·append-left, Memᴰ·append-right, Memᴰ·map, Memᴰ·of-map}
+use Prim.Native.Nat.{ℕ, suc, _<_}
+use native.Mathlib.Nat.{add-zero}
+use native.Mathlib.Omega.{arith}
+use Rattle.codes.specs.Chain.{Entry, In, after}
+use Rattle.codes.specs.Pack.{numbers}
+use Rattle.codes.proofs.Numbers.{in-numbers, numbers-in}
+use Rattle.pseudo_binary.specs.Table.{Kind, values, spaces, slashes, most, indicator, six, every-count, tables}
+
+counted-in : (k : Kind) (c : ℕ) → c < most k → In (indicator k c) (every-count k)
+unfolding every-count
+counted-in k c h = Memᴰ·map (indicator k) (numbers-in 0 (most k) c (omega arith) (omega arith))
+
+pub indicator-in : (k : Kind) (c : ℕ) → c < most k → In (indicator k c) (tables 0)
+unfolding tables
+indicator-in values c h = Memᴰ·append-left _ (counted-in values c h)
+indicator-in spaces c h = Memᴰ·append-right (every-count values) (Memᴰ·append-left (every-count slashes) (counted-in spaces c h))
+indicator-in slashes c h = Memᴰ·append-right (every-count values) (Memᴰ·append-right (every-count spaces) (counted-in slashes c h))
+
+pub six-in : (m v : ℕ) → v < 64 → In (six v) (tables (suc m))
+unfolding tables
+six-in m v h = Memᴰ·map six (numbers-in 0 64 v (omega arith) h)
+
+-- and no others
+abbrev pub Indicator : Entry → Type 0
+Indicator e = (k : Kind) × (c : ℕ) × (c < most k) × (e ≡ indicator k c)
+
+of-count : {e : Entry} (k : Kind) → In e (every-count k) → Indicator e
+unfolding every-count
+of-count k h =
+    let m = Memᴰ·of-map (indicator k) (numbers 0 (most k)) h in
+    let r = in-numbers 0 (most k) (m .0) (m .1) in
+    (k, m .0, omega arith, sym (m .2))
+
+pub indicator-of : {e : Entry} → In e (tables 0) → Indicator e
+unfolding tables
+indicator-of h =
+    ⊎-elim (of-count values) (λ j. ⊎-elim (of-count spaces) (of-count slashes) (List·Memᴰ·append-cases (every-count spaces) j))
+    (List·Memᴰ·append-cases (every-count values) h)
+
+pub six-of : {e : Entry} (m : ℕ) → In e (tables (suc m)) → (v : ℕ) × (v < 64) × (e ≡ six v)
+unfolding tables
+six-of m h =
+    let l = Memᴰ·of-map six (numbers 0 64) h in
+    let r = in-numbers 0 64 (l .0) (l .1) in
+    (l .0, omega arith, sym (l .2))
+
+-- a value uses up one of those announced
+pub after-six : (m v : ℕ) → after (suc m) (six v) ≡ m
+unfolding after six
+after-six m v = add-zero m

@@ -1,0 +1,31 @@
+-- The tables of Compact Pseudo Binary: no code begins another, the fill is never a code, each code is bits and says or announces something.
+-- Assumes nothing.
+use Prim.Native.Nat.{ℕ, zero, suc}
+use lib.Dec.{T}
+use Rattle.bits.specs.Word.{bit}
+use Rattle.codes.specs.Pack.{low, numbers}
+use Rattle.codes.proofs.Every.{every}
+use Rattle.codes.proofs.Begin.{begun}
+use Rattle.codes.proofs.Fill.{fills}
+use Rattle.codes.proofs.Laws.{Laws, parted, apart, unfilled, tested}
+use Rattle.codes.proofs.Speaks.{Speaks, heard, said, speaks}
+use Rattle.codes.proofs.Pack.{binary}
+use Rattle.pseudo_binary.specs.Table.{most, characterOf, indicator, six, every-count, tables}
+
+all-apart : (m : ℕ) → T (apart (tables m))
+unfolding tables most indicator six every-count numbers low bit apart parted every begun
+all-apart zero = tt
+all-apart (suc m) = tt
+
+pub laws : Laws tables
+unfolding tables most indicator six every-count numbers low bit unfilled every fills
+laws = tested tables all-apart tt
+
+pub sounds : Speaks tables
+unfolding tables most indicator six every-count numbers every heard said
+sounds = speaks tables tt (λ m. tt)
+
+pub all-bits : (m : ℕ) → T (every binary (tables m))
+unfolding tables most indicator six every-count numbers low bit every binary
+all-bits zero = tt
+all-bits (suc m) = tt
