@@ -1,0 +1,4 @@
+pub mod Formats
+pub mod ReadOnce
+pub mod Refused
+pub mod WriteOnce

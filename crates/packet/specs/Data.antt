@@ -1,0 +1,50 @@
+-- What the data of each format is: the text that it carries, where it is malformed, and what our writer makes of a text.
+-- Assumes nothing.
+use mathlib.Core.Bool.{Bool, true}
+use mathlib.Core.List.{List, [], _∷_}
+use mathlib.Core.Path.{_≡_}
+use Prim.Native.Nat.{ℕ, _<_}
+use lib.Dec.{T}
+use lib.ListN.{length, getD}
+use Rattle.header.specs.declared.Format.{Format}
+use Rattle.header.specs.declared.Format.the-variants.{Open, PseudoBinary, FullAscii}
+use Rattle.codes.specs.Chain.{Built, Malformed}
+use Rattle.codes.specs.Pack.{written}
+use Rattle.full_ascii.specs.Table as ascii
+use Rattle.full_ascii.specs.Writer as ascii-writer
+use Rattle.pseudo_binary.specs.Table as pseudo
+use Rattle.pseudo_binary.specs.Writer as pseudo-writer
+
+-- the data is what a maker may build of the text. Open: the data bytes are the text
+abbrev pub Carries : Format → List ℕ → List ℕ → Type 0
+Carries Open text sent = sent ≡ text
+Carries PseudoBinary text sent = Built pseudo.tables text sent
+Carries FullAscii text sent = Built ascii.tables text sent
+
+-- the data is malformed, and its first unreadable indicator, value or code starts at this bit. Open data never is
+abbrev pub Unreadable : Format → List ℕ → ℕ → Type 0
+Unreadable Open sent i = ⊥
+Unreadable PseudoBinary sent i = Malformed pseudo.tables sent i
+Unreadable FullAscii sent i = Malformed ascii.tables sent i
+
+-- the character has a code
+abbrev pub coded : Format → ℕ → Bool
+coded Open c = true
+coded PseudoBinary c = pseudo-writer.coded c
+coded FullAscii c = ascii-writer.coded c
+
+-- each character below the index has a code
+abbrev pub Coded : Format → List ℕ → ℕ → Type 0
+Coded format text n = (i : ℕ) → i < n → T (coded format (getD text i 0))
+
+-- the index of the first character that has none
+pub record Uncoded (format : Format) (text : List ℕ) (index : ℕ) : Type 0 where
+  pub there : index < length text
+  pub before : Coded format text index
+  pub none : T (coded format (getD text index 0)) → ⊥
+
+-- the data that our writer makes of a text that has codes
+abbrev pub dataOf : Format → List ℕ → List ℕ
+dataOf Open text = text
+dataOf PseudoBinary text = written (pseudo-writer.ours text)
+dataOf FullAscii text = written (ascii-writer.ours text)
