@@ -1,4 +1,5 @@
 pub mod Formats
 pub mod ReadOnce
 pub mod Refused
+pub mod Stages
 pub mod WriteOnce

@@ -30,7 +30,7 @@ use Rattle.packet.proofs.Formats.{carries-one, unreadable-one, never-un
 
 module _ (packet : List ℕ) (room : ℕ) where
   -- the condition of a refusal, of a header that the packet is read as
-  under : (A : ℕ → Type 0) (header : ℕ) → Near 2 (received packet) header → Under packet A → A header
+  pub under : (A : ℕ → Type 0) (header : ℕ) → Near 2 (received packet) header → Under packet A → A header
   under A header near (other, near′, a) = subst A (one-near (received packet) other header near′ near) a
 
   places : (i j : ℕ) → Fault packet room (Malformed i) → Fault packet room (Malformed j) → i ≡ j

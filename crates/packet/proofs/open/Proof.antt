@@ -1,0 +1,231 @@
+-- `packet::open` meets its contract: at each return the conditions of the tests passed do not hold, and the next one's does.
+-- Assumes nothing.
+use mathlib.Core.List.{List}
+use mathlib.Core.Logic.{_⊎_, inl, inr}
+use mathlib.Core.Path.{_≡_, refl, sym, ap, _∙_, subst}
+use Prim.Native.Nat.{ℕ, _+_, _≤_, _<_}
+use native.Mathlib.Omega.{arith}
+use borrow.Author.Needs.{needs}
+use lib.ListN.{length}
+use Rattle.header.specs.declared.Format.{Format}
+use Rattle.header.specs.declared.Header.{Header}
+use Rattle.header.specs.declared.Typing.{Typing}
+use Rattle.header.specs.declared.Typing.the-variants.{Ours, Foreign}
+use Rattle.header.specs.Fields.{fieldsIn}
+use Rattle.header.specs.Typed.{Typed, Types}
+use Rattle.header.specs.Valid.{lengthIn}
+use Rattle.mending.specs.declared.Mending.{Mending}
+use Rattle.mending.specs.declared.Mending.the-variants.{Mended, Hopeless}
+use Rattle.mending.specs.Mends.{Near, Mends, distance}
+use Rattle.packet.specs.Packet.{received}
+use Rattle.packet.specs.Steps.{Headed}
+use Rattle.packet.proofs.Stages.{clear-one, clear-two, clear-three, clear-four, clear-five}
+use Rattle.packet.proofs.open.Statement.{statement}
+use Rattle.packet.proofs.open.Tie as tie
+
+-- what mending says of the packet
+mended-near : (packet word bits count : ℕ) (answer : Mending) → word ≡ packet → Mends word answer → answer ≡ Mended bits count
+    → Near 2 packet bits × (count ≡ distance packet bits)
+mended-near packet word bits count answer e m told = subst (λ (w : ℕ). Near 2 w bits × (count ≡ distance w bits)) e (subst (Mends word) told m)
+
+hopeless-far : (packet word : ℕ) (answer : Mending) → word ≡ packet → Mends word answer → answer ≡ Hopeless → (header : ℕ) → Near 2 packet header → ⊥
+hopeless-far packet word answer e m told = subst (λ (w : ℕ). (header : ℕ) → Near 2 w header → ⊥) e (subst (Mends word) told m)
+
+-- what the type bits say of it
+typed-ours : (bits : ℕ) (fields : Header) (answer : Typing) (format : Format) → fields ≡ fieldsIn bits → Types fields answer → answer ≡ Ours format
+    → Typed (fieldsIn bits) format
+typed-ours bits fields answer format e t told = subst (λ (f : Header). Typed f format) e (subst (Types fields) told t)
+
+typed-foreign : (bits : ℕ) (fields : Header) (answer : Typing) → fields ≡ fieldsIn bits → Types fields answer → answer ≡ Foreign
+    → (format : Format) → Typed (fieldsIn bits) format → ⊥
+typed-foreign bits fields answer e t told = subst (λ (f : Header). (format : Format) → Typed f format → ⊥) e (subst (Types fields) told t)
+
+length-is : (bits : ℕ) (fields : Header) → fields ≡ fieldsIn bits → fields .length ≡ lengthIn bits
+unfolding fieldsIn
+length-is bits fields e = ap (λ (f : Header). f .length) e
+
+-- ---- the facts, by place
+
+abbrev packet-at : tie.After-word → List ℕ
+packet-at c = c .before .before .before .before .before .before .before .args .packet .now
+
+word-is : (c : tie.After-word) → c .word .result ≡ received (packet-at c)
+unfolding received
+word-is c = c .word .ensures
+
+four : (c : tie.After-word) → 4 ≤ length (packet-at c)
+four c = omega arith
+
+abbrev bits-at : tie.After-known-told → ℕ
+bits-at c = c .before .mending .given .0 .0
+
+near-at : (c : tie.After-known-told)
+    → Near 2 (received (packet-at (c .before .before .before .before))) (bits-at c)
+    × (c .before .mending .given .0 .1 .0 ≡ distance (received (packet-at (c .before .before .before .before))) (bits-at c))
+near-at c =
+    let m = c .before .before .before in
+    mended-near (received (packet-at (m .before))) (m .before .word .result) (bits-at c) (c .before .mending .given .0 .1 .0) (m .mend .result)
+    (word-is (m .before)) (m .mend .ensures) (c .before .mending .given .1)
+
+returns : tie.Need-returns
+returns c = λ room. record { fault = c .if1 .taken; first = clear-one (c .before .before .args .packet .now) room }
+
+shared-slice-read-word : tie.Need-shared-slice-read-word
+shared-slice-read-word c = search needs
+
+shared-slice-read-word-2 : tie.Need-shared-slice-read-word-2
+shared-slice-read-word-2 c = search needs
+
+shared-slice-read-word-3 : tie.Need-shared-slice-read-word-3
+shared-slice-read-word-3 c = search needs
+
+shared-slice-read-word-4 : tie.Need-shared-slice-read-word-4
+shared-slice-read-word-4 c = search needs
+
+word-requires : tie.Need-word-requires
+word-requires c κs = search needs
+
+mend-requires : tie.Need-mend-requires
+mend-requires c κs = search needs
+
+enum-known-mending : tie.Need-enum-known-mending
+enum-known-mending c = search needs
+
+enum-told : tie.Need-enum-told
+enum-told c = search needs
+
+returns-2 : tie.Need-returns-2
+returns-2 c = λ room.
+    let m = c .before .before in
+    record {
+      fault = hopeless-far (received (packet-at (m .before))) (m .before .word .result) (m .mend .result) (word-is (m .before)) (m .mend .ensures) (c .enum-told .given .1);
+      first = clear-two (packet-at (m .before)) room (four (m .before));
+    }
+
+from-bits-requires : tie.Need-from-bits-requires
+from-bits-requires c κs = search needs
+
+typing-requires : tie.Need-typing-requires
+typing-requires c κs = search needs
+
+enum-known-typing : tie.Need-enum-known-typing
+enum-known-typing c = search needs
+
+enum-told-2 : tie.Need-enum-told-2
+enum-told-2 c = search needs
+
+returns-3 : tie.Need-returns-3
+returns-3 c = λ room.
+    let t = c .before .before in
+    let k = t .before .before in
+    let w = k .before .before .before .before in
+    record {
+      fault = (
+        bits-at k,
+        near-at k .0,
+        typed-foreign (bits-at k) (t .before .from-bits .result) (t .typing .result) (t .before .from-bits .ensures) (t .typing .ensures) (c .enum-told2 .given .1),
+      );
+      first = clear-three (packet-at w) room (bits-at k) (near-at k .0) (four w);
+    }
+
+-- ---- from here on the format is known
+
+abbrev told-at : tie.After-known-told2 → tie.After-known-told
+told-at c = c .before .before .before .before .before
+
+typed-at : (c : tie.After-known-told2) → Typed (fieldsIn (bits-at (told-at c))) (c .before .typing2 .given .0 .0)
+typed-at c =
+    let t = c .before .before .before in
+    typed-ours (bits-at (told-at c)) (t .before .from-bits .result) (t .typing .result) (c .before .typing2 .given .0 .0) (t .before .from-bits .ensures)
+    (t .typing .ensures) (c .before .typing2 .given .1)
+
+long-at : (c : tie.After-known-told2) → c .before .before .before .before .from-bits .result .length ≡ lengthIn (bits-at (told-at c))
+long-at c = length-is (bits-at (told-at c)) (c .before .before .before .before .from-bits .result) (c .before .before .before .before .from-bits .ensures)
+
+abbrev word-at : tie.After-known-told2 → tie.After-word
+word-at c = told-at c .before .before .before .before
+
+cast-length : tie.Need-cast-length
+cast-length c = search needs
+
+returns-4 : tie.Need-returns-4
+returns-4 c = λ room.
+    let k = c .before .before in
+    let h = bits-at (told-at k) in
+    let near = near-at (told-at k) .0 in
+    record {
+      fault = (h, near, inl (sym (long-at k) ∙ c .if2 .taken));
+      first = clear-four (packet-at (word-at k)) room h near (four (word-at k)) (k .before .typing2 .given .0 .0) (typed-at k);
+    }
+
+cast-if3 : tie.Need-cast-if3
+cast-if3 c = search needs
+
+returns-5 : tie.Need-returns-5
+returns-5 c = λ room.
+    let k = c .before .before .before in
+    let h = bits-at (told-at k) in
+    let near = near-at (told-at k) .0 in
+    record {
+      fault = (h, near, inr (omega (arith, long-at k, c .if3 .taken)));
+      first = clear-four (packet-at (word-at k)) room h near (four (word-at k)) (k .before .typing2 .given .0 .0) (typed-at k);
+    }
+
+add-if4 : tie.Need-add-if4
+add-if4 c = search needs
+
+returns-6 : tie.Need-returns-6
+returns-6 c = λ room.
+    let k = c .before .before .before .before in
+    let h = bits-at (told-at k) in
+    let near = near-at (told-at k) .0 in
+    record {
+      fault = (h, near, omega (arith, long-at k, c .if4 .taken));
+      first =
+          clear-five (packet-at (word-at k)) room h near (four (word-at k)) (k .before .typing2 .given .0 .0) (typed-at k)
+          (omega (arith, long-at k, c .before .before .if2 .left)) (omega (arith, long-at k, c .before .if3 .left));
+    }
+
+returns-7 : tie.Need-returns-7
+unfolding fieldsIn
+returns-7 c =
+    let k = c .before .before .before .before in
+    let h = bits-at (told-at k) in
+    record {
+      header = h;
+      near = near-at (told-at k) .0;
+      typed = typed-at k;
+      some = omega (arith, long-at k, c .before .before .if2 .left);
+      few = omega (arith, long-at k, c .before .if3 .left);
+      whole = omega (arith, long-at k, c .if4 .left);
+      sync = ap (λ (f : Header). f .sync) (k .before .before .before .before .from-bits .ensures);
+      mended = near-at (told-at k) .1;
+      long = long-at k;
+    }
+
+pub open-spec : {M : Type 1} → statement M
+open-spec =
+    tie.close
+    (tie.spec
+    returns
+    shared-slice-read-word
+    shared-slice-read-word-2
+    shared-slice-read-word-3
+    shared-slice-read-word-4
+    word-requires
+    mend-requires
+    enum-known-mending
+    enum-told
+    returns-2
+    from-bits-requires
+    typing-requires
+    enum-known-typing
+    enum-told-2
+    returns-3
+    cast-length
+    returns-4
+    cast-if3
+    returns-5
+    add-if4
+    returns-6
+    returns-7)

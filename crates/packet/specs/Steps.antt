@@ -1,0 +1,43 @@
+-- What the reader's and the writer's steps answer on the way.
+-- Assumes nothing.
+use mathlib.Core.List.{List, _++_}
+use mathlib.Core.Path.{_≡_}
+use Prim.Native.Nat.{ℕ, _+_, _≤_, _<_}
+use lib.ListN.{length, drop}
+use Rattle.header.specs.declared.Format.{Format}
+use Rattle.header.specs.Fields.{fieldsIn}
+use Rattle.header.specs.Typed.{Typed}
+use Rattle.header.specs.Valid.{lengthIn}
+use Rattle.mending.specs.Mends.{Near, distance}
+use Rattle.packet.specs.declared.Head.{Head}
+use Rattle.packet.specs.declared.Head.the-variants.{Found, Refused}
+use Rattle.packet.specs.declared.Opened.{Opened}
+use Rattle.packet.specs.declared.Taken.{Taken}
+use Rattle.packet.specs.declared.Taken.the-variants.{Text, Malformed, NoRoom}
+use Rattle.packet.specs.Data.{Carries, Unreadable}
+use Rattle.packet.specs.Packet.{longest, received}
+use Rattle.packet.specs.Reader.{Refuses}
+
+-- tests 1 to 5 are passed: the header that the packet is read as
+pub record Headed (packet : List ℕ) (opened : Opened) : Type 0 where
+  pub header : ℕ
+  pub near : Near 2 (received packet) header
+  pub typed : Typed (fieldsIn header) (opened .format)
+  pub some : 1 ≤ lengthIn header
+  pub few : lengthIn header ≤ longest
+  pub whole : lengthIn header + 6 ≤ length packet
+  pub sync : opened .sync ≡ fieldsIn header .sync
+  pub mended : opened .mended ≡ distance (received packet) header
+  pub long : opened .length ≡ lengthIn header
+
+abbrev pub Heads : List ℕ → Head → Type 0
+Heads packet (Found opened) = Headed packet opened
+Heads packet (Refused refusal) = (room : ℕ) → Refuses packet room refusal
+
+-- tests 7 and 8, and the text in the buffer where they are passed
+abbrev pub Takes : Format → List ℕ → List ℕ → Taken → List ℕ → Type 0
+Takes format sent entry (Text n) exit =
+    (text : List ℕ) × Carries format text sent × (length text ≤ length entry) × (n ≡ length text) × (exit ≡ text ++ drop (length text) entry)
+Takes format sent entry (Malformed bit) exit = Unreadable format sent bit × (exit ≡ entry)
+Takes format sent entry (NoRoom needed) exit =
+    ((text : List ℕ) × Carries format text sent × (length text ≡ needed) × (length entry < needed)) × (exit ≡ entry)
