@@ -1,7 +1,8 @@
 -- A header is of one format at most, so its type bits say one thing.
 -- Assumes nothing.
 use mathlib.Core.Path.{_≡_, refl, sym, ap, _∙_}
-use Prim.Native.Nat.{ℕ, zero, suc}
+use Prim.Native.Nat.{ℕ, zero, suc, _^_, _<_}
+use native.Mathlib.Omega.{arith}
 use Rattle.header.specs.declared.Format.{Format}
 use Rattle.header.specs.declared.Format.the-variants.{Open, PseudoBinary, FullAscii}
 use Rattle.header.specs.declared.Header.{Header}
@@ -23,6 +24,11 @@ from-number FullAscii = refl
 
 pub one-number : (a b : Format) → formatNumber a ≡ formatNumber b → a ≡ b
 one-number a b e = sym (from-number a) ∙ ap formatFrom e ∙ from-number b
+
+pub number-lt : (format : Format) → formatNumber format < 2 ^ 3
+number-lt Open = omega arith
+number-lt PseudoBinary = omega arith
+number-lt FullAscii = omega arith
 
 pub one-format : {f : Header} {a b : Format} → Typed f a → Typed f b → a ≡ b
 one-format {f} {a} {b} s t = one-number a b (sym (s .extended) ∙ t .extended)

@@ -14,6 +14,11 @@ formatNumber Open = 0
 formatNumber PseudoBinary = 1
 formatNumber FullAscii = 4
 
+-- the format of a number, or that there is none
+abbrev pub Names : ℕ → Typing → Type 0
+Names number (Ours format) = formatNumber format ≡ number
+Names number Foreign = (format : Format) → formatNumber format ≡ number → ⊥
+
 -- the header is of this format: the spare bit 0, type binary, and the format's extended type
 pub record Typed (f : Header) (format : Format) : Type 0 where
   pub spare : f .spare ≡ false

@@ -4,7 +4,7 @@ ghost use Prim.Native.Nat.{_<_, _^_};
 ghost use Rattle.bits.specs.Says.{Says};
 ghost use Rattle.header.specs.Check.{checkOf};
 ghost use Rattle.header.specs.Fields.{fieldsIn, headerOf, sentFields, Fit, lowFlag, oneIf, wordOf};
-ghost use Rattle.header.specs.Typed.{Types};
+ghost use Rattle.header.specs.Typed.{formatNumber, Names, Types};
 ghost use Rattle.header.specs.Valid.{Valid};
 
 // The formats that we read and write.
@@ -86,11 +86,29 @@ impl Header {
         if message != Header::BINARY {
             return Typing::Foreign;
         }
-        match extended {
+        Header::named(extended)
+    }
+
+    // The format of a number, which is its extended type.
+    pub fn named(number: u8) -> Typing
+        ensures { λ r. ⌜ Names number r ⌝ }
+    {
+        match number {
             Header::OPEN => Typing::Ours(Format::Open),
             Header::PSEUDO_BINARY => Typing::Ours(Format::PseudoBinary),
             Header::FULL_ASCII => Typing::Ours(Format::FullAscii),
             _ => Typing::Foreign,
+        }
+    }
+
+    // The number of a format.
+    pub fn number(format: Format) -> u8
+        ensures { λ r. ⌜ r ≡ formatNumber format ⌝ }
+    {
+        match format {
+            Format::Open => Header::OPEN,
+            Format::PseudoBinary => Header::PSEUDO_BINARY,
+            Format::FullAscii => Header::FULL_ASCII,
         }
     }
 

@@ -1,8 +1,10 @@
 -- A refusal is its number and its value, and the first match is one.
 -- Assumes nothing.
-use mathlib.Core.Path.{_≡_, refl, sym, ap, _∙_}
+use mathlib.Core.Logic.{⊎-elim}
+use mathlib.Core.Path.{_≡_, refl, sym, ap, _∙_, subst}
 use Prim.Native.Nat.{ℕ, zero, suc, _<_}
 use native.Mathlib.Decide.{decLt}
+use native.Mathlib.Nat.{eq-or-lt-of-le, le-of-suc-le-suc}
 use native.Mathlib.Omega.{arith}
 use Rattle.packet.specs.declared.Refusal.{Refusal}
 use Rattle.packet.specs.declared.Refusal.the-variants.{Short, NoHeader, OtherType, OtherLength, CutOff, Checksum, Malformed, NoRoom, NoCode, Empty, TooLong, OtherFormat}
@@ -56,3 +58,17 @@ first-one Fault turn same r s p q = same r s (pick (decLt (turn r) (turn s)) (de
     pick (yes lt) d = absurd (q .first r lt (p .fault))
     pick (no ge) (yes lt) = absurd (p .first s lt (q .fault))
     pick (no ge) (no le) = omega arith
+
+-- ---- tests in turn
+
+-- no condition of an earlier turn holds
+abbrev pub Clear : (Refusal → Type 0) → (Refusal → ℕ) → ℕ → Type 0
+Clear Fault turn k = (other : Refusal) → turn other < k → Fault other → ⊥
+
+-- one test more that is passed, where a refusal is told by its turn and its value
+pub clear-next : (Fault : Refusal → Type 0) (turn : Refusal → ℕ) (from : ℕ → ℕ → Refusal)
+    → ((r : Refusal) → Fault r → r ≡ from (turn r) (valueOf r))
+    → (k : ℕ) → Clear Fault turn k → ((v : ℕ) → Fault (from k v) → ⊥) → Clear Fault turn (suc k)
+clear-next Fault turn from told k clear none other lt f =
+    ⊎-elim (λ e. none (valueOf other) (subst Fault (told other f ∙ ap (λ (n : ℕ). from n (valueOf other)) e) f)) (λ less. clear other less f)
+    (eq-or-lt-of-le (le-of-suc-le-suc lt))

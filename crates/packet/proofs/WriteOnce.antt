@@ -28,21 +28,22 @@ uncoded-one format text i j a b = pick (decLt i j) (decLt j i)
     pick (no ge) (yes lt) = absurd (b .none (a .before j lt))
     pick (no ge) (no le) = omega arith
 
+-- the number of the refusal of each of the writer's turns
+unfoldable pub turnNumber : ℕ → ℕ
+turnNumber zero = 12
+turnNumber (suc zero) = 10
+turnNumber (suc (suc zero)) = 9
+turnNumber (suc (suc (suc zero))) = 11
+turnNumber (suc (suc (suc (suc n)))) = 8
+
 module _ (number : ℕ) (text : List ℕ) (room : ℕ) where
   -- the condition of a refusal, of the format that is named
-  named : (A : Format → Type 0) (format : Format) → formatNumber format ≡ number → Named number A → A format
+  pub named : (A : Format → Type 0) (format : Format) → formatNumber format ≡ number → Named number A → A format
   named A format e (other, e′, a) = subst A (one-number other format (e′ ∙ sym e)) a
 
   -- ---- a refusal of one turn is one
 
-  turnNumber : ℕ → ℕ
-  turnNumber zero = 12
-  turnNumber (suc zero) = 10
-  turnNumber (suc (suc zero)) = 9
-  turnNumber (suc (suc (suc zero))) = 11
-  turnNumber (suc (suc (suc (suc n)))) = 8
-
-  numbered : (r : Refusal) → WriteFault number text room r → numberOf r ≡ turnNumber (writerTurn r)
+  pub numbered : (r : Refusal) → WriteFault number text room r → numberOf r ≡ turnNumber (writerTurn r)
   unfolding turnNumber
   numbered OtherFormat f = refl
   numbered Empty f = refl

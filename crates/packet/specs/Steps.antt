@@ -12,9 +12,13 @@ use Rattle.mending.specs.Mends.{Near, distance}
 use Rattle.packet.specs.declared.Head.{Head}
 use Rattle.packet.specs.declared.Head.the-variants.{Found, Refused}
 use Rattle.packet.specs.declared.Opened.{Opened}
+use Rattle.packet.specs.declared.Needed.{Needed}
+use Rattle.packet.specs.declared.Needed.the-variants.{Bytes, TooMany}
+use Rattle.packet.specs.declared.Uncoded.{Uncoded as UncodedAt}
+use Rattle.packet.specs.declared.Uncoded.the-variants.{At, Nowhere}
 use Rattle.packet.specs.declared.Taken.{Taken}
 use Rattle.packet.specs.declared.Taken.the-variants.{Text, Malformed, NoRoom}
-use Rattle.packet.specs.Data.{Carries, Unreadable}
+use Rattle.packet.specs.Data.{Carries, Unreadable, Coded, Uncoded, dataOf}
 use Rattle.packet.specs.Packet.{longest, received}
 use Rattle.packet.specs.Reader.{Refuses}
 
@@ -41,3 +45,28 @@ Takes format sent entry (Text n) exit =
 Takes format sent entry (Malformed bit) exit = Unreadable format sent bit × (exit ≡ entry)
 Takes format sent entry (NoRoom needed) exit =
     ((text : List ℕ) × Carries format text sent × (length text ≡ needed) × (length entry < needed)) × (exit ≡ entry)
+
+-- ---- the writer's
+
+-- the first character that has no code, or that each has one
+abbrev pub Searches : Format → List ℕ → UncodedAt → Type 0
+Searches format text (At index) = Uncoded format text index
+Searches format text Nowhere = Coded format text (length text)
+
+-- how many bytes the writer's data has, or that they are too many
+abbrev pub Needs : Format → List ℕ → Needed → Type 0
+Needs format text (Bytes n) = (n ≡ length (dataOf format text)) × (n ≤ longest)
+Needs format text TooMany = longest < length (dataOf format text)
+
+-- the text has codes, its data is not too long, and there is room for it
+pub record Fits (format : Format) (text : List ℕ) (room : ℕ) : Type 0 where
+  pub coded : Coded format text (length text)
+  pub few : length (dataOf format text) ≤ longest
+  pub held : length (dataOf format text) ≤ room
+
+-- the whole packet fits, with n data bytes
+pub record Laid (format : Format) (text : List ℕ) (n room : ℕ) : Type 0 where
+  pub coded : Coded format text (length text)
+  pub long : n ≡ length (dataOf format text)
+  pub few : n ≤ longest
+  pub held : n + 6 ≤ room

@@ -3,10 +3,17 @@ use header::Format;
 use header::Header;
 use header::Typing;
 use mending::Mending;
-ghost use Prim.Native.Nat.{_≤_};
-ghost use lib.ListN.{length};
+ghost use mathlib.Core.List.{_++_};
+ghost use mathlib.Core.Path.{_≡_};
+ghost use Prim.Native.Nat.{_+_, _≤_};
+ghost use lib.ListN.{length, take, drop};
+ghost use Rattle.header.specs.Fields.{bytesOf};
+ghost use Rattle.checksum.specs.Checksum.{sent};
+ghost use Rattle.packet.specs.Data.{Coded, dataOf};
+ghost use Rattle.packet.specs.Packet.{longest};
 ghost use Rattle.packet.specs.Reader.{Reads};
-ghost use Rattle.packet.specs.Steps.{Heads, Headed, Takes};
+ghost use Rattle.packet.specs.Writer.{Writes, ourPacket};
+ghost use Rattle.packet.specs.Steps.{Heads, Headed, Takes, Searches, Needs, Fits, Laid};
 
 // Why a packet is not read, or a text not written; the paper's numbers are in specs/Refusals.antt.
 pub enum Refusal {
@@ -64,6 +71,18 @@ enum Taken {
     NoRoom(usize),
 }
 
+// The index of the first character that has no code, if there is one.
+enum Uncoded {
+    At(usize),
+    Nowhere,
+}
+
+// How many data bytes a text takes, if one packet holds so many.
+enum Needed {
+    Bytes(usize),
+    TooMany,
+}
+
 // Tests 1 to 5: the header that the packet is read as, its type and length, and bytes enough.
 fn open(packet: &[u8]) -> Head
     ensures { λ r. ⌜ Heads (now (packet .entry)) r ⌝ }
@@ -97,4 +116,129 @@ fn open(packet: &[u8]) -> Head
         mended,
         length,
     })
+}
+
+// Tests 7 and 8; the text in the buffer where they are passed.
+fn take(format: Format, data: &[u8], text: &mut [u8]) -> Taken
+    requires { ⌜ length (now «data») ≤ longest ⌝ }
+    ensures { λ r. ⌜ Takes format (now («data» .entry)) (now (text .entry)) r (now (text .exit)) ⌝ }
+{
+    Taken::Malformed(0)
+}
+
+// Tests 6 to 8, under a header that is found.
+fn read_data(opened: Opened, packet: &[u8], text: &mut [u8]) -> ReadAnswer
+    requires { ⌜ Headed (now packet) opened ⌝ }
+    ensures { λ r. ⌜ Reads (now (packet .entry)) (now (text .entry)) r (now (text .exit)) ⌝ }
+{
+    let format = opened.format;
+    let length = opened.length;
+    let end = length + 4;
+    if !checksum::agrees(&packet[4..end], packet[end], packet[end + 1]) {
+        return ReadAnswer::Refused(Refusal::Checksum);
+    }
+    let taken = take(format, &packet[4..end], text);
+    match taken {
+        Taken::Text(n) => ReadAnswer::Accepted(Reading {
+            format,
+            sync: opened.sync,
+            mended: opened.mended,
+            data_length: length,
+            text_length: n,
+            used: length + 6,
+        }),
+        Taken::Malformed(bit) => ReadAnswer::Refused(Refusal::Malformed(bit)),
+        Taken::NoRoom(needed) => ReadAnswer::Refused(Refusal::NoRoom(needed)),
+    }
+}
+
+// Reads the packet at the front of a slice into a text buffer. Bytes after the packet's checksum are not looked at.
+pub fn read(packet: &[u8], text: &mut [u8]) -> ReadAnswer
+    ensures { λ r. ⌜ Reads (now (packet .entry)) (now (text .entry)) r (now (text .exit)) ⌝ }
+{
+    let head = open(packet);
+    match head {
+        Head::Found(opened) => read_data(opened, packet, text),
+        Head::Refused(refusal) => ReadAnswer::Refused(refusal),
+    }
+}
+
+fn first_uncoded(format: Format, text: &[u8]) -> Uncoded
+    ensures { λ r. ⌜ Searches format (now (text .entry)) r ⌝ }
+{
+    Uncoded::Nowhere
+}
+
+fn data_length(format: Format, text: &[u8]) -> Needed
+    requires { ⌜ Coded format (now text) (length (now text)) ⌝ }
+    ensures { λ r. ⌜ Needs format (now (text .entry)) r ⌝ }
+{
+    Needed::TooMany
+}
+
+// The data of a text, at the front of the part of the packet that is lent.
+fn pack(format: Format, text: &[u8], data: &mut [u8])
+    requires { ⌜ Fits format (now text) (length (now «data»)) ⌝ }
+    ensures { λ r. ⌜ now («data» .exit) ≡ dataOf format (now (text .entry)) ++ drop (length (dataOf format (now (text .entry)))) (now («data» .entry)) ⌝ }
+{}
+
+// The four bytes of a header, at the front of the packet.
+fn put_header(header: u32, packet: &mut [u8])
+    requires { ⌜ 4 ≤ length (now packet) ⌝ }
+    ensures { λ r. ⌜ now (packet .exit) ≡ bytesOf header ++ drop 4 (now (packet .entry)) ⌝ }
+{
+    packet[0] = (header / 0x100_0000 % 256) as u8;
+    packet[1] = (header / 0x1_0000 % 256) as u8;
+    packet[2] = (header / 0x100 % 256) as u8;
+    packet[3] = (header % 256) as u8;
+}
+
+// The two checksum bytes of the n data bytes, behind them.
+fn put_sum(n: usize, packet: &mut [u8])
+    requires { ⌜ (n ≤ longest) × (n + 6 ≤ length (now packet)) ⌝ }
+    ensures { λ r. ⌜ now (packet .exit) ≡ take (n + 4) (now (packet .entry)) ++ (sent (take n (drop 4 (now (packet .entry)))) ++ drop (n + 6) (now (packet .entry))) ⌝ }
+{
+    let end = n + 4;
+    let sum = checksum::checksum(&packet[4..end]);
+    packet[end] = checksum::low_byte(sum);
+    packet[end + 1] = checksum::high_byte(sum);
+}
+
+// The packet of a text: its data from byte 4 on, the checksum over that part behind it, and the header in front.
+fn put_packet(format: Format, sync: bool, text: &[u8], n: usize, packet: &mut [u8])
+    requires { ⌜ Laid format (now text) n (length (now packet)) ⌝ }
+    ensures { λ r. ⌜ now (packet .exit) ≡ ourPacket format sync (now (text .entry)) ++ drop (n + 6) (now (packet .entry)) ⌝ }
+{
+    pack(format, text, &mut packet[4..]);
+    put_sum(n, packet);
+    put_header(
+        Header::from_fields(Header::number(format), sync, n as u16).to_bits(),
+        packet,
+    );
+}
+
+// Writes a text as a packet into a packet buffer.
+pub fn write(format: u8, sync: bool, text: &[u8], packet: &mut [u8]) -> WriteAnswer
+    ensures { λ r. ⌜ Writes format sync (now (text .entry)) (now (packet .entry)) r (now (packet .exit)) ⌝ }
+{
+    let typing = Header::named(format);
+    let Typing::Ours(named) = typing else {
+        return WriteAnswer::Refused(Refusal::OtherFormat);
+    };
+    if text.len() == 0 {
+        return WriteAnswer::Refused(Refusal::Empty);
+    }
+    let uncoded = first_uncoded(named, text);
+    if let Uncoded::At(index) = uncoded {
+        return WriteAnswer::Refused(Refusal::NoCode(index));
+    }
+    let needed = data_length(named, text);
+    let Needed::Bytes(n) = needed else {
+        return WriteAnswer::Refused(Refusal::TooLong);
+    };
+    if packet.len() < n + 6 {
+        return WriteAnswer::Refused(Refusal::NoRoom(n + 6));
+    }
+    put_packet(named, sync, text, n, packet);
+    WriteAnswer::Written(n + 6)
 }

@@ -1,13 +1,20 @@
 -- `header::Header::typing` meets its contract.
 -- Assumes nothing.
-use mathlib.Core.Path.{sym, _∙_, subst}
+use mathlib.Core.Bool.{false}
+use mathlib.Core.Path.{_≡_, sym, _∙_, subst}
 use borrow.Author.Needs.{needs}
 use lib.Dec.{T}
-use Rattle.header.specs.declared.Format.{Format}
-use Rattle.header.specs.declared.Format.the-variants.{Open, PseudoBinary, FullAscii}
-use Rattle.header.specs.Typed.{Typed}
+use Rattle.header.specs.declared.Header.{Header}
+use Rattle.header.specs.declared.Typing.{Typing}
+use Rattle.header.specs.declared.Typing.the-variants.{Ours, Foreign}
+use Rattle.header.specs.Typed.{Names, Types}
 use Rattle.header.proofs.Header.typing.Statement.{statement}
 use Rattle.header.proofs.Header.typing.Tie as tie
+
+-- of a binary header with no spare bit, the extended type decides
+types : (f : Header) (r : Typing) → f .spare ≡ false → f .message ≡ 2 → Names (f .extended) r → Types f r
+types f (Ours format) spare message named = record { spare = spare; message = message; extended = sym named }
+types f Foreign spare message named = λ format t. named format (sym (t .extended))
 
 returns : tie.Need-returns
 returns c format t = subst T (sym (c .if1 .taken) ∙ t .spare) tt
@@ -15,22 +22,11 @@ returns c format t = subst T (sym (c .if1 .taken) ∙ t .spare) tt
 returns-2 : tie.Need-returns-2
 returns-2 c = search needs
 
+named-requires : tie.Need-named-requires
+named-requires c κs = search needs
+
 returns-3 : tie.Need-returns-3
-returns-3 c = search needs
-
-returns-4 : tie.Need-returns-4
-returns-4 c = search needs
-
-returns-5 : tie.Need-returns-5
-returns-5 c = search needs
-
-foreign : (c : tie.At-match-rest) (format : Format) → Typed (c .before .before .before .args .self) format → ⊥
-foreign c Open t = c .match .rest .0 .0 .1 (t .extended)
-foreign c PseudoBinary t = c .match .rest .0 .1 (t .extended)
-foreign c FullAscii t = c .match .rest .1 (t .extended)
-
-returns-6 : tie.Need-returns-6
-returns-6 c = foreign c
+returns-3 c = types (c .before .before .before .args .self) (c .named .result) (c .before .before .if1 .left) (c .before .if2 .left) (c .named .ensures)
 
 pub typing-spec : {M : Type 1} → statement M
-typing-spec = tie.close (tie.spec returns returns-2 returns-3 returns-4 returns-5 returns-6)
+typing-spec = tie.close (tie.spec returns returns-2 named-requires returns-3)

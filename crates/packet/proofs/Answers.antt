@@ -1,0 +1,93 @@
+-- What the reader answers under a header that is found, by what its checksum and its data say.
+-- Assumes nothing.
+use mathlib.Core.Bool.{Bool}
+use mathlib.Core.List.{List, [], _∷_}
+use mathlib.Core.Path.{_≡_, ap, ap₂, subst₂}
+use Prim.Native.Nat.{ℕ, _+_, _-_, _≤_, _<_}
+use native.Mathlib.Omega.{arith}
+use lib.ListN.{length, getD, take, drop}
+use Rattle.bits.specs.Says.{Says}
+use Rattle.header.specs.Valid.{lengthIn}
+use Rattle.checksum.specs.Checksum.{sent}
+use Rattle.packet.specs.declared.Refusal.the-variants.{Checksum, Malformed, NoRoom}
+use Rattle.packet.specs.declared.Reading.{Reading}
+use Rattle.packet.specs.declared.Opened.{Opened}
+use Rattle.packet.specs.Data.{Carries, Unreadable}
+use Rattle.packet.specs.Packet.{dataIn, sumIn}
+use Rattle.packet.specs.Reader.{Refuses, Accepts}
+use Rattle.packet.specs.Steps.{Headed}
+use Rattle.packet.proofs.Stages.{clear-six, clear-seven, clear-eight}
+
+-- ---- the parts of the packet as the code takes them
+
+module _ (packet : List ℕ) (opened : Opened) (h : Headed packet opened) where
+  pub part-is : take (opened .length + 4 - 4) (drop 4 packet) ≡ dataIn (h .header) packet
+  unfolding dataIn
+  part-is = ap (λ (n : ℕ). take n (drop 4 packet)) (let same : opened .length + 4 - 4 ≡ lengthIn (h .header) = omega (arith, h .long) in same)
+
+  sum-is : getD packet (opened .length + 4) 0 ∷ getD packet (opened .length + 4 + 1) 0 ∷ [] ≡ sumIn (h .header) packet
+  unfolding sumIn
+  sum-is =
+      ap₂ (λ (i j : ℕ). getD packet i 0 ∷ getD packet j 0 ∷ [])
+      (let low : opened .length + 4 ≡ 4 + lengthIn (h .header) = omega (arith, h .long) in low)
+      (let high : opened .length + 4 + 1 ≡ 5 + lengthIn (h .header) = omega (arith, h .long) in high)
+
+  -- what the test of the checksum says
+  pub tested : (answer : Bool)
+      → Says answer (getD packet (opened .length + 4) 0 ∷ getD packet (opened .length + 4 + 1) 0 ∷ [] ≡ sent (take (opened .length + 4 - 4) (drop 4 packet)))
+      → Says answer (sumIn (h .header) packet ≡ sent (dataIn (h .header) packet))
+  tested answer says = subst₂ (λ (x y : List ℕ). Says answer (x ≡ sent y)) sum-is part-is says
+
+  -- ---- the answers
+
+  module _ (room : ℕ) where
+    pub refused-sum : (sumIn (h .header) packet ≡ sent (dataIn (h .header) packet) → ⊥) → Refuses packet room Checksum
+    refused-sum bad =
+        record {
+          fault = (h .header, h .near, bad);
+          first = clear-six packet room (h .header) (h .near) (opened .format) (h .typed) (h .some) (h .few) (h .whole);
+        }
+
+    module _ (summed : sumIn (h .header) packet ≡ sent (dataIn (h .header) packet)) where
+      pub refused-place : (bit : ℕ) → Unreadable (opened .format) (dataIn (h .header) packet) bit → Refuses packet room (Malformed bit)
+      refused-place bit stuck =
+          record {
+            fault = (h .header, h .near, (opened .format, h .typed, stuck));
+            first = clear-seven packet room (h .header) (h .near) (opened .format) (h .typed) (h .some) (h .few) (h .whole) summed;
+          }
+
+      pub refused-room : (needed : ℕ) (text : List ℕ) → Carries (opened .format) text (dataIn (h .header) packet) → length text ≡ needed
+          → room < needed → Refuses packet room (NoRoom needed)
+      refused-room needed text carries long short =
+          record {
+            fault = (h .header, h .near, (opened .format, h .typed, (text, carries, long, short)));
+            first = clear-eight packet room (h .header) (h .near) (opened .format) (h .typed) (h .some) (h .few) (h .whole) summed text carries;
+          }
+
+      pub accepted : (n : ℕ) (text : List ℕ) → Carries (opened .format) text (dataIn (h .header) packet) → length text ≤ room → n ≡ length text
+          → Accepts packet room
+          (record {
+            format = opened .format;
+            sync = opened .sync;
+            mended = opened .mended;
+            «data_length» = opened .length;
+            «text_length» = n;
+            used = opened .length + 6;
+          }) text
+      accepted n text carries held long =
+          record {
+            header = h .header;
+            near = h .near;
+            typed = h .typed;
+            some = h .some;
+            few = h .few;
+            whole = h .whole;
+            summed = summed;
+            carries = carries;
+            held = held;
+            sync = h .sync;
+            mended = h .mended;
+            data-length = h .long;
+            text-length = long;
+            used = ap (λ (m : ℕ). m + 6) (h .long);
+          }
