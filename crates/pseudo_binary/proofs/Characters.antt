@@ -59,7 +59,7 @@ pub characterOf-value : (v : ℕ) → v < 64 → of values (characterOf v) ≡ t
 unfolding of characterOf
 characterOf-value v h = simp (le-leb 64 (64 + v) (omega arith), le-leb (64 + v) 127 (omega arith))
 
--- a character is the only one of its value
+-- a character is the one of its value
 pub valueOf-back : (c : ℕ) → of values c ≡ true → characterOf (valueOf c) ≡ c
 unfolding characterOf valueOf
 valueOf-back c x = let r : (64 ≤ c) × (c ≤ 127) = value-range c x in omega arith

@@ -15,7 +15,7 @@ use Rattle.codes.proofs.Least.{Cost, least}
 use Rattle.codes.proofs.Pack.{length-written, built-length}
 use Rattle.pseudo_binary.specs.Table.{SPACE, SLASH, Kind, values, spaces, slashes, of, characterOf, indicator, most, six, tables}
 use Rattle.pseudo_binary.specs.Writer.{ours}
-use Rattle.pseudo_binary.specs.Size.{wide, each, bitsAfter, ourBits}
+use Rattle.pseudo_binary.specs.Size.{width, each, bitsAfter, ourBits}
 use Rattle.pseudo_binary.proofs.Characters.{Alike, alike-replicate, of-kind, characterOf-value}
 use Rattle.pseudo_binary.proofs.Entries.{pred-most, indicator-of, six-of, after-six}
 use Rattle.pseudo_binary.proofs.Size.{none-in-hand, opens, counts, no-use, our-bits}
@@ -23,7 +23,7 @@ use Rattle.pseudo_binary.proofs.Size.{none-in-hand, opens, counts, no-u
 -- an indicator that can count more takes no more bits, and one that can count less at most an indicator more
 record Room (k : Kind) (t : List ℕ) : Type 0 where
   more : (n m : ℕ) → m ≤ n → bitsAfter k n t ≤ bitsAfter k m t
-  less : (n m : ℕ) → m ≤ most k → bitsAfter k n t ≤ wide k + bitsAfter k m t
+  less : (n m : ℕ) → m ≤ most k → bitsAfter k n t ≤ width k + bitsAfter k m t
 
 room-cons : (k : Kind) (c : ℕ) (t : List ℕ) → Room k t → (b : Bool) → of k c ≡ b → Room k (c ∷ t)
 room-cons k c t r false x = record {
@@ -32,7 +32,7 @@ room-cons k c t r false x = record {
 }
 room-cons k c t r true x = record { more = more; less = less }
   where
-    fresh : bitsAfter k 0 (c ∷ t) ≡ wide k + (each k + bitsAfter k (pred (most k)) t)
+    fresh : bitsAfter k 0 (c ∷ t) ≡ width k + (each k + bitsAfter k (pred (most k)) t)
     fresh = none-in-hand k (c ∷ t) ∙ opens k c t (of-kind k c x)
 
     more : (n m : ℕ) → m ≤ n → bitsAfter k n (c ∷ t) ≤ bitsAfter k m (c ∷ t)
@@ -41,7 +41,7 @@ room-cons k c t r true x = record { more = more; less = less }
     more (suc n) zero h = omega (arith, fresh, counts k n c t x, r .less n (pred (most k)) (omega (arith, pred-most k)))
     more (suc n) (suc m) h = omega (arith, counts k n c t x, counts k m c t x, r .more n m (omega arith))
 
-    less : (n m : ℕ) → m ≤ most k → bitsAfter k n (c ∷ t) ≤ wide k + bitsAfter k m (c ∷ t)
+    less : (n m : ℕ) → m ≤ most k → bitsAfter k n (c ∷ t) ≤ width k + bitsAfter k m (c ∷ t)
     less zero zero h = omega arith
     less zero (suc m) h = omega (arith, fresh, counts k m c t x, r .more (pred (most k)) m (omega (arith, pred-most k)))
     less (suc n) zero h = omega (arith, fresh, counts k n c t x, r .less n (pred (most k)) (omega (arith, pred-most k)))
@@ -60,7 +60,7 @@ counted-cost k (suc n) (c ∷ r) t a h =
 
 -- putting one indicator with what it counts in front costs at most its code
 pub indicator-cost : (k : Kind) (r t : List ℕ) → Alike k r → 0 < length r → length r ≤ most k
-    → ourBits (r ++ t) ≤ wide k + (each k * length r + ourBits t)
+    → ourBits (r ++ t) ≤ width k + (each k * length r + ourBits t)
 indicator-cost k [] t a p h = absurd (let no : ⊥ = omega arith in no)
 indicator-cost k (c ∷ r) t a p h =
     simp unary-clauses
@@ -104,7 +104,7 @@ still-announced m t l =
     ap (λ (u : List ℕ). 6 * m + ourBits u) (ap (drop m) (l .all) ∙ drop-at (l .front) (l .rest) m (l .many))
 
 values-still : (c : ℕ) (t : List ℕ) → c < most values → Announced (suc c) t → ourBits t ≤ 8 + still (suc c) t
-unfolding wide each most
+unfolding width each most
 values-still c t h l =
     omega (
       arith,
@@ -115,14 +115,14 @@ values-still c t h l =
     )
 
 repeat-still : (k : Kind) (x c : ℕ) (t : List ℕ) → of k x ≡ true → c < most k
-    → ourBits (replicate (suc c) x ++ t) ≤ wide k + (each k * suc c + ourBits t)
+    → ourBits (replicate (suc c) x ++ t) ≤ width k + (each k * suc c + ourBits t)
 repeat-still k x c t e h =
-    subst (λ (n : ℕ). ourBits (replicate (suc c) x ++ t) ≤ wide k + (each k * n + ourBits t)) (length-replicate (suc c) x)
+    subst (λ (n : ℕ). ourBits (replicate (suc c) x ++ t) ≤ width k + (each k * n + ourBits t)) (length-replicate (suc c) x)
     (indicator-cost k (replicate (suc c) x) t (alike-replicate k x (suc c) e) (omega arith) (omega (arith, length-replicate {A = ℕ} c x)))
 
 indicator-still : (k : Kind) (c : ℕ) (es : List Entry) → c < most k → Row tables (after 0 (indicator k c)) es 0
     → still 0 (indicator k c .says ++ texts es) ≤ length (indicator k c .code) + still (after 0 (indicator k c)) (texts es)
-unfolding still indicator after low wide each most of
+unfolding still indicator after low width each most of
 indicator-still values c es h r =
     simp zero-add (omega (arith, values-still c (texts es) h (values-next (suc c) es (simp zero-add at r))))
 indicator-still spaces c es h r = omega (arith, repeat-still spaces SPACE c (texts es) refl h)
