@@ -12,3 +12,4 @@ pub mod Numbers
 pub mod Single
 pub mod Ahead
 pub mod Passed
+pub mod Within
