@@ -1,9 +1,9 @@
 -- How long a text can be, and where a reading can be stuck.
 -- Assumes nothing.
-use mathlib.Core.Path.{_≡_, ap, subst}
+use mathlib.Core.Path.{ap}
 use mathlib.Core.Bool.{Bool}
-use mathlib.Core.List.{List, [], _∷_, _++_}
-use Prim.Native.Nat.{ℕ, _+_, _*_, _≤_, zero-le}
+use mathlib.Core.List.{List, [], _∷_}
+use Prim.Native.Nat.{ℕ, _*_, _≤_, zero-le}
 use native.Mathlib.Nat.{mul-add, mul-le-mul-left}
 use native.Mathlib.Omega.{arith}
 use lib.Dec.{T, leb, leb→le}

@@ -1,16 +1,15 @@
 -- Any nine bits begin a code: which one, by what number they are.
 -- Assumes nothing.
 use mathlib.Core.Path.{_≡_, refl, sym, ap, subst⁻¹, _∙_}
-use mathlib.Core.List.{List, [], _∷_, _++_, map, Memᴰ·append-left, Memᴰ·append-right, Memᴰ·map, List·Memᴰ·head, List·Memᴰ·tail}
-use Prim.Native.Nat.{ℕ, _+_, _-_, _/_, _≤_, _<_}
+use mathlib.Core.List.{List, [], _++_}
+use Prim.Native.Nat.{ℕ, _+_, _/_, _≤_, _<_}
 use native.Mathlib.Omega.{arith}
 use lib.Dec.{T, lit≤}
-use lib.ListN.{length, replicate}
+use lib.ListN.{length}
 use Rattle.bits.specs.Word.{bit}
 use Rattle.codes.specs.Chain.{Entry, Begins}
-use Rattle.codes.specs.Pack.{low, numbers}
+use Rattle.codes.specs.Pack.{low}
 use Rattle.codes.proofs.Low.{length-low, low-add}
-use Rattle.codes.proofs.Numbers.{numbers-in}
 use Rattle.full_ascii.specs.Table.{HT, LF, CR, six, seven, special, pair}
 use Rattle.full_ascii.specs.Taken.{Takes}
 use Rattle.full_ascii.specs.Writer.{coded, own}

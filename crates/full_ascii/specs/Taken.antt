@@ -1,7 +1,7 @@
 -- A code as the reader takes it out of the bits.
 -- Assumes nothing.
 use mathlib.Core.Path.{_≡_}
-use mathlib.Core.List.{List, [], _∷_}
+use mathlib.Core.List.{[], _∷_}
 use Prim.Native.Nat.{ℕ, _≤_}
 use lib.ListN.{length, take}
 use Rattle.codes.specs.Chain.{Entry, In, Begins}

@@ -1,6 +1,13 @@
 // Compact Full ASCII (001, 4.5): its table and what our writer builds in specs/, their theorems in proofs/.
 
-ghost use Prim.Native.Nat.{_<_, _≤_};
+use codes::Buffer;
+use codes::Measured;
+ghost use Prim.Native.Nat.{_<_, _≤_, _^_};
+ghost use lib.ListN.{length};
+ghost use Rattle.bits.specs.Row.{bits};
+ghost use Rattle.codes.specs.Measure.{Measures};
+ghost use Rattle.codes.specs.Pack.{low};
+ghost use Rattle.full_ascii.specs.Table.{tables};
 ghost use Rattle.full_ascii.specs.Taken.{Takes};
 
 // A code: how many bits it has, and the one or two characters that it says.
@@ -57,5 +64,53 @@ pub fn first_code(w: u64) -> Code
             first: 13,
             second: 10,
         },
+    }
+}
+
+// What the last bits come to, `have` of them.
+fn measure_last(held: u64, have: u64) -> Measured
+    requires { ⌜ have ≤ 64 ⌝ }
+    ensures { λ r. ⌜ Measures tables (low have held) r ⌝ }
+{
+    let mut left = have;
+    let mut n: usize = 0;
+    loop {
+        if codes::at_end(held, left) {
+            return Measured::Text(n);
+        }
+        let c = first_code(codes::window(held, left));
+        if left < c.width {
+            return Measured::Malformed((have - left) as usize);
+        }
+        left -= c.width;
+        n += c.count;
+    }
+}
+
+// The length of the text, or where the data is malformed.
+pub fn measure(s: &[u8]) -> Measured
+    requires { ⌜ length (now s) < 2 ^ 60 ⌝ }
+    ensures { λ r. ⌜ Measures tables (bits (now (s .entry))) r ⌝ }
+{
+    let mut held: u64 = 0;
+    let mut have: u64 = 0;
+    let mut next: usize = 0;
+    let mut n: usize = 0;
+    while next < s.len() {
+        if have < 9 {
+            let b = codes::refill(s, Buffer { held, have, next });
+            held = b.held;
+            have = b.have;
+            next = b.next;
+        } else {
+            let c = first_code(codes::window(held, have));
+            have -= c.width;
+            n += c.count;
+        }
+    }
+    let last = measure_last(held, have);
+    match last {
+        Measured::Text(k) => Measured::Text(n + k),
+        Measured::Malformed(i) => Measured::Malformed(s.len() * 8 - have as usize + i),
     }
 }
