@@ -13,3 +13,4 @@ pub mod Single
 pub mod Ahead
 pub mod Passed
 pub mod Within
+pub mod Laid
