@@ -2,11 +2,12 @@
 -- Assumes nothing.
 use mathlib.Core.Path.{_≡_, refl, sym, ap, ap₂, _∙_}
 use mathlib.Core.List.{List, [], _∷_, _++_, append-assoc}
-use Prim.Native.Nat.{ℕ, _+_, _≤_}
+use Prim.Native.Nat.{ℕ, _+_, _≤_, _<_}
 use native.Mathlib.Nat.{add-zero, add-assoc}
+use native.Mathlib.Numerals.{add-one}
 use native.Mathlib.Omega.{arith}
-use lib.ListN.{length, take, drop, length-append, length-drop, take-append-drop}
-use lib.Seq.{length-take-le, take-at, drop-drop, drop-append-add}
+use lib.ListN.{length, take, drop, set, length-append, length-drop, take-append-drop}
+use lib.Seq.{set-split, length-take-le, take-at, drop-drop, drop-append-add}
 use Rattle.codes.specs.Laid.{laid}
 
 pub laid-nil : (d : List ℕ) (n : ℕ) → laid d n [] ≡ d
@@ -37,3 +38,15 @@ laid-laid d n m c e h x =
     ∙ ap (λ (k : ℕ). drop k d) (add-assoc n (length c) (length e) ∙ ap (λ (k : ℕ). n + k) (sym (length-append c e))))
     ∙ append-assoc (take n d) c (e ++ drop (n + length (c ++ e)) d)
     ∙ ap (λ (l : List ℕ). take n d ++ l) (sym (append-assoc c e (drop (n + length (c ++ e)) d)))
+
+-- a store is one element laid
+pub set-laid : (d : List ℕ) (n v : ℕ) → n < length d → set d n v ≡ laid d n (v ∷ [])
+unfolding laid
+set-laid d n v h = set-split d n v h ∙ ap (λ (k : ℕ). take n d ++ v ∷ drop k d) (sym (add-one n))
+
+pub set-laid-two : (d : List ℕ) (n v w : ℕ) → n + 1 < length d → set (set d n v) (n + 1) w ≡ laid d n (v ∷ w ∷ [])
+set-laid-two d n v w h =
+    let first : set d n v ≡ laid d n (v ∷ []) = set-laid d n v (omega arith) in
+    ap (λ (l : List ℕ). set l (n + 1) w) first
+    ∙ set-laid (laid d n (v ∷ [])) (n + 1) w (omega (arith, length-laid d n (v ∷ []) (omega arith)))
+    ∙ laid-laid d n (n + 1) (v ∷ []) (w ∷ []) (omega arith) refl

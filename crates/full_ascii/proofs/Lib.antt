@@ -1,4 +1,5 @@
 pub mod Entries
+pub mod Laying
 pub mod Nine
 pub mod Steps
 pub mod Table

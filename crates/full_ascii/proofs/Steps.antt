@@ -39,14 +39,18 @@ next-code held have w r t v k h =
     ∙ ap (λ (n : ℕ). k .entry .code ++ low (have - n) held) (sym (k .width)))
     ∙ append-assoc (k .entry .code) (low (have - r .width) held) t
 
+pub passed-code : (bs said : List ℕ) (held have w : ℕ) (r : Code) (t : List ℕ) → Passed tables bs 0 (low have held ++ t) said
+    → Window held have w → (k : Takes w r) → r .width ≤ have
+    → Passed tables bs 0 (low (have - r .width) held ++ t) (said ++ k .entry .says)
+passed-code bs said held have w r t p v k h =
+    passed-one mutes (low have held ++ t) (low (have - r .width) held ++ t) p (k .entry) (k .legal) (next-code held have w r t v k h)
+
 pub counted-code : (bs : List ℕ) (held have w n : ℕ) (r : Code) (t : List ℕ) → Counted bs (low have held ++ t) n → Window held have w
     → Takes w r → r .width ≤ have → Counted bs (low (have - r .width) held ++ t) (n + r .count)
 counted-code bs held have w n r t c v k h = record {
   said = c .said ++ k .entry .says;
-  counts = length-append (c .said) (k .entry .says) ∙ ap (λ (x : ℕ). x + length (k .entry .says)) (c .counts) ∙ ap (λ (x : ℕ). n + x) (k .counts);
-  passed = passed-one mutes (low have held ++ t) (low (have - r .width) held ++ t) (c .passed) (k .entry) (k .legal)
-      (next-code held have w r t v k h);
-}
+  counts = omega (arith, length-append (c .said) (k .entry .says), c .counts, k .counts);
+  passed = passed-code bs (c .said) held have w r t (c .passed) v k h }
 
 -- if they are not there, no code begins what there is
 pub no-code : (held have w : ℕ) (r : Code) → Window held have w → Takes w r → have < r .width → Halts tables 0 (low have held)

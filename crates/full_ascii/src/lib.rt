@@ -2,13 +2,15 @@
 
 use codes::Buffer;
 use codes::Measured;
-ghost use Prim.Native.Nat.{_<_, _≤_, _^_};
+ghost use mathlib.Core.Path.{_≡_};
+ghost use Prim.Native.Nat.{_+_, _-_, _<_, _≤_, _^_};
 ghost use lib.ListN.{length};
 ghost use Rattle.bits.specs.Row.{bits};
+ghost use Rattle.codes.specs.Laid.{laid, Readable, Placed};
 ghost use Rattle.codes.specs.Measure.{Measures};
 ghost use Rattle.codes.specs.Pack.{low};
 ghost use Rattle.full_ascii.specs.Table.{tables};
-ghost use Rattle.full_ascii.specs.Taken.{Takes};
+ghost use Rattle.full_ascii.specs.Taken.{Takes, characters};
 
 // A code: how many bits it has, and the one or two characters that it says.
 pub struct Code {
@@ -112,5 +114,34 @@ pub fn measure(s: &[u8]) -> Measured
     match last {
         Measured::Text(k) => Measured::Text(n + k),
         Measured::Malformed(i) => Measured::Malformed(s.len() * 8 - have as usize + i),
+    }
+}
+
+// The one or two characters of a code, from place n on.
+fn put(out: &mut [u8], n: usize, c: Code)
+    requires { ⌜ (1 ≤ c .count) × (c .count ≤ 2) × (n + c .count ≤ length (now out)) ⌝ }
+    ensures { λ r. ⌜ now (out .exit) ≡ laid (now (out .entry)) n (characters c) ⌝ }
+{
+    out[n] = c.first;
+    if c.count == 2 {
+        out[n + 1] = c.second;
+    }
+}
+
+// The text of the last bits, `have` of them, from place n on; the place after it.
+fn read_last(held: u64, have: u64, out: &mut [u8], n: usize) -> usize
+    requires { ⌜ (have ≤ 64) × (n ≤ length (now out)) × Readable tables (low have held) (length (now out) - n) ⌝ }
+    ensures { λ r. ⌜ Placed tables (low have held) (now (out .entry)) (now (out .exit)) n r ⌝ }
+{
+    let mut left = have;
+    let mut at = n;
+    loop {
+        if codes::at_end(held, left) {
+            return at;
+        }
+        let c = first_code(codes::window(held, left));
+        put(out, at, c);
+        left -= c.width;
+        at += c.count;
     }
 }
