@@ -1,14 +1,14 @@
 -- A byte more in a buffer of bits, and bits taken out of it.
 -- Assumes nothing.
 use mathlib.Core.Path.{_≡_, refl, sym, ap, ap₂, subst, subst⁻¹, _∙_}
-use mathlib.Core.List.{List, _++_, append-assoc}
+use mathlib.Core.List.{List, _++_, append-assoc, append-nil}
 use Prim.Native.Nat.{ℕ, suc, _+_, _-_, _*_, _/_, _%_, _^_, _≤_, _<_}
 use native.Mathlib.Nat.{mod-lt, mod-eq-of-lt, zero-lt-suc, one-mul, mul-mod-left, add-zero, add-comm}
 use native.Mathlib.Numerals.{add-one}
 use native.Mathlib.Omega.{arith}
 use lib.Arith.{digits-lt}
 use lib.Dec.{lit<}
-use lib.ListN.{length, take, drop, getD, replicate, length-append, length-replicate, replicate-append-replicate, take-append-drop}
+use lib.ListN.{length, take, drop, getD, replicate, length-append, length-replicate, replicate-append-replicate, take-append-drop, drop-of-length-le}
 use lib.Pow.{shl-exact, shl-shr, mod-mod-pow, mod-pow-add, pow-add, pow-pos, ones-lt}
 use lib.Seq.{take-at, drop-cons, drop-at, take-take, take-append-seam, take-append-le, take-append-add}
 use Rattle.bits.specs.Row.{bits}
@@ -67,6 +67,12 @@ refill-four s held have next word h k bytes e =
     ∙ byte-at s b (have + 16) (next + 2) d (have + 24) (next + 3) (next + 2) refl refl (omega arith) (omega arith) (omega arith) (bytes (next + 2))
     ∙ byte-at s a (have + 8) (next + 1) b (have + 16) (next + 2) (next + 1) refl refl (omega arith) (omega arith) (omega arith) (bytes (next + 1))
     ∙ refill-one s held have next h (omega arith) (bytes next)
+
+-- past the last byte what is ahead is what the buffer holds
+pub ahead-last : (s : List ℕ) (held have next : ℕ) → length s ≤ next → ahead s held have next ≡ low have held
+unfolding ahead bits
+ahead-last s held have next h =
+    ap (λ (l : List ℕ). low have held ++ bits l) (drop-of-length-le s h) ∙ append-nil (low have held)
 
 -- w bits taken out
 low-drop : (held have w : ℕ) → w ≤ have → drop w (low have held) ≡ low (have - w) held

@@ -18,8 +18,13 @@ pub length-laid : (d : List ℕ) (n : ℕ) (c : List ℕ) → n + length c ≤ l
 unfolding laid
 length-laid d n c h =
     let front : length (take n d) ≡ n = length-take-le n d (omega arith) in
-    omega (arith, length-append (take n d) (c ++ drop (n + length c) d), length-append c (drop (n + length c) d),
-    length-drop (n + length c) d, front)
+    omega (
+      arith,
+      length-append (take n d) (c ++ drop (n + length c) d),
+      length-append c (drop (n + length c) d),
+      length-drop (n + length c) d,
+      front,
+    )
 
 -- two in a row are one
 pub laid-laid : (d : List ℕ) (n m : ℕ) (c e : List ℕ) → n + length c ≤ length d → m ≡ n + length c

@@ -1,17 +1,19 @@
 -- The text of the codes that were passed, laid into a buffer.
 -- Assumes nothing.
-use mathlib.Core.Path.{_≡_, refl, sym, ap, ap₂, subst, subst⁻¹, _∙_}
+use mathlib.Core.Path.{_≡_, sym, ap, ap₂, subst, _∙_}
 use mathlib.Core.Logic.{by-cases}
-use mathlib.Core.List.{List, [], _∷_, _++_, append-nil}
-use Prim.Native.Nat.{ℕ, _+_, _-_, _≤_, _<_}
+use mathlib.Core.List.{List, [], _∷_, _++_}
+use Prim.Native.Nat.{ℕ, _+_, _-_, _≤_}
 use native.Mathlib.Decide.{decLe}
 use native.Mathlib.Nat.{add-zero}
 use native.Mathlib.Omega.{arith}
 use lib.ListN.{length, take, set, length-append}
-use Rattle.codes.specs.Chain.{Fill, Reads}
+use Rattle.bits.specs.Row.{bits}
+use Rattle.codes.specs.Chain.{Fill}
 use Rattle.codes.specs.Pack.{low}
-use Rattle.codes.specs.Ahead.{Window}
+use Rattle.codes.specs.Ahead.{ahead, Window}
 use Rattle.codes.specs.Laid.{laid, Readable, Placed}
+use Rattle.codes.proofs.Ahead.{ahead-last}
 use Rattle.codes.proofs.Laid.{laid-nil, laid-laid, length-laid, set-laid, set-laid-two}
 use Rattle.codes.proofs.Passed.{Passed, passed-none, passed-reads, passed-text}
 use Rattle.codes.proofs.Reading.{reads-end, stuck-here, never-both}
@@ -48,9 +50,10 @@ module _ (bs rest entry out : List ℕ) (m n : ℕ) (y : Laying bs rest entry ou
   later =
       let p = passed-text laws rest (f .text) (y .passed) (f .reads) in
       record {
-      text = p .0;
-      reads = p .2;
-      fits = omega (arith, f .fits, ap length (p .1), length-append (y .said) (p .0), y .place) }
+        text = p .0;
+        reads = p .2;
+        fits = omega (arith, f .fits, ap length (p .1), length-append (y .said) (p .0), y .place);
+      }
 
   pub within : n ≤ m + room
   within =
@@ -62,11 +65,12 @@ pub laying-code : (bs entry out : List ℕ) (m n held have w : ℕ) (r : Code) (
     → Laying bs (low have held ++ t) entry out m n → r .width ≤ have → n ≤ length entry
     → Laying bs (low (have - r .width) held ++ t) entry (laid out n (characters r)) m (n + r .count)
 laying-code bs entry out m n held have w r t v k y h room = record {
-    said = y .said ++ k .entry .says;
-    passed = passed-code bs (y .said) held have w r t (y .passed) v k h;
-    place = omega (arith, y .place, k .counts, length-append (y .said) (k .entry .says));
-    whole = ap₂ (λ (a b : List ℕ). laid a n b) (y .whole) (sym (k .says))
-        ∙ laid-laid entry m n (y .said) (k .entry .says) (omega (arith, y .place)) (y .place) }
+  said = y .said ++ k .entry .says;
+  passed = passed-code bs (y .said) held have w r t (y .passed) v k h;
+  place = omega (arith, y .place, k .counts, length-append (y .said) (k .entry .says));
+  whole = ap₂ (λ (a b : List ℕ). laid a n b) (y .whole) (sym (k .says))
+      ∙ laid-laid entry m n (y .said) (k .entry .says) (omega (arith, y .place)) (y .place);
+}
 
 -- where the bits are no fill, the next code is there
 pub code-there : (held have w : ℕ) (r : Code) (room : ℕ) → Window held have w → Takes w r → Readable tables (low have held) room
@@ -79,11 +83,12 @@ code-there held have w r room v k f no-fill =
 pub laying-last : (bs rest entry out exit : List ℕ) (m n r : ℕ) → Laying bs rest entry out m n → n ≤ length entry
     → Placed tables rest out exit n r → Placed tables bs entry exit m r
 laying-last bs rest entry out exit m n r y room p = record {
-    text = y .said ++ p .text;
-    reads = passed-reads rest (p .text) (y .passed) (p .reads);
-    place = omega (arith, p .place, y .place, length-append (y .said) (p .text));
-    whole = p .whole ∙ ap (λ (l : List ℕ). laid l n (p .text)) (y .whole)
-        ∙ laid-laid entry m n (y .said) (p .text) (omega (arith, y .place)) (y .place) }
+  text = y .said ++ p .text;
+  reads = passed-reads rest (p .text) (y .passed) (p .reads);
+  place = omega (arith, p .place, y .place, length-append (y .said) (p .text));
+  whole = p .whole ∙ ap (λ (l : List ℕ). laid l n (p .text)) (y .whole)
+      ∙ laid-laid entry m n (y .said) (p .text) (omega (arith, y .place)) (y .place);
+}
 
 pub placed-end : (rest out : List ℕ) (n : ℕ) → Fill rest → Placed tables rest out out n n
 placed-end rest out n h = record { text = []; reads = reads-end tables h; place = sym (add-zero n); whole = sym (laid-nil out n) }
@@ -92,3 +97,9 @@ placed-end rest out n h = record { text = []; reads = reads-end tables h; place 
 pub laying-length : (bs rest entry out : List ℕ) (m n : ℕ) → Laying bs rest entry out m n → n ≤ length entry → length out ≡ length entry
 laying-length bs rest entry out m n y room =
     ap length (y .whole) ∙ length-laid entry m (y .said) (omega (arith, y .place))
+
+-- past the last byte what is ahead is what the buffer holds
+pub laying-held : (s entry out : List ℕ) (m n held have next : ℕ) → length s ≤ next → Laying (bits s) (ahead s held have next) entry out m n
+    → Laying (bits s) (low have held) entry out m n
+laying-held s entry out m n held have next h y =
+    subst (λ (l : List ℕ). Laying (bits s) l entry out m n) (ahead-last s held have next h) y

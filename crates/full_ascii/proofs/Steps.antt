@@ -4,14 +4,14 @@ use mathlib.Core.Path.{_≡_, refl, sym, ap, subst, _∙_}
 use mathlib.Core.List.{List, [], _++_, append-assoc, append-nil}
 use Prim.Native.Nat.{ℕ, _+_, _-_, _≤_, _<_}
 use native.Mathlib.Omega.{arith}
-use lib.ListN.{length, length-append, drop-of-length-le}
+use lib.ListN.{length, length-append}
 use Rattle.bits.specs.Row.{bits}
 use Rattle.codes.specs.Chain.{Entry, Fill, Reads}
 use Rattle.codes.specs.Pack.{low}
 use Rattle.codes.specs.Ahead.{ahead, Window}
 use Rattle.codes.specs.Measure.{Measures}
 use Rattle.codes.specs.declared.Measured.the-variants.{Text, Malformed}
-use Rattle.codes.proofs.Ahead.{window-begins, begins-window}
+use Rattle.codes.proofs.Ahead.{ahead-last, window-begins, begins-window}
 use Rattle.codes.proofs.Low.{length-low}
 use Rattle.codes.proofs.Passed.{Passed, passed-none, passed-reads, passed-stuck}
 use Rattle.codes.proofs.Reading.{Halts, reads-end, stuck-here}
@@ -50,7 +50,8 @@ pub counted-code : (bs : List ℕ) (held have w n : ℕ) (r : Code) (t : List �
 counted-code bs held have w n r t c v k h = record {
   said = c .said ++ k .entry .says;
   counts = omega (arith, length-append (c .said) (k .entry .says), c .counts, k .counts);
-  passed = passed-code bs (c .said) held have w r t (c .passed) v k h }
+  passed = passed-code bs (c .said) held have w r t (c .passed) v k h;
+}
 
 -- if they are not there, no code begins what there is
 pub no-code : (held have w : ℕ) (r : Code) → Window held have w → Takes w r → have < r .width → Halts tables 0 (low have held)
@@ -88,7 +89,4 @@ counted-malformed bs rest n i j c e m = passed-stuck rest j i (c .passed) e m
 -- past the last byte what is ahead is what the buffer holds
 pub counted-last : (s : List ℕ) (held have next n : ℕ) → length s ≤ next → Counted (bits s) (ahead s held have next) n
     → Counted (bits s) (low have held) n
-unfolding ahead bits
-counted-last s held have next n h c =
-    subst (λ (l : List ℕ). Counted (bits s) l n)
-    (ap (λ (l : List ℕ). low have held ++ bits l) (drop-of-length-le s h) ∙ append-nil (low have held)) c
+counted-last s held have next n h c = subst (λ (l : List ℕ). Counted (bits s) l n) (ahead-last s held have next h) c

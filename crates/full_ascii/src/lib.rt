@@ -145,3 +145,28 @@ fn read_last(held: u64, have: u64, out: &mut [u8], n: usize) -> usize
         at += c.count;
     }
 }
+
+// The text of the data, at the front of the buffer; its length.
+pub fn read(s: &[u8], out: &mut [u8]) -> usize
+    requires { ⌜ Readable tables (bits (now s)) (length (now out)) ⌝ }
+    ensures { λ r. ⌜ Placed tables (bits (now (s .entry))) (now (out .entry)) (now (out .exit)) 0 r ⌝ }
+{
+    let mut held: u64 = 0;
+    let mut have: u64 = 0;
+    let mut next: usize = 0;
+    let mut n: usize = 0;
+    while next < s.len() {
+        if have < 9 {
+            let b = codes::refill(s, Buffer { held, have, next });
+            held = b.held;
+            have = b.have;
+            next = b.next;
+        } else {
+            let c = first_code(codes::window(held, have));
+            put(out, n, c);
+            have -= c.width;
+            n += c.count;
+        }
+    }
+    read_last(held, have, out, n)
+}

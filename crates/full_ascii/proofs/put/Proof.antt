@@ -5,34 +5,25 @@ use Rattle.full_ascii.proofs.Laying.{put-one, put-two}
 use borrow.Author.Needs.{needs}
 use Rattle.full_ascii.proofs.put.Statement.{statement}
 use Rattle.full_ascii.proofs.put.Tie as tie
-use Rattle.full_ascii.proofs.put.Reads as reads
-use Rattle.full_ascii.proofs.put.Lts as lts
 
--- src/lib.rt:125:5
 slice-write-out : tie.Need-slice-write-out
 slice-write-out c = search needs
 
--- src/lib.rt:127:13
 add-out : tie.Need-add-out
 add-out c = search needs
 
--- src/lib.rt:127:9
 slice-write-out-2 : tie.Need-slice-write-out-2
 slice-write-out-2 c = simp length-set (omega arith)
 
--- src/lib.rt:121:1
 same-length : tie.Need-same-length
 same-length c = search needs
 
--- src/lib.rt:121:1
 returns : tie.Need-returns
 returns c = put-two (c .before .before .args .out .now) (c .before .before .args .n) (c .before .before .args .c) (c .if1 .taken) (omega arith)
 
--- src/lib.rt:121:1
 same-length-2 : tie.Need-same-length-2
 same-length-2 c = search needs
 
--- src/lib.rt:121:1
 returns-2 : tie.Need-returns-2
 returns-2 c = put-one (c .before .before .args .out .now) (c .before .before .args .n) (c .before .before .args .c) (omega (arith, c .if1 .left)) (omega arith)
 

@@ -1,6 +1,6 @@
 -- `full_ascii::read_last` meets its contract. The loop's invariant: the codes that were passed leave the lowest `left` bits, and their text is laid.
 -- Assumes nothing.
-use mathlib.Core.Path.{_≡_, ap, subst, subst⁻¹}
+use mathlib.Core.Path.{_≡_, subst, subst⁻¹}
 use mathlib.Core.Bool.{Bool}
 use mathlib.Core.List.{List, [], _++_, append-nil}
 use Prim.Native.Nat.{ℕ, _+_, _-_, _≤_}
@@ -8,19 +8,13 @@ use native.Mathlib.Omega.{arith}
 use lib.ListN.{length}
 use Rattle.codes.specs.Ahead.{Says}
 use Rattle.codes.specs.Chain.{Fill}
-use Rattle.codes.specs.Laid.{laid, Readable, Placed}
+use Rattle.codes.specs.Laid.{laid, Readable}
 use Rattle.codes.specs.Pack.{low}
 use Rattle.full_ascii.specs.Table.{tables}
 use Rattle.full_ascii.specs.Taken.{characters}
 use Rattle.full_ascii.proofs.Laying.{Laying, laying-none, later, within, laying-code, code-there, laying-last, laying-length, placed-end}
 use Rattle.full_ascii.proofs.read_last.Statement.{statement}
 use Rattle.full_ascii.proofs.read_last.Tie as tie
-use Rattle.full_ascii.proofs.read_last.Reads as reads
-use Rattle.full_ascii.proofs.read_last.Lts as lts
-use Rattle.codes.proofs.at_end.Reads as at-end-reads
-use Rattle.codes.proofs.window.Reads as window-reads
-use Rattle.full_ascii.proofs.first_code.Reads as first-code-reads
-use Rattle.full_ascii.proofs.put.Reads as put-reads
 
 abbrev Inv-loop : tie.InvT-loop
 Inv-loop held have out₀ n left₀ at₀ out left at =
@@ -29,29 +23,27 @@ Inv-loop held have out₀ n left₀ at₀ out left at =
 abbrev μ-loop : tie.MeasureT-loop
 μ-loop held have out₀ n left₀ at₀ out left at = left
 
--- src/lib.rt:138:5
 loop-holds : tie.Need-loop-holds Inv-loop μ-loop
-loop-holds c = 
+loop-holds c =
     let b = low (c .before .args .have) (c .before .args .held) in
-    let out = c .before .args .out .now in
-    (omega arith, omega arith,
-    subst⁻¹ (λ (l : List ℕ). Laying b l out out (c .before .args .n) (c .before .args .n)) (append-nil b) (laying-none b out (c .before .args .n)))
+    let out = c .before .args .out .now in (
+      omega arith,
+      omega arith,
+      subst⁻¹ (λ (l : List ℕ). Laying b l out out (c .before .args .n) (c .before .args .n)) (append-nil b) (laying-none b out (c .before .args .n)),
+    )
 
--- src/lib.rt:139:12
 at-end-requires : tie.Need-at-end-requires Inv-loop μ-loop
 at-end-requires c κs = omega arith
 
--- src/lib.rt:140:13
 same-length : tie.Need-same-length Inv-loop μ-loop
-same-length c = 
+same-length c =
     let a = c .before .before in
     let e = a .before .before in
     laying-length (low (e .args .have) (e .args .held)) (low (a .loop .left) (e .args .held) ++ []) (e .args .out .now) (a .loop .out) (e .args .n)
     (a .loop .at) (a .loop .inv .2) (a .loop .inv .1)
 
--- src/lib.rt:140:13
 returns : tie.Need-returns Inv-loop μ-loop
-returns c = 
+returns c =
     let a = c .before .before in
     let e = a .before .before in
     let rest = low (a .loop .left) (e .args .held) in
@@ -60,11 +52,9 @@ returns c =
     (placed-end (rest ++ []) (a .loop .out) (a .loop .at)
     (subst⁻¹ Fill (append-nil rest) (subst (λ (b : Bool). Says b (Fill rest)) (c .if1 .taken) (c .before .at-end .ensures))))
 
--- src/lib.rt:142:28
 window-requires : tie.Need-window-requires Inv-loop μ-loop
 window-requires c κs = omega arith
 
--- src/lib.rt:142:13
 first-code-requires : tie.Need-first-code-requires Inv-loop μ-loop
 first-code-requires c κs = c .window .ensures .small
 
@@ -76,8 +66,8 @@ there f =
     let rest = low (a .loop .left) (e .args .held) in
     let room = length (e .args .out .now) - e .args .n in
     let more =
-      later (low (e .args .have) (e .args .held)) (rest ++ []) (e .args .out .now) (a .loop .out) (e .args .n) (a .loop .at) (a .loop .inv .2)
-      room (e .pre .2) in
+    later (low (e .args .have) (e .args .held)) (rest ++ []) (e .args .out .now) (a .loop .out) (e .args .n) (a .loop .at) (a .loop .inv .2)
+    room (e .pre .2) in
     code-there (e .args .held) (a .loop .left) (f .before .window .result) (f .first-code .result) (e .args .n + room - a .loop .at)
     (f .before .window .ensures) (f .first-code .ensures)
     (subst (λ (l : List ℕ). Readable tables l (e .args .n + room - a .loop .at)) (append-nil rest) more)
@@ -102,10 +92,13 @@ room : (f : tie.After-first-code Inv-loop μ-loop)
 room f =
     let a = f .before .before .before .before in
     let e = a .before .before in
-    omega (arith,
-    within (low (e .args .have) (e .args .held)) (low (a .loop .left - f .first-code .result .width) (e .args .held) ++ []) (e .args .out .now)
-    (laid (a .loop .out) (a .loop .at) (characters (f .first-code .result))) (e .args .n) (a .loop .at + f .first-code .result .count) (step f)
-    (length (e .args .out .now) - e .args .n) (e .pre .2), e .pre .1)
+    omega (
+      arith,
+      within (low (e .args .have) (e .args .held)) (low (a .loop .left - f .first-code .result .width) (e .args .held) ++ []) (e .args .out .now)
+          (laid (a .loop .out) (a .loop .at) (characters (f .first-code .result))) (e .args .n) (a .loop .at + f .first-code .result .count) (step f)
+          (length (e .args .out .now) - e .args .n) (e .pre .2),
+      e .pre .1,
+    )
 
 same : (f : tie.After-first-code Inv-loop μ-loop)
     → length (f .before .before .before .before .loop .out) ≡ length (f .before .before .before .before .before .before .args .out .now)
@@ -115,35 +108,32 @@ same f =
     laying-length (low (e .args .have) (e .args .held)) (low (a .loop .left) (e .args .held) ++ []) (e .args .out .now) (a .loop .out) (e .args .n)
     (a .loop .at) (a .loop .inv .2) (a .loop .inv .1)
 
--- src/lib.rt:143:9
 put-requires : tie.Need-put-requires Inv-loop μ-loop
 put-requires c κs = (c .before .first-code .ensures .some, c .before .first-code .ensures .few, omega (arith, room (c .before), same (c .before)))
 
--- src/lib.rt:144:9
 sub-left : tie.Need-sub-left Inv-loop μ-loop
 sub-left c = there (c .before .before .before .before .before)
 
--- src/lib.rt:145:9
 add-at : tie.Need-add-at Inv-loop μ-loop
-add-at c = 
+add-at c =
     let f = c .before .before .before .before .before .before in
     omega (arith, room f, f .before .before .before .before .before .before .good)
 
--- src/lib.rt:138:5
 loop-less : tie.Need-loop-less Inv-loop μ-loop
-loop-less c = 
+loop-less c =
     let f = c .before .before .before .before .before .before in
     omega (arith, there f, f .first-code .ensures .short)
 
--- src/lib.rt:138:5
 loop-again : tie.Need-loop-again Inv-loop μ-loop
 loop-again c =
     let f = c .before .before .before .before .before .before in
     let a = f .before .before .before .before in
-    let e = a .before .before in
-    (omega arith, room f,
-    subst⁻¹ (λ (l : List ℕ). Laying (low (e .args .have) (e .args .held)) (low (a .loop .left - f .first-code .result .width) (e .args .held) ++ [])
-    (e .args .out .now) l (e .args .n) (a .loop .at + f .first-code .result .count)) (c .before .before .before .before .put .ensures) (step f))
+    let e = a .before .before in (
+      omega arith,
+      room f,
+      subst⁻¹ (λ (l : List ℕ). Laying (low (e .args .have) (e .args .held)) (low (a .loop .left - f .first-code .result .width) (e .args .held) ++ [])
+          (e .args .out .now) l (e .args .n) (a .loop .at + f .first-code .result .count)) (c .before .before .before .before .put .ensures) (step f),
+    )
 
 pub read-last-spec : {M : Type 1} → statement M
 read-last-spec =
