@@ -14,3 +14,4 @@ pub mod Ahead
 pub mod Passed
 pub mod Within
 pub mod Laid
+pub mod Only
