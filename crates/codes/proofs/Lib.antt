@@ -11,3 +11,7 @@ pub mod Pack
 pub mod Numbers
 pub mod Single
 pub mod Ahead
+pub mod Passed
+pub mod Within
+pub mod Laid
+pub mod Only

@@ -2,13 +2,13 @@
 -- Assumes nothing.
 use mathlib.Core.Path.{_≡_, refl, sym, ap, ap₂, subst⁻¹, _∙_}
 use mathlib.Core.List.{List, [], _∷_, _++_}
-use Prim.Native.Nat.{ℕ, zero, suc, _+_, _*_, _/_, _%_, _^_, _<_}
-use native.Mathlib.Nat.{mod-lt, mod-eq-of-lt, zero-lt-suc, zero-add, suc-add, pow-succ'}
+use Prim.Native.Nat.{ℕ, zero, suc, _+_, _-_, _*_, _/_, _%_, _^_, _<_}
+use native.Mathlib.Nat.{mod-lt, mod-eq-of-lt, zero-lt-suc, zero-add, suc-add, pow-succ', two-pow-succ}
 use native.Mathlib.Numerals.{one-add}
 use native.Mathlib.Omega.{arith}
-use lib.ListN.{length}
+use lib.ListN.{length, replicate}
 use lib.Arith.{digits-lt}
-use lib.Pow.{mod-pow-add, field, mod-mod-pow, high, shr-shr, low as low-digits}
+use lib.Pow.{mod-pow-add, field, mod-mod-pow, high, shr-shr, ones-lt, pow-pos, low as low-digits}
 use Rattle.bits.specs.Word.{bit}
 use Rattle.codes.specs.Pack.{Binary, low, value}
 
@@ -70,3 +70,20 @@ low-value (b ∷ bs) h =
     ap₂ (λ (x : ℕ) (l : List ℕ). x ∷ l)
     (ap (λ (x : ℕ). x % 2) (high b (length bs) (value-lt bs (h .1))) ∙ mod-eq-of-lt (h .0))
     (low-join (length bs) b (value bs) (value-lt bs (h .1)) ∙ low-value bs (h .1))
+
+-- all ones
+pub low-ones : (k : ℕ) → low k (2 ^ k - 1) ≡ replicate k 1
+unfolding low bit
+low-ones zero = refl
+low-ones (suc k) =
+    ap (low (suc k)) (let e : 2 ^ suc k - 1 ≡ 1 * 2 ^ k + (2 ^ k - 1) = omega (arith, two-pow-succ k, pow-pos k) in e)
+    ∙ ap₂ (λ (b : ℕ) (l : List ℕ). b ∷ l) (ap (λ (x : ℕ). x % 2) (high 1 k (ones-lt k)))
+    (low-join k 1 (2 ^ k - 1) (ones-lt k) ∙ low-ones k)
+
+-- the lowest h bits, then k ones
+pub low-padded : (h k v : ℕ) → low (h + k) (v % 2 ^ h * 2 ^ k + (2 ^ k - 1)) ≡ low h v ++ replicate k 1
+low-padded h k v =
+    low-add h k (v % 2 ^ h * 2 ^ k + (2 ^ k - 1))
+    ∙ ap₂ (λ (a b : List ℕ). a ++ b)
+    (ap (low h) (high (v % 2 ^ h) k (ones-lt k)) ∙ ap (λ (n : ℕ). low h (v % 2 ^ n)) (sym (zero-add h)) ∙ low-mod h 0 v)
+    (low-join k (v % 2 ^ h) (2 ^ k - 1) (ones-lt k) ∙ low-ones k)

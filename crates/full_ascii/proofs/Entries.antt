@@ -54,7 +54,7 @@ unfolding own
 own-upper c h =
     simp (ne-eqb c HT (omega arith), ne-eqb c LF (omega arith), ne-eqb c CR (omega arith), le-ltb c 64 h)
 
-printed-coded : (c : ℕ) → 32 ≤ c → c ≤ 126 → T (coded c)
+pub printed-coded : (c : ℕ) → 32 ≤ c → c ≤ 126 → T (coded c)
 unfolding coded
 printed-coded c h k =
     simp (ne-eqb c HT (omega arith), ne-eqb c LF (omega arith), ne-eqb c CR (omega arith), le-leb 32 c h, le-leb c 126 k) tt

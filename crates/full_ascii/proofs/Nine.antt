@@ -1,0 +1,84 @@
+-- Any nine bits begin a code: which one, by what number they are.
+-- Assumes nothing.
+use mathlib.Core.Path.{_≡_, refl, sym, ap, subst⁻¹, _∙_}
+use mathlib.Core.List.{List, [], _++_}
+use Prim.Native.Nat.{ℕ, _+_, _/_, _≤_, _<_}
+use native.Mathlib.Omega.{arith}
+use lib.Dec.{T, lit≤}
+use lib.ListN.{length}
+use Rattle.bits.specs.Word.{bit}
+use Rattle.codes.specs.Chain.{Entry, Begins}
+use Rattle.codes.specs.Pack.{low}
+use Rattle.codes.proofs.Low.{length-low, low-add}
+use Rattle.full_ascii.specs.Table.{HT, LF, CR, six, seven, special, pair}
+use Rattle.full_ascii.specs.Taken.{Takes, characters}
+use Rattle.full_ascii.specs.Writer.{coded, own}
+use Rattle.full_ascii.specs.declared.Code.{Code}
+use Rattle.full_ascii.proofs.Entries.{own-in, own-says, own-lower, own-upper, printed-coded, pair-in}
+
+abbrev told : ℕ → ℕ → Code
+told width first = record { width = width; count = 1; first = first; second = 0 }
+
+-- a character's own code
+takes-own : (w c width : ℕ) → T (coded c) → Begins (own c .code) (low 9 w) → width ≡ length (own c .code) → 6 ≤ width → width ≤ 9
+    → Takes w (told width c)
+unfolding characters
+takes-own w c width t b x h k = record {
+  entry = own c;
+  legal = own-in c t;
+  begins = b;
+  width = x;
+  says = own-says c;
+  counts = ap length (own-says c);
+  short = h;
+  long = k;
+  some = lit≤ tt;
+  few = lit≤ tt;
+}
+
+pub takes-six : (w : ℕ) → w < 256 → Takes w (told 6 (w / 8 + 32))
+unfolding six
+takes-six w h =
+    let c : ℕ = w / 8 + 32 in
+    let own-code : own c .code ≡ low 6 (w / 8) =
+    ap (λ (e : Entry). e .code) (own-lower c (omega arith) (omega arith)) ∙ ap (low 6) (omega arith) in
+    takes-own w c 6 (printed-coded c (omega arith) (omega arith))
+    (low 3 w, low-add 6 3 w ∙ ap (λ (l : List ℕ). l ++ low 3 w) (sym own-code)) (sym (ap length own-code ∙ length-low 6 (w / 8)))
+    (lit≤ tt) (lit≤ tt)
+
+pub takes-seven : (w : ℕ) → 256 ≤ w → w < 508 → Takes w (told 7 (w / 4))
+unfolding seven
+takes-seven w h k =
+    let c : ℕ = w / 4 in
+    let own-code : own c .code ≡ low 7 c = ap (λ (e : Entry). e .code) (own-upper c (omega arith)) in
+    takes-own w c 7 (printed-coded c (omega arith) (omega arith))
+    (low 2 w, low-add 7 2 w ∙ ap (λ (l : List ℕ). l ++ low 2 w) (sym own-code)) (sym (ap length own-code ∙ length-low 7 c))
+    (lit≤ tt) (lit≤ tt)
+
+-- seven ones, then two bits
+pub takes-tab : (w : ℕ) → w ≡ 508 → Takes w (told 9 HT)
+unfolding own coded special low bit
+takes-tab w e = subst⁻¹ (λ (n : ℕ). Takes n (told 9 HT)) e (takes-own 508 HT 9 tt ([], refl) refl (lit≤ tt) (lit≤ tt))
+
+pub takes-return : (w : ℕ) → w ≡ 509 → Takes w (told 9 CR)
+unfolding own coded special low bit
+takes-return w e = subst⁻¹ (λ (n : ℕ). Takes n (told 9 CR)) e (takes-own 509 CR 9 tt ([], refl) refl (lit≤ tt) (lit≤ tt))
+
+pub takes-feed : (w : ℕ) → w ≡ 510 → Takes w (told 9 LF)
+unfolding own coded special low bit
+takes-feed w e = subst⁻¹ (λ (n : ℕ). Takes n (told 9 LF)) e (takes-own 510 LF 9 tt ([], refl) refl (lit≤ tt) (lit≤ tt))
+
+pub takes-pair : (w : ℕ) → w ≡ 511 → Takes w (record { width = 9; count = 2; first = CR; second = LF })
+unfolding pair special low bit characters
+takes-pair w e = subst⁻¹ (λ (n : ℕ). Takes n (record { width = 9; count = 2; first = CR; second = LF })) e (record {
+  entry = pair;
+  legal = pair-in;
+  begins = ([], refl);
+  width = refl;
+  says = refl;
+  counts = refl;
+  short = lit≤ tt;
+  long = lit≤ tt;
+  some = lit≤ tt;
+  few = lit≤ tt;
+})
