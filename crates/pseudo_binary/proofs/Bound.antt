@@ -1,18 +1,22 @@
 -- How many codes fit in data, and how much text. The first part holds of every format.
 -- Assumes nothing.
-use mathlib.Core.Path.{ap}
+use mathlib.Core.Path.{_≡_, refl, sym, ap, _∙_}
 use mathlib.Core.Bool.{Bool, _&&_}
-use mathlib.Core.List.{List, [], _∷_}
-use Prim.Native.Nat.{ℕ, zero, suc, _*_, _/_, _≤_}
+use mathlib.Core.List.{List, [], _∷_, append-nil}
+use Prim.Native.Nat.{ℕ, zero, suc, _+_, _*_, _/_, _≤_}
 use native.Mathlib.Numerals.{unary-clauses}
 use native.Mathlib.Omega.{arith}
 use lib.Dec.{T, leb, leb→le}
-use lib.ListN.{length, length-append}
+use lib.ListN.{length, replicate, length-append, length-replicate}
 use Rattle.codes.specs.Chain.{Entry, Tables, In, after, Row, codes, texts, Built}
-use Rattle.codes.specs.Pack.{low, numbers}
+use Rattle.codes.specs.Pack.{low, numbers, written}
 use Rattle.codes.proofs.Every.{every, every-at, and-left, and-right}
-use Rattle.codes.proofs.Pack.{length-bits}
-use Rattle.pseudo_binary.specs.Table.{indicator, most, indicators, six, tables}
+use Rattle.codes.proofs.Pack.{length-bits, length-written}
+use Rattle.pseudo_binary.specs.Table.{SLASH, slashes, of, indicator, most, indicators, six, tables}
+use Rattle.pseudo_binary.specs.Writer.{ours}
+use Rattle.pseudo_binary.specs.Size.{width, each, takes, bitsAfter, ourBits}
+use Rattle.pseudo_binary.proofs.Characters.{alike-replicate}
+use Rattle.pseudo_binary.proofs.Size.{started, our-bits, run-bits}
 
 -- a code of so many bits or more, and so many characters or fewer
 unfoldable pub sized : ℕ → ℕ → Entry → Bool
@@ -68,3 +72,19 @@ built-bound sent b = omega (arith, built-entries sent b, short-text tables 6 16 
 
 pub built-most : {text : List ℕ} (sent : List ℕ) → length sent ≤ 4000 → Built tables text sent → length text ≤ 85328
 built-most sent h b = omega (arith, built-bound sent b)
+
+-- and it may reach that: slashes alone, sixteen to an indicator
+slashes-bits : (n : ℕ) → length (codes (ours (replicate n SLASH))) ≡ 6 * ((n + 15) / 16)
+unfolding of most width each started takes bitsAfter ourBits
+slashes-bits n =
+    our-bits (replicate n SLASH)
+    ∙ ap ourBits (sym (append-nil (replicate n SLASH)))
+    ∙ run-bits slashes (replicate n SLASH) [] (alike-replicate slashes SLASH n refl) tt
+    ∙ (let e : 6 * ((length (replicate n SLASH) + 15) / 16) + (0 * length (replicate n SLASH) + 0) ≡ 6 * ((n + 15) / 16) =
+    omega (arith, length-replicate {A = ℕ} n SLASH) in e)
+
+pub slashes-bytes : (n : ℕ) → length (written (ours (replicate n SLASH))) ≡ (6 * ((n + 15) / 16) + 7) / 8
+slashes-bytes n = omega (arith, length-written (ours (replicate n SLASH)), slashes-bits n)
+
+pub most-reached : length (written (ours (replicate 85328 SLASH))) ≡ 4000
+most-reached = slashes-bytes 85328
