@@ -22,8 +22,8 @@ besides values c = six (valueOf c) ∷ []
 besides spaces c = []
 besides slashes c = []
 
--- the first n characters of the text are counted already. An indicator for a character counts it, and as many of its kind after it as follow and as
--- an indicator can
+-- the entries for a text whose first n characters are counted already. A character that is not gets an indicator, which counts it and those of its
+-- kind right after it, as many as it can
 unfoldable pub oursAfter : ℕ → List ℕ → List Entry
 oursAfter n [] = []
 oursAfter zero (c ∷ text) =
