@@ -1,20 +1,23 @@
 -- A byte more in a buffer of bits, and bits taken out of it.
 -- Assumes nothing.
 use mathlib.Core.Path.{_≡_, refl, sym, ap, ap₂, subst, subst⁻¹, _∙_}
-use mathlib.Core.List.{List, [], _∷_, _++_, append-assoc}
-use Prim.Native.Nat.{ℕ, zero, suc, _+_, _-_, _*_, _/_, _%_, _^_, _≤_, _<_}
-use native.Mathlib.Nat.{mod-lt, zero-lt-suc, one-mul, mul-mod-left, add-zero}
+use mathlib.Core.List.{List, _++_, append-assoc, append-nil}
+use Prim.Native.Nat.{ℕ, suc, _+_, _-_, _*_, _/_, _%_, _^_, _≤_, _<_}
+use native.Mathlib.Nat.{mod-lt, mod-eq-of-lt, zero-lt-suc, one-mul, mul-mod-left, add-zero, add-comm}
 use native.Mathlib.Numerals.{add-one}
 use native.Mathlib.Omega.{arith}
 use lib.Arith.{digits-lt}
 use lib.Dec.{lit<}
-use lib.ListN.{length, take, drop, getD, replicate, length-append, length-replicate, replicate-append-replicate}
+use lib.ListN.{length, take, drop, getD, replicate, length-append, length-replicate, replicate-append-replicate, take-append-drop, drop-of-length-le}
 use lib.Pow.{shl-exact, shl-shr, mod-mod-pow, mod-pow-add, pow-add, pow-pos, ones-lt}
-use lib.Seq.{take-at, drop-cons, drop-at}
+use lib.Seq.{take-at, drop-cons, drop-at, take-take, take-append-seam, take-append-le, take-append-add}
 use Rattle.bits.specs.Row.{bits}
-use Rattle.codes.specs.Pack.{low}
+use Rattle.bits.specs.Word.{bit}
+use Rattle.codes.specs.Chain.{Fill, Begins}
+use Rattle.codes.specs.Pack.{low, value}
 use Rattle.codes.specs.Ahead.{ahead, Window}
-use Rattle.codes.proofs.Low.{length-low, low-mod, low-join, low-add, low-padded}
+use Rattle.codes.proofs.Low.{length-low, low-mod, low-join, low-add, low-padded, value-low}
+use Rattle.codes.proofs.Fill.{ones-fill}
 use Rattle.codes.proofs.Pack.{bits-cons}
 
 -- higher bits are not seen
@@ -65,15 +68,18 @@ refill-four s held have next word h k bytes e =
     ∙ byte-at s a (have + 8) (next + 1) b (have + 16) (next + 2) (next + 1) refl refl (omega arith) (omega arith) (omega arith) (bytes (next + 1))
     ∙ refill-one s held have next h (omega arith) (bytes next)
 
+-- past the last byte what is ahead is what the buffer holds
+pub ahead-last : (s : List ℕ) (held have next : ℕ) → length s ≤ next → ahead s held have next ≡ low have held
+unfolding ahead bits
+ahead-last s held have next h =
+    ap (λ (l : List ℕ). low have held ++ bits l) (drop-of-length-le s h) ∙ append-nil (low have held)
+
 -- w bits taken out
-pub ahead-drop : (s : List ℕ) (held have next w : ℕ) → w ≤ have → drop w (ahead s held have next) ≡ ahead s held (have - w) next
-unfolding ahead
-ahead-drop s held have next w h =
-    ap (λ (l : List ℕ). drop w (l ++ bits (drop next s)))
-    (ap (λ (n : ℕ). low n held) (let e : have ≡ w + (have - w) = omega arith in e) ∙ low-add w (have - w) held)
-    ∙ ap (drop w) (append-assoc (low w (held / 2 ^ (have - w))) (low (have - w) held) (bits (drop next s)))
-    ∙ drop-at (low w (held / 2 ^ (have - w))) (low (have - w) held ++ bits (drop next s)) w
-    (length-low w (held / 2 ^ (have - w)))
+low-drop : (held have w : ℕ) → w ≤ have → drop w (low have held) ≡ low (have - w) held
+low-drop held have w h =
+    ap (λ (n : ℕ). drop w (low n held)) (let e : have ≡ w + (have - w) = omega arith in e)
+    ∙ ap (drop w) (low-add w (have - w) held)
+    ∙ drop-at (low w (held / 2 ^ (have - w))) (low (have - w) held) w (length-low w (held / 2 ^ (have - w)))
 
 -- the next nine bits
 pub window-whole : (held have : ℕ) → 9 ≤ have → Window held have (held / 2 ^ (have - 9) % 512)
@@ -117,3 +123,57 @@ window-short held have w h e =
           (subst (λ (n : ℕ). held % 2 ^ have * 2 ^ k + (2 ^ k - 1) < n) (sym (pow-add 2 have k) ∙ ap (λ (n : ℕ). 2 ^ n) whole)
           (digits-lt (mod-lt held (pow-pos have)) (ones-lt k)));
     }
+
+-- what begins the nine bits, and is no longer than the bits that there are, begins those
+pub window-begins : (held have w : ℕ) (c : List ℕ) → Window held have w → Begins c (low 9 w) → length c ≤ have
+    → low have held ≡ c ++ low (have - length c) held
+window-begins held have w c v b h =
+    let ones : List ℕ = replicate 9 1 in
+    let nine : c ++ b .0 ≡ take 9 (low have held ++ ones) = sym (b .1) ∙ v .nine in
+    let size : length c ≤ 9 = omega (arith, ap length (b .1), length-append c (b .0), length-low 9 w) in
+    let same : c ≡ take (length c) (low have held) =
+    sym (take-append-seam c (b .0))
+    ∙ ap (take (length c)) nine
+    ∙ take-take (length c) 9 (low have held ++ ones) size
+    ∙ take-append-le (length c) (low have held) ones (omega (arith, length-low have held)) in
+    sym (take-append-drop (length c) (low have held)) ∙ ap₂ (λ (x y : List ℕ). x ++ y) (sym same) (low-drop held have (length c) h)
+
+-- and what begins the bits that there are begins the nine
+pub begins-window : (held have w : ℕ) (c : List ℕ) → Window held have w → Begins c (low have held) → length c ≤ 9 → Begins c (low 9 w)
+begins-window held have w c v b h = (
+  take (9 - length c) (b .0 ++ replicate 9 1),
+  v .nine
+      ∙ ap (λ (l : List ℕ). take 9 (l ++ replicate 9 1)) (b .1)
+      ∙ ap (take 9) (append-assoc c (b .0) (replicate 9 1))
+      ∙ ap (λ (n : ℕ). take n (c ++ (b .0 ++ replicate 9 1))) (let e : 9 ≡ length c + (9 - length c) = omega arith in e)
+      ∙ take-append-add c (b .0 ++ replicate 9 1) (9 - length c),
+)
+
+take-ones : (n : ℕ) → n ≤ 9 → take {A = ℕ} n (replicate 9 1) ≡ replicate n 1
+take-ones n h =
+    ap (λ (k : ℕ). take {A = ℕ} n (replicate k 1)) (let e : 9 ≡ n + (9 - n) = omega arith in e)
+    ∙ ap (take n) (sym (replicate-append-replicate n (9 - n) 1))
+    ∙ take-at (replicate n 1) (replicate (9 - n) 1) n (length-replicate n 1)
+
+-- the nine bits are ones where the bits that there are are a fill
+pub window-fill : (held have w : ℕ) → Window held have w → have ≤ 7 → w ≡ 511 → Fill (low have held)
+unfolding low bit
+window-fill held have w v h e =
+    subst⁻¹ Fill
+    (sym (take-at (low have held) (replicate 9 1) have (length-low have held))
+    ∙ sym (take-take have 9 (low have held ++ replicate 9 1) (omega arith))
+    ∙ ap (take have) (sym (v .nine) ∙ ap (low 9) e)
+    ∙ take-ones have (omega arith))
+    (ones-fill have h)
+
+pub fill-window : (held have w : ℕ) → Window held have w → Fill (low have held) → w ≡ 511
+unfolding value
+fill-window held have w v f =
+    sym (value-low 9 w ∙ mod-eq-of-lt (v .small))
+    ∙ ap value
+    (v .nine
+    ∙ ap (λ (l : List ℕ). take 9 (l ++ replicate 9 1)) (f .ones)
+    ∙ ap (take 9) (replicate-append-replicate (length (low have held)) 9 1)
+    ∙ ap (λ (n : ℕ). take 9 (replicate n 1)) (add-comm (length (low have held)) 9)
+    ∙ ap (take 9) (sym (replicate-append-replicate 9 (length (low have held)) 1))
+    ∙ take-at (replicate 9 1) (replicate (length (low have held)) 1) 9 refl)

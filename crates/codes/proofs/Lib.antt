@@ -12,3 +12,6 @@ pub mod Numbers
 pub mod Single
 pub mod Ahead
 pub mod Passed
+pub mod Within
+pub mod Laid
+pub mod Only

@@ -6,6 +6,8 @@ use Prim.Native.Nat.{ℕ, _+_}
 use native.Mathlib.Omega.{arith}
 use lib.ListN.{length, length-append}
 use Rattle.codes.specs.Chain.{Entry, Tables, In, after, Row, codes, texts, Reads, Stuck}
+use Rattle.codes.proofs.Laws.{Laws}
+use Rattle.codes.proofs.Reading.{Answer, text, stuck, Means, answer, always, one-text, never-both}
 
 row-append : (tables : Tables) (m k n : ℕ) (es ds : List Entry) → Row tables m es k → Row tables k ds n → Row tables m (es ++ ds) n
 row-append tables m k n [] ds r q = subst (λ (j : ℕ). Row tables j ds n) (sym r) q
@@ -82,3 +84,15 @@ module _ {tables : Tables} {bs said : List ℕ} {m : ℕ} where
     none = s .none;
     no-end = s .no-end;
   }
+
+  -- the text of the whole begins with what was said, and goes on with the text of the rest
+  pub passed-text : Laws tables → (rest t : List ℕ) → Passed tables bs m rest said → Reads tables 0 bs t
+      → (later : List ℕ) × (t ≡ said ++ later) × Reads tables m rest later
+  passed-text laws rest t p r = pick (answer tables (length rest) m rest) (always laws m rest)
+    where
+      pick : (a : Answer) → Means tables m rest a → (later : List ℕ) × (t ≡ said ++ later) × Reads tables m rest later
+      pick (text u) q = (u, one-text laws r (passed-reads rest u p q), q)
+      pick (stuck j) q =
+          absurd (never-both laws r
+          (passed-stuck rest (length (codes (p .entries)) + j) j p
+          (omega (arith, ap length (p .bits), length-append (codes (p .entries)) rest)) q))

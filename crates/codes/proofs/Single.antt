@@ -10,6 +10,7 @@ use lib.ListN.{length}
 use Rattle.codes.specs.Chain.{Entry, single, In, after, Row, Reads, Stuck}
 use Rattle.codes.proofs.Every.{every, every-at}
 use Rattle.codes.proofs.Laws.{Laws}
+use Rattle.codes.proofs.Passed.{Passed, passed-more}
 use Rattle.codes.proofs.Reading.{reads-more, reads-less, stuck-more, stuck-less}
 
 unfoldable pub mute : Entry → Bool
@@ -33,6 +34,11 @@ module _ {table : List Entry} (mutes : T (every mute table)) where
   pub stuck-one : {e : Entry} {bs : List ℕ} {i : ℕ} → In e table → Stuck (single table) 0 bs i
       → Stuck (single table) 0 (e .code ++ bs) (length (e .code) + i)
   stuck-one {e} {bs} {i} h s = stuck-more h (subst⁻¹ (λ (n : ℕ). Stuck (single table) n bs i) (stays h) s)
+
+  pub passed-one : {bs said : List ℕ} (rest later : List ℕ) → Passed (single table) bs 0 rest said → (e : Entry) → In e table
+      → rest ≡ e .code ++ later → Passed (single table) bs 0 later (said ++ e .says)
+  passed-one {bs} {said} rest later p e h x =
+      subst (λ (n : ℕ). Passed (single table) bs n later (said ++ e .says)) (stays h) (passed-more rest later p e h x)
 
   module _ (laws : Laws (single table)) where
     pub reads-rest : {e : Entry} {bs text : List ℕ} → In e table → Reads (single table) 0 (e .code ++ bs) text

@@ -3,7 +3,9 @@
 ghost use mathlib.Core.Path.{_≡_};
 ghost use Prim.Native.Nat.{_+_, _*_, _≤_, _<_};
 ghost use lib.ListN.{length};
-ghost use Rattle.codes.specs.Ahead.{Refilled, Window};
+ghost use Rattle.codes.specs.Ahead.{Refilled, Window, Says};
+ghost use Rattle.codes.specs.Chain.{Fill};
+ghost use Rattle.codes.specs.Pack.{low};
 
 // The bits that are still to be read: the lowest `have` bits of `held`, then those of the bytes from `next` on.
 pub struct Buffer {
@@ -59,6 +61,20 @@ pub fn window(held: u64, have: u64) -> u64
     }
     let short = 9 - have;
     (held << short) % 512 + ((1 << short) - 1)
+}
+
+// Whether the lowest `have` bits of `held` are a fill.
+pub fn at_end(held: u64, have: u64) -> bool
+    requires { ⌜ have ≤ 64 ⌝ }
+    ensures { λ r. ⌜ Says r (Fill (low have held)) ⌝ }
+{
+    if 7 < have {
+        return false;
+    }
+    if window(held, have) == 511 {
+        return true;
+    }
+    false
 }
 
 // What a reading comes to, its text unwritten: the text's length, or the bit at which it is malformed.

@@ -1,4 +1,6 @@
 pub mod Entries
+pub mod Laying
 pub mod Nine
+pub mod Steps
 pub mod Table
 pub mod Writer

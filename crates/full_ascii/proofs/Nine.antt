@@ -1,18 +1,17 @@
 -- Any nine bits begin a code: which one, by what number they are.
 -- Assumes nothing.
 use mathlib.Core.Path.{_≡_, refl, sym, ap, subst⁻¹, _∙_}
-use mathlib.Core.List.{List, [], _∷_, _++_, map, Memᴰ·append-left, Memᴰ·append-right, Memᴰ·map, List·Memᴰ·head, List·Memᴰ·tail}
-use Prim.Native.Nat.{ℕ, _+_, _-_, _/_, _≤_, _<_}
+use mathlib.Core.List.{List, [], _++_}
+use Prim.Native.Nat.{ℕ, _+_, _/_, _≤_, _<_}
 use native.Mathlib.Omega.{arith}
 use lib.Dec.{T, lit≤}
-use lib.ListN.{length, replicate}
+use lib.ListN.{length}
 use Rattle.bits.specs.Word.{bit}
 use Rattle.codes.specs.Chain.{Entry, Begins}
-use Rattle.codes.specs.Pack.{low, numbers}
+use Rattle.codes.specs.Pack.{low}
 use Rattle.codes.proofs.Low.{length-low, low-add}
-use Rattle.codes.proofs.Numbers.{numbers-in}
 use Rattle.full_ascii.specs.Table.{HT, LF, CR, six, seven, special, pair}
-use Rattle.full_ascii.specs.Taken.{Takes}
+use Rattle.full_ascii.specs.Taken.{Takes, characters}
 use Rattle.full_ascii.specs.Writer.{coded, own}
 use Rattle.full_ascii.specs.declared.Code.{Code}
 use Rattle.full_ascii.proofs.Entries.{own-in, own-says, own-lower, own-upper, printed-coded, pair-in}
@@ -23,6 +22,7 @@ told width first = record { width = width; count = 1; first = first; second = 0 
 -- a character's own code
 takes-own : (w c width : ℕ) → T (coded c) → Begins (own c .code) (low 9 w) → width ≡ length (own c .code) → 6 ≤ width → width ≤ 9
     → Takes w (told width c)
+unfolding characters
 takes-own w c width t b x h k = record {
   entry = own c;
   legal = own-in c t;
@@ -32,6 +32,7 @@ takes-own w c width t b x h k = record {
   counts = ap length (own-says c);
   short = h;
   long = k;
+  some = lit≤ tt;
   few = lit≤ tt;
 }
 
@@ -68,7 +69,7 @@ unfolding own coded special low bit
 takes-feed w e = subst⁻¹ (λ (n : ℕ). Takes n (told 9 LF)) e (takes-own 510 LF 9 tt ([], refl) refl (lit≤ tt) (lit≤ tt))
 
 pub takes-pair : (w : ℕ) → w ≡ 511 → Takes w (record { width = 9; count = 2; first = CR; second = LF })
-unfolding pair special low bit
+unfolding pair special low bit characters
 takes-pair w e = subst⁻¹ (λ (n : ℕ). Takes n (record { width = 9; count = 2; first = CR; second = LF })) e (record {
   entry = pair;
   legal = pair-in;
@@ -78,5 +79,6 @@ takes-pair w e = subst⁻¹ (λ (n : ℕ). Takes n (record { width = 9; count = 
   counts = refl;
   short = lit≤ tt;
   long = lit≤ tt;
+  some = lit≤ tt;
   few = lit≤ tt;
 })

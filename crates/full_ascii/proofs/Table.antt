@@ -11,6 +11,7 @@ use Rattle.codes.proofs.Laws.{Laws, parted, apart, unfilled, tested}
 use Rattle.codes.proofs.Speaks.{Speaks, heard, said, speaks}
 use Rattle.codes.proofs.Pack.{binary}
 use Rattle.codes.proofs.Single.{mute}
+use Rattle.codes.proofs.Within.{brief}
 use Rattle.full_ascii.specs.Table.{six, seven, special, pair, table, tables}
 
 pub laws : Laws tables
@@ -28,3 +29,8 @@ mutes = tt
 pub all-bits : (m : ℕ) → T (every binary (tables m))
 unfolding table six seven special pair numbers low bit every binary
 all-bits m = tt
+
+-- no entry says more characters than it has bits
+pub briefs : (m : ℕ) → T (every (brief 1) (tables m))
+unfolding table six seven special pair numbers low bit every brief
+briefs m = tt

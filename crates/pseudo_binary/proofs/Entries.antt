@@ -1,25 +1,32 @@
 -- The entries of the tables: indicators of each kind, up to the most that one counts, and the 64 values.
 -- Assumes nothing.
-use mathlib.Core.Path.{_≡_, sym}
+use mathlib.Core.Path.{_≡_, refl, sym}
 use mathlib.Core.Logic.{⊎-elim}
-use mathlib.Core.List.{map, List·Memᴰ·append-cases, Memᴰ·append-left, Memᴰ·append-right, Memᴰ·map, Memᴰ·of-map}
-use Prim.Native.Nat.{ℕ, suc, _<_}
+use mathlib.Core.List.{List·Memᴰ·append-cases, Memᴰ·append-left, Memᴰ·append-right, Memᴰ·map, Memᴰ·of-map}
+use Prim.Native.Nat.{ℕ, suc, pred, _<_}
 use native.Mathlib.Nat.{add-zero}
 use native.Mathlib.Omega.{arith}
 use Rattle.codes.specs.Chain.{Entry, In, after}
 use Rattle.codes.specs.Pack.{numbers}
 use Rattle.codes.proofs.Numbers.{in-numbers, numbers-in}
-use Rattle.pseudo_binary.specs.Table.{Kind, values, spaces, slashes, most, indicator, six, every-count, tables}
+use Rattle.pseudo_binary.specs.Table.{Kind, values, spaces, slashes, indicator, most, indicators, six, tables}
 
-counted-in : (k : Kind) (c : ℕ) → c < most k → In (indicator k c) (every-count k)
-unfolding every-count
+-- an indicator counts one at the least
+pub pred-most : (k : Kind) → suc (pred (most k)) ≡ most k
+unfolding most
+pred-most values = refl
+pred-most spaces = refl
+pred-most slashes = refl
+
+counted-in : (k : Kind) (c : ℕ) → c < most k → In (indicator k c) (indicators k)
+unfolding indicators
 counted-in k c h = Memᴰ·map (indicator k) (numbers-in 0 (most k) c (omega arith) (omega arith))
 
 pub indicator-in : (k : Kind) (c : ℕ) → c < most k → In (indicator k c) (tables 0)
 unfolding tables
 indicator-in values c h = Memᴰ·append-left _ (counted-in values c h)
-indicator-in spaces c h = Memᴰ·append-right (every-count values) (Memᴰ·append-left (every-count slashes) (counted-in spaces c h))
-indicator-in slashes c h = Memᴰ·append-right (every-count values) (Memᴰ·append-right (every-count spaces) (counted-in slashes c h))
+indicator-in spaces c h = Memᴰ·append-right (indicators values) (Memᴰ·append-left (indicators slashes) (counted-in spaces c h))
+indicator-in slashes c h = Memᴰ·append-right (indicators values) (Memᴰ·append-right (indicators spaces) (counted-in slashes c h))
 
 pub six-in : (m v : ℕ) → v < 64 → In (six v) (tables (suc m))
 unfolding tables
@@ -29,8 +36,8 @@ six-in m v h = Memᴰ·map six (numbers-in 0 64 v (omega arith) h)
 abbrev pub Indicator : Entry → Type 0
 Indicator e = (k : Kind) × (c : ℕ) × (c < most k) × (e ≡ indicator k c)
 
-of-count : {e : Entry} (k : Kind) → In e (every-count k) → Indicator e
-unfolding every-count
+of-count : {e : Entry} (k : Kind) → In e (indicators k) → Indicator e
+unfolding indicators
 of-count k h =
     let m = Memᴰ·of-map (indicator k) (numbers 0 (most k)) h in
     let r = in-numbers 0 (most k) (m .0) (m .1) in
@@ -39,8 +46,8 @@ of-count k h =
 pub indicator-of : {e : Entry} → In e (tables 0) → Indicator e
 unfolding tables
 indicator-of h =
-    ⊎-elim (of-count values) (λ j. ⊎-elim (of-count spaces) (of-count slashes) (List·Memᴰ·append-cases (every-count spaces) j))
-    (List·Memᴰ·append-cases (every-count values) h)
+    ⊎-elim (of-count values) (λ j. ⊎-elim (of-count spaces) (of-count slashes) (List·Memᴰ·append-cases (indicators spaces) j))
+    (List·Memᴰ·append-cases (indicators values) h)
 
 pub six-of : {e : Entry} (m : ℕ) → In e (tables (suc m)) → (v : ℕ) × (v < 64) × (e ≡ six v)
 unfolding tables

@@ -1,5 +1,9 @@
 pub mod Table
 pub mod Characters
 pub mod Entries
+pub mod Runs
 pub mod Writer
+pub mod Size
+pub mod Least
+pub mod Bound
 pub mod Edges

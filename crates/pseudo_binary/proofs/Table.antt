@@ -10,22 +10,22 @@ use Rattle.codes.proofs.Fill.{fills}
 use Rattle.codes.proofs.Laws.{Laws, parted, apart, unfilled, tested}
 use Rattle.codes.proofs.Speaks.{Speaks, heard, said, speaks}
 use Rattle.codes.proofs.Pack.{binary}
-use Rattle.pseudo_binary.specs.Table.{most, characterOf, indicator, six, every-count, tables}
+use Rattle.pseudo_binary.specs.Table.{indicator, most, indicators, six, tables}
 
 all-apart : (m : ℕ) → T (apart (tables m))
-unfolding tables most indicator six every-count numbers low bit apart parted every begun
+unfolding indicator most indicators six tables numbers low bit apart parted every begun
 all-apart zero = tt
 all-apart (suc m) = tt
 
 pub laws : Laws tables
-unfolding tables most indicator six every-count numbers low bit unfilled every fills
+unfolding indicator most indicators six tables numbers low bit unfilled every fills
 laws = tested tables all-apart tt
 
 pub sounds : Speaks tables
-unfolding tables most indicator six every-count numbers every heard said
+unfolding indicator most indicators six tables numbers every heard said
 sounds = speaks tables tt (λ m. tt)
 
 pub all-bits : (m : ℕ) → T (every binary (tables m))
-unfolding tables most indicator six every-count numbers low bit every binary
+unfolding indicator most indicators six tables numbers low bit every binary
 all-bits zero = tt
 all-bits (suc m) = tt

@@ -7,42 +7,32 @@ use Rattle.codes.proofs.Ahead.{window-whole, window-short, one-shifted,
 use borrow.Author.Needs.{needs}
 use Rattle.codes.proofs.window.Statement.{statement}
 use Rattle.codes.proofs.window.Tie as tie
-use Rattle.codes.proofs.window.Reads as reads
-use Rattle.codes.proofs.window.Lts as lts
 
--- src/lib.rt:58:17
 shr-result : tie.Need-shr-result
 shr-result c = search needs
 
--- src/lib.rt:58:9
 returns : tie.Need-returns
 returns c = window-whole (c .before .args .held) (c .before .args .have) (c .if1 .taken)
 
--- src/lib.rt:60:17
 sub-short : tie.Need-sub-short
 sub-short c = search needs
 
--- src/lib.rt:61:6
 shl-result : tie.Need-shl-result
 shl-result c = search needs
 
--- src/lib.rt:61:31
 shl-result-2 : tie.Need-shl-result-2
 shl-result-2 c = search needs
 
--- src/lib.rt:61:30
 sub-result : tie.Need-sub-result
 sub-result c =
     let k : ℕ = 9 - c .before .args .have in
     omega (arith, one-shifted k (omega arith), pow-pos k)
 
--- src/lib.rt:61:5
 add-result : tie.Need-add-result
 add-result c =
     let k : ℕ = 9 - c .before .args .have in
     omega (arith, one-shifted k (omega arith), pow-mono {i = k} {j = 9} (omega arith))
 
--- src/lib.rt:53:1
 returns-2 : tie.Need-returns-2
 returns-2 c =
     let held : ℕ = c .before .args .held in

@@ -1,0 +1,96 @@
+-- `full_ascii::measure_last` meets its contract. The loop's invariant: the codes that were passed leave the lowest `left` bits.
+-- Assumes nothing.
+use mathlib.Core.Path.{ap, subst, subst⁻¹}
+use mathlib.Core.Bool.{Bool}
+use mathlib.Core.List.{List, [], _++_, append-nil}
+use Prim.Native.Nat.{ℕ, _+_, _-_, _≤_}
+use native.Mathlib.Omega.{arith}
+use lib.ListN.{length}
+use Rattle.codes.specs.Ahead.{Says}
+use Rattle.codes.specs.Chain.{Fill}
+use Rattle.codes.specs.Pack.{low}
+use Rattle.codes.proofs.Low.{length-low}
+use Rattle.codes.proofs.Reading.{Halts}
+use Rattle.full_ascii.specs.Table.{tables}
+use Rattle.full_ascii.proofs.Steps.{Counted, counted-none, counted-code, counted-end, counted-stuck, no-code}
+use Rattle.full_ascii.proofs.measure_last.Statement.{statement}
+use Rattle.full_ascii.proofs.measure_last.Tie as tie
+
+abbrev Inv-loop : tie.InvT-loop
+Inv-loop held have left₀ n₀ left n = (left ≤ have) × (n + left ≤ have) × Counted (low have held) (low left held ++ []) n
+
+abbrev μ-loop : tie.MeasureT-loop
+μ-loop held have left₀ n₀ left n = left
+
+loop-holds : tie.Need-loop-holds Inv-loop μ-loop
+loop-holds c =
+    let b = low (c .args .have) (c .args .held) in
+    (omega arith, omega arith, subst⁻¹ (λ (l : List ℕ). Counted b l 0) (append-nil b) (counted-none b))
+
+at-end-requires : tie.Need-at-end-requires Inv-loop μ-loop
+at-end-requires c κs = omega arith
+
+returns : tie.Need-returns Inv-loop μ-loop
+returns c =
+    let a = c .before .before in
+    let rest = low (a .loop .left) (a .before .args .held) in
+    counted-end (low (a .before .args .have) (a .before .args .held)) (rest ++ []) (a .loop .n) (a .loop .inv .2)
+    (subst⁻¹ Fill (append-nil rest) (subst (λ (b : Bool). Says b (Fill rest)) (c .if1 .taken) (c .before .at-end .ensures)))
+
+window-requires : tie.Need-window-requires Inv-loop μ-loop
+window-requires c κs = omega arith
+
+first-code-requires : tie.Need-first-code-requires Inv-loop μ-loop
+first-code-requires c κs = c .window .ensures .small
+
+sub-t9 : tie.Need-sub-t9 Inv-loop μ-loop
+sub-t9 c = omega arith
+
+returns-2 : tie.Need-returns-2 Inv-loop μ-loop
+returns-2 c =
+    let f = c .before .before in
+    let a = f .before .before .before .before in
+    let held = a .before .args .held in
+    let rest = low (a .loop .left) held in
+    counted-stuck (low (a .before .args .have) held) (rest ++ []) (a .loop .n) (a .before .args .have - a .loop .left) (a .loop .inv .2)
+    (omega (arith, length-low (a .before .args .have) held, ap length (append-nil rest), length-low (a .loop .left) held))
+    (subst⁻¹ (Halts tables 0) (append-nil rest)
+    (no-code held (a .loop .left) (f .before .window .result) (f .first-code .result) (f .before .window .ensures) (f .first-code .ensures)
+    (c .if2 .taken)))
+    (λ x.
+    subst (λ (b : Bool). Says b (Fill rest)) (f .before .before .if1 .left) (f .before .before .before .at-end .ensures)
+    (subst Fill (append-nil rest) x))
+
+add-n : tie.Need-add-n Inv-loop μ-loop
+add-n c = omega (arith, c .before .before .before .before .first-code .ensures .short, c .before .before .before .before .first-code .ensures .few)
+
+loop-less : tie.Need-loop-less Inv-loop μ-loop
+loop-less c = omega (arith, c .before .before .before .before .first-code .ensures .short)
+
+loop-again : tie.Need-loop-again Inv-loop μ-loop
+loop-again c =
+    let f = c .before .before .before .before in
+    let a = f .before .before .before .before in
+    let held = a .before .args .held in (
+      omega (arith, f .first-code .ensures .short),
+      omega (arith, f .first-code .ensures .short, f .first-code .ensures .few),
+      counted-code (low (a .before .args .have) held) held (a .loop .left) (f .before .window .result) (a .loop .n) (f .first-code .result) []
+          (a .loop .inv .2) (f .before .window .ensures) (f .first-code .ensures) (c .before .before .if2 .left),
+    )
+
+pub measure-last-spec : {M : Type 1} → statement M
+measure-last-spec =
+    tie.close
+    (tie.spec
+    Inv-loop
+    μ-loop
+    loop-holds
+    at-end-requires
+    returns
+    window-requires
+    first-code-requires
+    sub-t9
+    returns-2
+    add-n
+    loop-less
+    loop-again)

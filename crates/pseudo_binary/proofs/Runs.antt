@@ -1,0 +1,127 @@
+-- Runs of one kind: an indicator with what it counts, in front of what can be read. A run may be cut anywhere.
+-- Assumes nothing.
+use mathlib.Core.Path.{_≡_, refl, sym, ap, ap₂, subst, subst⁻¹, _∙_}
+use mathlib.Core.Bool.{true}
+use mathlib.Core.List.{List, [], _∷_, _++_, append-assoc}
+use Prim.Native.Nat.{ℕ, suc, _<_}
+use native.Mathlib.Nat.{zero-add}
+use lib.ListN.{length, replicate}
+use borrow.Author.Tests.{eqb-true}
+use Rattle.codes.specs.Chain.{Entry, after, Row, codes, texts, Reads}
+use Rattle.pseudo_binary.specs.Table.{SPACE, SLASH, Kind, values, spaces, slashes, of, valueOf, indicator, most, six, tables}
+use Rattle.pseudo_binary.specs.Writer.{besides}
+use Rattle.pseudo_binary.proofs.Characters.{Alike, valueOf-back, valueOf-small}
+use Rattle.pseudo_binary.proofs.Entries.{indicator-in, six-in, after-six}
+
+-- what an indicator that counts j says, and what it announces
+unfoldable pub said : Kind → ℕ → List ℕ
+said values j = []
+said spaces j = replicate j SPACE
+said slashes j = replicate j SLASH
+
+unfoldable pub announced : Kind → ℕ → ℕ
+announced values j = j
+announced spaces j = 0
+announced slashes j = 0
+
+-- the entries build the text, where an indicator of kind k before them counts its first j characters
+pub record Counted (k : Kind) (j : ℕ) (t : List ℕ) (es : List Entry) : Type 0 where
+  pub row : Row tables (announced k j) es 0
+  pub says : said k j ++ texts es ≡ t
+
+-- where it counts none its kind does not matter
+none-announced : (k : Kind) → announced k 0 ≡ 0
+unfolding announced
+none-announced values = refl
+none-announced spaces = refl
+none-announced slashes = refl
+
+none-said : (k : Kind) (t : List ℕ) → said k 0 ++ t ≡ t
+unfolding said
+none-said values t = refl
+none-said spaces t = refl
+none-said slashes t = refl
+
+pub counted-none : (k : Kind) {t : List ℕ} {es : List Entry} → Row tables 0 es 0 → texts es ≡ t → Counted k 0 t es
+counted-none k {t} {es} r s = record {
+  row = subst⁻¹ (λ (n : ℕ). Row tables n es 0) (none-announced k) r;
+  says = none-said k (texts es) ∙ s;
+}
+
+-- one character that it counts
+row-one : (k : Kind) (j c : ℕ) (es : List Entry) → Row tables (announced k j) es 0 → Row tables (announced k (suc j)) (besides k c ++ es) 0
+unfolding announced besides
+row-one values j c es h =
+    (six-in j (valueOf c) (valueOf-small c), subst⁻¹ (λ (n : ℕ). Row tables n es 0) (after-six j (valueOf c)) h)
+row-one spaces j c es h = h
+row-one slashes j c es h = h
+
+says-one : (k : Kind) (j c : ℕ) (t : List ℕ) (es : List Entry) → of k c ≡ true → said k j ++ texts es ≡ t
+    → said k (suc j) ++ texts (besides k c ++ es) ≡ c ∷ t
+unfolding said besides six texts of
+says-one values j c t es x h = ap₂ (λ (y : ℕ) (l : List ℕ). y ∷ l) (valueOf-back c x) h
+says-one spaces j c t es x h = ap₂ (λ (y : ℕ) (l : List ℕ). y ∷ l) (sym (eqb-true c SPACE x)) h
+says-one slashes j c t es x h = ap₂ (λ (y : ℕ) (l : List ℕ). y ∷ l) (sym (eqb-true c SLASH x)) h
+
+pub counted-one : {k : Kind} {j : ℕ} {t : List ℕ} {es : List Entry} (c : ℕ) → of k c ≡ true → Counted k j t es
+    → Counted k (suc j) (c ∷ t) (besides k c ++ es)
+counted-one {k} {j} {t} {es} c x h = record { row = row-one k j c es (h .row); says = says-one k j c t es x (h .says) }
+
+-- the indicator itself
+after-indicator : (k : Kind) (j : ℕ) → after 0 (indicator k j) ≡ announced k (suc j)
+unfolding announced indicator after
+after-indicator values j = zero-add (suc j)
+after-indicator spaces j = refl
+after-indicator slashes j = refl
+
+indicator-says : (k : Kind) (j : ℕ) → indicator k j .says ≡ said k (suc j)
+unfolding said indicator
+indicator-says values j = refl
+indicator-says spaces j = refl
+indicator-says slashes j = refl
+
+pub counted-all : {k : Kind} {j : ℕ} {t : List ℕ} {es : List Entry} (l : Kind) → j < most k → Counted k (suc j) t es
+    → Counted l 0 t (indicator k j ∷ es)
+unfolding texts
+counted-all {k} {j} {t} {es} l m h =
+    counted-none l (indicator-in k j m, subst⁻¹ (λ (n : ℕ). Row tables n es 0) (after-indicator k j) (h .row))
+    (ap (λ (s : List ℕ). s ++ texts es) (indicator-says k j) ∙ h .says)
+
+-- what the characters of a run take besides their indicator
+unfoldable pub spelled : Kind → List ℕ → List Entry
+spelled k [] = []
+spelled k (c ∷ r) = besides k c ++ spelled k r
+
+counted-run : {k : Kind} {t : List ℕ} {es : List Entry} (r : List ℕ) → Alike k r → Counted k 0 t es
+    → Counted k (length r) (r ++ t) (spelled k r ++ es)
+unfolding spelled
+counted-run [] a h = h
+counted-run {k} {t} {es} (c ∷ r) a h =
+    subst⁻¹ (Counted k (suc (length r)) (c ∷ (r ++ t))) (append-assoc (besides k c) (spelled k r) es)
+    (counted-one c (a .0) (counted-run r (a .1) h))
+
+codes-append : (ds es : List Entry) → codes (ds ++ es) ≡ codes ds ++ codes es
+unfolding codes
+codes-append [] es = refl
+codes-append (d ∷ ds) es =
+    ap (λ (l : List ℕ). d .code ++ l) (codes-append ds es) ∙ sym (append-assoc (d .code) (codes ds) (codes es))
+
+-- a run of as many as one indicator counts, in front of what can be read, whatever that begins with
+pub reads-run : (k : Kind) (c : ℕ) (r : List ℕ) {bs t : List ℕ} → Alike k (c ∷ r) → length r < most k → Reads tables 0 bs t
+    → Reads tables 0 (codes (indicator k (length r) ∷ spelled k (c ∷ r)) ++ bs) ((c ∷ r) ++ t)
+unfolding codes announced said
+reads-run k c r {bs} {t} a h b =
+    let run : List Entry = indicator k (length r) ∷ spelled k (c ∷ r) in
+    let built : Counted values 0 ((c ∷ r) ++ t) (run ++ b .entries) =
+    counted-all values h (counted-run (c ∷ r) a (counted-none k (b .row) (b .says))) in
+    record {
+      entries = run ++ b .entries;
+      fill = b .fill;
+      row = built .row;
+      says = built .says;
+      ends = b .ends;
+      bits =
+          ap (λ (l : List ℕ). codes run ++ l) (b .bits)
+          ∙ sym (append-assoc (codes run) (codes (b .entries)) (b .fill))
+          ∙ ap (λ (l : List ℕ). l ++ b .fill) (sym (codes-append run (b .entries)));
+    }
