@@ -30,7 +30,7 @@ Unreadable FullAscii sent i = Malformed ascii.tables sent i
 -- the character has a code
 abbrev pub coded : Format → ℕ → Bool
 coded Open c = true
-coded PseudoBinary c = pseudo-writer.coded c
+coded PseudoBinary c = pseudo.coded c
 coded FullAscii c = ascii-writer.coded c
 
 -- each character below the index has a code
