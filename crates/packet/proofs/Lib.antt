@@ -3,6 +3,7 @@ pub mod Formats
 pub mod InPlace
 pub mod ReadOnce
 pub mod Refused
+pub mod Sent
 pub mod Stages
 pub mod WriteOnce
 pub mod WriteStages

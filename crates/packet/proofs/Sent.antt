@@ -1,0 +1,149 @@
+-- A packet that was sent, as it is received: at most two bits of its header changed, anything behind it. Its parts are found again.
+-- Assumes nothing.
+use mathlib.Core.Bool.{Bool}
+use mathlib.Core.List.{List, [], _∷_, _++_}
+use mathlib.Core.Path.{_≡_, refl, sym, ap, ap₂, _∙_, subst}
+use Prim.Native.Nat.{ℕ, _+_, _^_, _≤_, _<_}
+use native.Mathlib.Omega.{arith}
+use lib.ListN.{length, getD, take, drop, length-append}
+use lib.Seq.{take-at, getD-drop, getD-append-add}
+use Rattle.header.specs.declared.Format.{Format}
+use Rattle.header.specs.declared.Header.{Header}
+use Rattle.header.specs.Fields.{Fit, fieldsIn, headerOf, sentFields, bytesOf}
+use Rattle.header.specs.Typed.{Typed, formatNumber}
+use Rattle.header.specs.Valid.{Valid, lengthIn}
+use Rattle.header.proofs.Made.{made-valid, made-reads-back, word-bytes}
+use Rattle.header.proofs.Typed.{number-lt}
+use Rattle.mending.specs.Mends.{Near, distance}
+use Rattle.checksum.specs.Checksum.{sent}
+use Rattle.packet.specs.declared.Reading.{Reading}
+use Rattle.packet.specs.Data.{Carries}
+use Rattle.packet.specs.Packet.{longest, received, dataIn, sumIn, headerFor}
+use Rattle.packet.specs.declared.Refusal.the-variants.{Checksum}
+use Rattle.packet.specs.Reader.{Accepts, Refuses}
+use Rattle.packet.proofs.Stages.{clear-six}
+
+-- ---- the header of a packet of n data bytes
+
+module _ (format : Format) (sync : Bool) (n : ℕ) (few : n ≤ longest) where
+  fit : Fit (sentFields (formatNumber format) sync n)
+  fit = record { message = omega arith; extended = number-lt format; length = omega arith }
+
+  fields : fieldsIn (headerFor format sync n) ≡ sentFields (formatNumber format) sync n
+  unfolding headerFor
+  fields = made-reads-back (sentFields (formatNumber format) sync n) fit
+
+  pub header-valid : Valid (headerFor format sync n)
+  unfolding headerFor
+  header-valid = made-valid (sentFields (formatNumber format) sync n) fit
+
+  pub header-typed : Typed (fieldsIn (headerFor format sync n)) format
+  header-typed =
+      subst (λ (f : Header). Typed f format) (sym fields) (record { spare = refl; message = refl; extended = refl })
+
+  pub header-length : lengthIn (headerFor format sync n) ≡ n
+  unfolding fieldsIn
+  header-length = ap (λ (f : Header). f .length) fields
+
+  pub header-sync : fieldsIn (headerFor format sync n) .sync ≡ sync
+  header-sync = ap (λ (f : Header). f .sync) fields
+
+-- ---- the parts of a received packet: a header's four bytes, data, two bytes, and whatever follows
+
+module _ (word : ℕ) (carried : List ℕ) (low high : ℕ) (after : List ℕ) where
+  abbrev pub arrived : List ℕ
+  arrived = bytesOf word ++ (carried ++ (low ∷ high ∷ after))
+
+  pub received-is : word < 2 ^ 32 → received arrived ≡ word
+  unfolding received bytesOf
+  received-is bits = word-bytes word bits
+
+  body-is : drop 4 arrived ≡ carried ++ (low ∷ high ∷ after)
+  unfolding bytesOf
+  body-is = refl
+
+  pub long-enough : length carried + 6 ≤ length arrived
+  unfolding bytesOf
+  long-enough = omega (arith, length-append (bytesOf word) (carried ++ (low ∷ high ∷ after)), length-append carried (low ∷ high ∷ after))
+
+  behind : (k : ℕ) → getD arrived (4 + (length carried + k)) 0 ≡ getD (low ∷ high ∷ after) k 0
+  behind k =
+      sym (getD-drop 4 arrived (length carried + k) 0)
+      ∙ ap (λ (l : List ℕ). getD l (length carried + k) 0) body-is
+      ∙ getD-append-add carried (low ∷ high ∷ after) k 0
+
+  -- under a header whose length is the data's
+  module _ (header : ℕ) (long : lengthIn header ≡ length carried) where
+    pub data-is : dataIn header arrived ≡ carried
+    unfolding dataIn
+    data-is = ap₂ take long body-is ∙ take-at carried (low ∷ high ∷ after) (length carried) refl
+
+    pub sum-is : sumIn header arrived ≡ low ∷ high ∷ []
+    unfolding sumIn
+    sum-is =
+        ap₂ (λ (i j : ℕ). getD arrived i 0 ∷ getD arrived j 0 ∷ [])
+        (let first : 4 + lengthIn header ≡ 4 + (length carried + 0) = omega arith in first)
+        (let second : 5 + lengthIn header ≡ 4 + (length carried + 1) = omega arith in second)
+        ∙ ap₂ (λ (x y : ℕ). x ∷ y ∷ []) (behind 0) (behind 1)
+
+-- ---- what the reader makes of it
+
+module _ (format : Format) (sync : Bool) (word : ℕ) (carried : List ℕ) (low high : ℕ) (after : List ℕ) (some : 1 ≤ length carried)
+    (few : length carried ≤ longest) (bits : word < 2 ^ 32) (near : distance word (headerFor format sync (length carried)) ≤ 2) where
+  abbrev header : ℕ
+  header = headerFor format sync (length carried)
+
+  abbrev packet : List ℕ
+  packet = arrived word carried low high after
+
+  header-near : Near 2 (received packet) header
+  header-near =
+      subst (λ (w : ℕ). Near 2 w header) (sym (received-is word carried low high after bits))
+      (record { valid = header-valid format sync (length carried) few; near = near })
+
+  long : lengthIn header ≡ length carried
+  long = header-length format sync (length carried) few
+
+  -- the reading of a packet whose text is so long
+  abbrev pub sentReading : ℕ → Reading
+  sentReading n =
+      record {
+        format = format;
+        sync = sync;
+        mended = distance word header;
+        «data_length» = length carried;
+        «text_length» = n;
+        used = length carried + 6
+      }
+
+  pub sent-accepted : low ∷ high ∷ [] ≡ sent carried → (text : List ℕ) → Carries format text carried → (room : ℕ) → length text ≤ room
+      → Accepts packet room (sentReading (length text)) text
+  sent-accepted summed text carries room held =
+      record {
+        header = header;
+        near = header-near;
+        typed = header-typed format sync (length carried) few;
+        some = omega (arith, long);
+        few = omega (arith, long);
+        whole = omega (arith, long, long-enough word carried low high after);
+        summed = sum-is word carried low high after header long ∙ summed ∙ ap sent (sym (data-is word carried low high after header long));
+        carries = subst (Carries format text) (sym (data-is word carried low high after header long)) carries;
+        held = held;
+        sync = sym (header-sync format sync (length carried) few);
+        mended = ap (λ (w : ℕ). distance w header) (sym (received-is word carried low high after bits));
+        data-length = sym long;
+        text-length = refl;
+        used = ap (λ (n : ℕ). n + 6) (sym long)
+      }
+
+  -- and of one whose checksum is not that of its data
+  pub sent-refused : (low ∷ high ∷ [] ≡ sent carried → ⊥) → (room : ℕ) → Refuses packet room Checksum
+  sent-refused bad room =
+      record {
+        fault =
+          (header, header-near,
+          λ e. bad (sym (sum-is word carried low high after header long) ∙ e ∙ ap sent (data-is word carried low high after header long)));
+        first =
+          clear-six packet room header header-near format (header-typed format sync (length carried) few) (omega (arith, long)) (omega (arith, long))
+          (omega (arith, long, long-enough word carried low high after))
+      }
