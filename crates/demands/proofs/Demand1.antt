@@ -1,0 +1,189 @@
+-- Demand 1. Each kind of bad input has one refusal number, given under its stated condition and under no other. A refusal changes no byte of a lent
+-- buffer; an accepted call writes only the bytes that it counts.
+-- (That every entry point takes what it is handed, at any length, and ends, is what a check of `packet::read` and `packet::write`, which require
+-- nothing, says of any function.)
+-- Assumes nothing.
+use mathlib.Core.Bool.{Bool}
+use mathlib.Core.List.{List, [], _∷_, _++_}
+use mathlib.Core.Logic.{_⊎_, inl, inr, ⊎-elim, _↔_}
+use mathlib.Core.Path.{_≡_, refl, sym, ap, ap₂, _∙_, subst}
+use Prim.Native.Nat.{ℕ, _+_, _≤_, _<_}
+use native.Mathlib.Omega.{arith}
+use lib.ListN.{length, getD, take, drop, length-append, length-drop, List·getD-append}
+use lib.Seq.{drop-at, take-append-le, drop-append-le}
+use Rattle.header.specs.declared.Format.{Format}
+use Rattle.header.specs.Fields.{fieldsIn, wordOf, bytesOf}
+use Rattle.header.specs.Typed.{Typed, formatNumber}
+use Rattle.header.specs.Valid.{lengthIn}
+use Rattle.mending.specs.Mends.{Near, distance}
+use Rattle.mending.proofs.Unique.{one-near}
+use Rattle.checksum.specs.Checksum.{sent}
+use Rattle.checksum.proofs.Row.{sent-length}
+use Rattle.packet.specs.declared.Reading.{Reading}
+use Rattle.packet.specs.declared.ReadAnswer.{ReadAnswer}
+use Rattle.packet.specs.declared.ReadAnswer.the-variants.{Accepted, Refused}
+use Rattle.packet.specs.declared.Refusal.{Refusal}
+use Rattle.packet.specs.declared.Refusal.the-variants.{Short, NoHeader, OtherType, OtherLength, CutOff, Checksum, Malformed, NoRoom, NoCode, Empty, TooLong, OtherFormat}
+use Rattle.packet.specs.declared.WriteAnswer.{WriteAnswer}
+use Rattle.packet.specs.declared.WriteAnswer.the-variants.{Written, Refused as NotWritten}
+use Rattle.packet.specs.Data.{Carries, Unreadable, Coded, dataOf}
+use Rattle.packet.specs.Packet.{longest, received, dataIn, sumIn, packetOf, headerFor}
+use Rattle.packet.specs.Reader.{Fault, Refuses, Accepts, Reads}
+use Rattle.packet.specs.Refusals.{numberOf}
+use Rattle.packet.specs.Writer.{WriteRefuses, WriteAccepts, Writes, ourPacket}
+use Rattle.packet.proofs.Formats.{readable, never-unreadable, writer-carries, no-fewer}
+use Rattle.packet.proofs.ReadOnce.{reads-one, under}
+use Rattle.packet.proofs.WriteOnce.{writes-one}
+
+-- ---- under its stated condition, with none before it, and under no other
+
+pub refused-exactly : (packet entry exit : List ℕ) (answer : ReadAnswer) (refusal : Refusal) → Reads packet entry answer exit
+    → (answer ≡ Refused refusal) ↔ Refuses packet (length entry) refusal
+refused-exactly packet entry exit answer refusal reads = (
+  λ e. subst (λ (a : ReadAnswer). Reads packet entry a exit) e reads .0,
+  λ r. reads-one packet entry answer (Refused refusal) exit entry reads (r, refl) .0,
+)
+
+pub not-written-exactly : (number : ℕ) (sync : Bool) (text entry exit : List ℕ) (answer : WriteAnswer) (refusal : Refusal)
+    → Writes number sync text entry answer exit → (answer ≡ NotWritten refusal) ↔ WriteRefuses number text (length entry) refusal
+not-written-exactly number sync text entry exit answer refusal writes = (
+  λ e. subst (λ (a : WriteAnswer). Writes number sync text entry a exit) e writes .0,
+  λ r. writes-one number sync text entry answer (NotWritten refusal) exit entry writes (r, refl) .0,
+)
+
+-- refusal 7: data that has such a place carries no text, and data that carries no text has such a place
+pub malformed-means : (format : Format) (carried : List ℕ)
+    → ((bit : ℕ) × Unreadable format carried bit) ↔ ((text : List ℕ) → Carries format text carried → ⊥)
+malformed-means format carried = (
+  λ u text c. never-unreadable format text carried (u .0) c (u .1),
+  λ none. ⊎-elim (λ r. absurd (none (r .0) (r .1))) (λ u. u) (readable format carried),
+)
+
+-- refusal 11: the text fits in no single packet of the format
+pub too-long-means : (format : Format) (text : List ℕ) → Coded format text (length text)
+    → (longest < length (dataOf format text)) ↔ ((carried : List ℕ) → Carries format text carried → longest < length carried)
+too-long-means format text coded = (
+  λ long carried c. omega (arith, no-fewer format text carried c),
+  λ all. all (dataOf format text) (writer-carries format text coded),
+)
+
+-- ---- the lent buffers
+
+pub refusal-changes-nothing : (packet entry exit : List ℕ) (refusal : Refusal) → Reads packet entry (Refused refusal) exit → exit ≡ entry
+refusal-changes-nothing packet entry exit refusal reads = reads .1
+
+pub refusal-writes-nothing : (number : ℕ) (sync : Bool) (text entry exit : List ℕ) (refusal : Refusal)
+    → Writes number sync text entry (NotWritten refusal) exit → exit ≡ entry
+refusal-writes-nothing number sync text entry exit refusal writes = writes .1
+
+-- behind the counted bytes the buffer is as it was
+pub reads-only-counted : (packet entry exit : List ℕ) (reading : Reading) → Reads packet entry (Accepted reading) exit
+    → drop (reading .«text_length») exit ≡ drop (reading .«text_length») entry
+reads-only-counted packet entry exit reading (text, a, e) =
+    ap₂ drop (a .text-length) e ∙ drop-at text (drop (length text) entry) (length text) refl ∙ ap (λ (n : ℕ). drop n entry) (sym (a .text-length))
+
+our-length : (format : Format) (sync : Bool) (text : List ℕ) → length (ourPacket format sync text) ≡ length (dataOf format text) + 6
+unfolding ourPacket packetOf bytesOf
+our-length format sync text =
+    let carried = dataOf format text in
+    let header = headerFor format sync (length carried) in
+    omega (arith, length-append (bytesOf header) (carried ++ sent carried), length-append carried (sent carried), sent-length carried)
+
+pub writes-only-counted : (number : ℕ) (sync : Bool) (text entry exit : List ℕ) (n : ℕ) → Writes number sync text entry (Written n) exit
+    → drop n exit ≡ drop n entry
+writes-only-counted number sync text entry exit n (format, a, e) =
+    ap (drop n) e ∙ drop-at (ourPacket format sync text) (drop n entry) n (our-length format sync text ∙ sym (a .fits))
+
+-- ---- bytes after the checksum change nothing
+
+-- two slices that hold whole packets under one header, with the same data and the same two bytes behind it, meet the same conditions
+module _ (p q : List ℕ) (header : ℕ) (near : Near 2 (received p) header) (near′ : Near 2 (received q) header) (whole : lengthIn header + 6 ≤ length p)
+    (same-data : dataIn header q ≡ dataIn header p) (same-sum : sumIn header q ≡ sumIn header p) where
+  moves : (room : ℕ) (r : Refusal) → Fault p room r → Fault q room r
+  moves room Short f = absurd (let no′ : ⊥ = omega arith in no′)
+  moves room NoHeader f = absurd (f header near)
+  moves room OtherType f = (header, near′, under p room (λ (h : ℕ). (k : Format) → Typed (fieldsIn h) k → ⊥) header near f)
+  moves room OtherLength f = (header, near′, under p room (λ (h : ℕ). (lengthIn h ≡ 0) ⊎ (longest < lengthIn h)) header near f)
+  moves room CutOff f =
+      let short = under p room (λ (h : ℕ). length p < lengthIn h + 6) header near f in absurd (let no′ : ⊥ = omega arith in no′)
+  moves room Checksum f = (
+    header,
+    near′,
+    λ e. under p room (λ (h : ℕ). sumIn h p ≡ sent (dataIn h p) → ⊥) header near f (sym same-sum ∙ e ∙ ap sent same-data),
+  )
+  moves room (Malformed i) f =
+      let u = under p room (λ (h : ℕ). (k : Format) × Typed (fieldsIn h) k × Unreadable k (dataIn h p) i) header near f in
+      (header, near′, (u .0, u .1, subst (λ (l : List ℕ). Unreadable (u .0) l i) (sym same-data) (u .2)))
+  moves room (NoRoom n) f =
+      let u =
+      under p room
+      (λ (h : ℕ). (k : Format) × Typed (fieldsIn h) k × ((t : List ℕ) × Carries k t (dataIn h p) × (length t ≡ n) × (room < n))) header near f in
+      (header, near′, (u .0, u .1, (u .2 .0, subst (Carries (u .0) (u .2 .0)) (sym same-data) (u .2 .1), u .2 .2, u .2 .3)))
+  moves room (NoCode i) f = f
+  moves room Empty f = f
+  moves room TooLong f = f
+  moves room OtherFormat f = f
+
+module _ (packet after : List ℕ) (header : ℕ) (near : Near 2 (received packet) header) (whole : lengthIn header + 6 ≤ length packet) where
+  same-byte : (i : ℕ) → i < length packet → getD (packet ++ after) i 0 ≡ getD packet i 0
+  same-byte i lt = List·getD-append packet after 0 i lt
+
+  same-received : received (packet ++ after) ≡ received packet
+  unfolding received
+  same-received =
+      let first = same-byte 0 (omega arith) in
+      let second = same-byte 1 (omega arith) in
+      let third = same-byte 2 (omega arith) in
+      let fourth = same-byte 3 (omega arith) in
+      λ i. wordOf (first i) (second i) (third i) (fourth i)
+
+  same-data : dataIn header (packet ++ after) ≡ dataIn header packet
+  unfolding dataIn
+  same-data =
+      ap (take (lengthIn header)) (drop-append-le 4 packet after (omega arith))
+      ∙ take-append-le (lengthIn header) (drop 4 packet) after (omega (arith, length-drop 4 packet))
+
+  same-sum : sumIn header (packet ++ after) ≡ sumIn header packet
+  unfolding sumIn
+  same-sum =
+      ap₂ (λ (x y : ℕ). x ∷ y ∷ []) (same-byte (4 + lengthIn header) (omega arith)) (same-byte (5 + lengthIn header) (omega arith))
+
+  near-behind : Near 2 (received (packet ++ after)) header
+  near-behind = subst (λ (w : ℕ). Near 2 w header) (sym same-received) near
+
+  longer : length packet ≤ length (packet ++ after)
+  longer = omega (arith, length-append packet after)
+
+  accepts-behind : (room : ℕ) (reading : Reading) (text : List ℕ) → Accepts packet room reading text → Accepts (packet ++ after) room reading text
+  accepts-behind room reading text a =
+      let head : a .header ≡ header = one-near (received packet) (a .header) header (a .near) near in
+      record {
+        header = header;
+        near = near-behind;
+        typed = subst (λ (h : ℕ). Typed (fieldsIn h) (reading .format)) head (a .typed);
+        some = subst (λ (h : ℕ). 1 ≤ lengthIn h) head (a .some);
+        few = subst (λ (h : ℕ). lengthIn h ≤ longest) head (a .few);
+        whole = omega (arith, longer);
+        summed = same-sum ∙ subst (λ (h : ℕ). sumIn h packet ≡ sent (dataIn h packet)) head (a .summed) ∙ ap sent (sym same-data);
+        carries = subst (Carries (reading .format) text) (ap (λ (h : ℕ). dataIn h packet) head ∙ sym same-data) (a .carries);
+        held = a .held;
+        sync = a .sync ∙ ap (λ (h : ℕ). fieldsIn h .sync) head;
+        mended = a .mended ∙ ap₂ distance (sym same-received) head;
+        data-length = a .data-length ∙ ap lengthIn head;
+        text-length = a .text-length;
+        used = a .used ∙ ap (λ (h : ℕ). lengthIn h + 6) head;
+      }
+
+  behind : (entry exit : List ℕ) (answer : ReadAnswer) → Reads packet entry answer exit → Reads (packet ++ after) entry answer exit
+  behind entry exit (Accepted reading) (text, a, e) = (text, accepts-behind (length entry) reading text a, e)
+  behind entry exit (Refused refusal) (r, e) = (
+    record {
+      fault = moves packet (packet ++ after) header near near-behind whole same-data same-sum (length entry) refusal (r .fault);
+      first = λ other lt f. r .first other lt (moves (packet ++ after) packet header near-behind near (omega (arith, longer)) (sym same-data) (sym same-sum) (length entry) other f);
+    },
+    e,
+  )
+
+  -- a slice that holds the whole packet is read as the packet alone, whatever follows
+  pub after-changes-nothing : (entry x y : List ℕ) (a b : ReadAnswer) → Reads packet entry a x → Reads (packet ++ after) entry b y → (a ≡ b) × (x ≡ y)
+  after-changes-nothing entry x y a b p q = reads-one (packet ++ after) entry a b x y (behind entry x a p) q
