@@ -15,3 +15,4 @@ pub mod Passed
 pub mod Within
 pub mod Laid
 pub mod Only
+pub mod Pending
