@@ -8,17 +8,17 @@ use native.Mathlib.Numerals.{add-one}
 use native.Mathlib.Omega.{arith}
 use lib.Dec.{lit≤}
 use lib.Bits.{bitOr, or-shifted}
-use lib.ListN.{replicate, length, take, drop, getD, set, length-take, length-append, length-drop}
+use lib.ListN.{replicate, length-replicate, take-append-drop, length, take, drop, getD, set, length-take, length-append, length-drop}
 use lib.Pow.{high}
 use lib.Seq.{take-all, take-take, take-append-add, drop-cons, take-suc, take-at, drop-at, length-take-le}
 use Rattle.bits.specs.Row.{bits, Bytes}
 use Rattle.codes.specs.Pack.{low, value, packed, gap, filled}
 use Rattle.codes.specs.Ahead.{Window}
-use Rattle.codes.specs.Laid.{laid}
+use Rattle.codes.specs.Laid.{laid, Flushed}
 use Rattle.codes.proofs.Ahead.{take-ones}
 use Rattle.codes.proofs.Laid.{laid-nil, laid-laid, length-laid, set-laid}
 use Rattle.codes.proofs.Low.{length-low, low-binary, low-mod, low-join, low-add, value-low, shl-mod}
-use Rattle.codes.proofs.Pack.{bits-cons, length-bits, packed-bytes, bits-packed, length-packed, filled-binary, filled-whole, length-filled}
+use Rattle.codes.proofs.Pack.{bits-cons, length-bits, packed-bytes, bits-packed, packed-bits, length-packed, filled-binary, filled-whole, length-filled}
 
 pub pushed : (held bits width n : ℕ) → width ≤ 32 → bits < 2 ^ width → n ≤ 32
     → low (n + width) (bitOr (held * 2 ^ width % 2 ^ 64) bits) ≡ low n held ++ low width bits
@@ -186,3 +186,49 @@ pending-last w entry out m n held left number g h e v p = record {
   pending = p .pending ∙ ap (λ (k : ℕ). low left held ++ replicate k 1) e ∙ last-window held left number h v;
   whole = p .whole;
 }
+
+bytes-drop : (w : List ℕ) (k : ℕ) → Bytes w → Bytes (drop k w)
+bytes-drop w zero b = b
+bytes-drop [] (suc k) b = tt
+bytes-drop (x ∷ w) (suc k) b = bytes-drop w k (b .1)
+
+gap-of : (have g k : ℕ) → have + g ≡ k * 8 → g ≤ 7 → g ≡ gap have
+unfolding gap
+gap-of have g k e h = omega arith
+
+-- what is pending, with its fill, flushed after the bytes so far
+module _ (w entry out : List ℕ) (m n held have g : ℕ) (bytes : Bytes w) (room : m + length w ≤ length entry) (few : g ≤ 7)
+    (p : Pending w entry out m n held have (replicate g 1)) where
+  pub flush-size : have + g ≡ (length w - p .count) * 8
+  flush-size =
+      omega (
+        arith,
+        ap length (p .pending),
+        length-bits (drop (p .count) w),
+        length-drop (p .count) w,
+        length-append (low have held) (replicate g 1),
+        length-low have held,
+        length-replicate {A = ℕ} g 1,
+      )
+
+  pub flush-room : n + (have + 7) / 8 ≤ m + length w
+  flush-room = omega (arith, flush-size, p .place, p .within)
+
+  rest-bytes : packed (filled (low have held)) ≡ drop (p .count) w
+  unfolding filled
+  rest-bytes =
+      ap packed
+      (ap (λ (k : ℕ). low have held ++ replicate k 1)
+      (ap gap (length-low have held) ∙ sym (gap-of have g (length w - p .count) flush-size few))
+      ∙ sym (p .pending))
+      ∙ packed-bits (drop (p .count) w) (bytes-drop w (p .count) bytes)
+
+  pub flushed : (exit : List ℕ) (r : ℕ) → Flushed (low have held) out exit n r → (exit ≡ laid entry m w) × (r ≡ m + length w)
+  flushed exit r f =
+      let size : length (take (p .count) w) ≡ p .count = length-take-le (p .count) w (p .within) in (
+        f .whole
+            ∙ ap₂ (λ (l b : List ℕ). laid l n b) (p .whole) rest-bytes
+            ∙ laid-laid entry m n (take (p .count) w) (drop (p .count) w) (omega (arith, p .within)) (omega (arith, p .place))
+            ∙ ap (laid entry m) (take-append-drop (p .count) w),
+        omega (arith, f .place, ap length rest-bytes, length-drop (p .count) w, p .place, p .within),
+      )

@@ -2,13 +2,13 @@
 -- Assumes nothing.
 use mathlib.Core.Path.{_≡_, refl, sym, ap, ap₂, subst, subst⁻¹, _∙_}
 use mathlib.Core.Bool.{Bool, true, false, cond, _&&_}
-use mathlib.Core.Logic.{inl, inr}
-use mathlib.Core.List.{List, [], _∷_}
-use Prim.Native.Nat.{ℕ, suc, _+_, _-_, _≤_, _<_}
+use mathlib.Core.Logic.{inl, inr, ⊎-elim}
+use mathlib.Core.List.{List, [], _∷_, _++_, append-assoc}
+use Prim.Native.Nat.{_^_, ℕ, suc, _+_, _-_, _≤_, _<_, zero}
 use native.Mathlib.Nat.{add-zero}
 use native.Mathlib.Numerals.{add-one}
 use native.Mathlib.Omega.{arith}
-use lib.Dec.{T, eqb, leb, lit≤}
+use lib.Dec.{T, eqb, leb, lit≤, lit<}
 use lib.ListN.{length, take, drop, getD, length-append, length-drop, drop-of-length-le}
 use lib.Seq.{drop-cons, drop-drop, getD-drop, take-add}
 use borrow.Author.Tests.{ne-eqb, lt-leb}
@@ -27,30 +27,30 @@ abbrev sent : ℕ → ℕ → Sent
 sent bits width = record { bits = bits; width = width; count = 1 }
 
 -- a character's own code
-sends-own : (c bits width : ℕ) → T (coded c) → own c .code ≡ low width bits → 6 ≤ width → width ≤ 9 → OwnOf c (sent bits width)
-sends-own c bits width t e h k = inr (t, record { code = e; short = h; long = k }, refl)
+sends-own : (c bits width : ℕ) → T (coded c) → own c .code ≡ low width bits → bits < 2 ^ width → 6 ≤ width → width ≤ 9 → OwnOf c (sent bits width)
+sends-own c bits width t e f h k = inr (t, record { code = e; fits = f; short = h; long = k }, refl)
 
 pub sends-tab : (c : ℕ) → c ≡ HT → OwnOf c (sent 508 9)
 unfolding own coded special low bit
-sends-tab c e = subst⁻¹ (λ (x : ℕ). OwnOf x (sent 508 9)) e (sends-own HT 508 9 tt refl (lit≤ tt) (lit≤ tt))
+sends-tab c e = subst⁻¹ (λ (x : ℕ). OwnOf x (sent 508 9)) e (sends-own HT 508 9 tt refl (lit< tt) (lit≤ tt) (lit≤ tt))
 
 pub sends-feed : (c : ℕ) → c ≡ LF → OwnOf c (sent 510 9)
 unfolding own coded special low bit
-sends-feed c e = subst⁻¹ (λ (x : ℕ). OwnOf x (sent 510 9)) e (sends-own LF 510 9 tt refl (lit≤ tt) (lit≤ tt))
+sends-feed c e = subst⁻¹ (λ (x : ℕ). OwnOf x (sent 510 9)) e (sends-own LF 510 9 tt refl (lit< tt) (lit≤ tt) (lit≤ tt))
 
 pub sends-return : (c : ℕ) → c ≡ CR → OwnOf c (sent 509 9)
 unfolding own coded special low bit
-sends-return c e = subst⁻¹ (λ (x : ℕ). OwnOf x (sent 509 9)) e (sends-own CR 509 9 tt refl (lit≤ tt) (lit≤ tt))
+sends-return c e = subst⁻¹ (λ (x : ℕ). OwnOf x (sent 509 9)) e (sends-own CR 509 9 tt refl (lit< tt) (lit≤ tt) (lit≤ tt))
 
 pub sends-lower : (c : ℕ) → 32 ≤ c → c < 64 → OwnOf c (sent (c - 32) 6)
 unfolding six
 sends-lower c h k =
-    sends-own c (c - 32) 6 (printed-coded c h (omega arith)) (ap (λ (e : Entry). e .code) (own-lower c h k)) (lit≤ tt) (lit≤ tt)
+    sends-own c (c - 32) 6 (printed-coded c h (omega arith)) (ap (λ (e : Entry). e .code) (own-lower c h k)) (omega arith) (lit≤ tt) (lit≤ tt)
 
 pub sends-upper : (c : ℕ) → 64 ≤ c → c < 127 → OwnOf c (sent c 7)
 unfolding seven
 sends-upper c h k =
-    sends-own c c 7 (printed-coded c (omega arith) (omega arith)) (ap (λ (e : Entry). e .code) (own-upper c h)) (lit≤ tt) (lit≤ tt)
+    sends-own c c 7 (printed-coded c (omega arith) (omega arith)) (ap (λ (e : Entry). e .code) (own-upper c h)) (omega arith) (lit≤ tt) (lit≤ tt)
 
 none-below : (c : ℕ) → (c ≡ HT → ⊥) → (c ≡ LF → ⊥) → (c ≡ CR → ⊥) → c < 32 → coded c ≡ false
 unfolding coded
@@ -99,7 +99,7 @@ first-pair t e =
     subst⁻¹ (λ (l : List ℕ). FirstOf l (record { bits = 511; width = 9; count = 2 })) (e .1) (record {
       entry = pair;
       first = refl;
-      sends = record { code = refl; short = lit≤ tt; long = lit≤ tt };
+      sends = record { code = refl; fits = lit< tt; short = lit≤ tt; long = lit≤ tt };
       legal = (tt, (tt, tt));
       some = lit≤ tt;
       few = omega arith;
@@ -151,3 +151,26 @@ module _ (t : List ℕ) (i : ℕ) (r : Sent) (f : FirstOf (drop i t) r) where
 pub ours-end : (t : List ℕ) (i : ℕ) → length t ≤ i → ours (drop i t) ≡ []
 unfolding ours
 ours-end t i h = ap ours (drop-of-length-le t h)
+
+-- the first code's bits, then those of the rest
+pub codes-rest : (t : List ℕ) (i : ℕ) (r : Sent) → FirstOf (drop i t) r → (more : List ℕ)
+    → codes (ours (drop i t)) ++ more ≡ low (r .width) (r .bits) ++ (codes (ours (drop (i + r .count) t)) ++ more)
+unfolding codes
+codes-rest t i r f more =
+    ap (λ (es : List Entry). codes es ++ more) (ours-rest t i r f)
+    ∙ append-assoc (f .entry .code) (codes (ours (drop (i + r .count) t))) more
+    ∙ ap (λ (l : List ℕ). l ++ (codes (ours (drop (i + r .count) t)) ++ more)) (f .sends .code)
+
+-- in a text whose characters have codes there is always a first one
+pub coded-at : (t : List ℕ) (i : ℕ) → Coded t → i < length t → T (coded (getD t i 0))
+coded-at [] i c h = absurd (let no′ : ⊥ = omega arith in no′)
+coded-at (x ∷ t) zero c h = c .0
+coded-at (x ∷ t) (suc i) c h = coded-at t i (c .1) (omega arith)
+
+pub always-first : (t : List ℕ) (i : ℕ) (r : Sent) → Coded t → i < length t → NextOf (drop i t) r → FirstOf (drop i t) r
+always-first t i r c h n =
+    ⊎-elim
+    (λ x.
+    absurd (subst T
+    (ap coded (ap (λ (k : ℕ). getD t k 0) (sym (add-zero i)) ∙ sym (getD-drop i t 0 0)) ∙ x .0) (coded-at t i c h)))
+    (λ x. x) n

@@ -55,7 +55,7 @@ ours-row =
     ours-has (λ (t : List ℕ) (es : List Entry). Coded t → Row tables 0 es 0) (λ h. refl)
     (λ c t es k h. row-one mutes es (own-in c (h .0)) (k (h .1))) (λ t es k h. row-one mutes es pair-in (k (h .1 .1)))
 
-ours-binary : (t : List ℕ) → Coded t → Binary (codes (ours t))
+pub ours-binary : (t : List ℕ) → Coded t → Binary (codes (ours t))
 ours-binary t h = row-binary tables all-bits 0 0 (ours t) (ours-row t h)
 
 -- what the writer builds is a building of the text, in bytes

@@ -3,12 +3,12 @@
 use mathlib.Core.Path.{_≡_}
 use mathlib.Core.Bool.{false}
 use mathlib.Core.Logic.{_⊎_}
-use mathlib.Core.List.{List, _∷_}
-use Prim.Native.Nat.{ℕ, _≤_, _<_}
+use mathlib.Core.List.{List, _∷_, _++_}
+use Prim.Native.Nat.{_^_, ℕ, _≤_, _<_}
 use lib.Dec.{T}
 use lib.ListN.{length, take, drop, getD}
 use Rattle.codes.specs.Chain.{Entry, codes}
-use Rattle.codes.specs.Pack.{low}
+use Rattle.codes.specs.Pack.{low, written}
 use Rattle.full_ascii.specs.Writer.{coded, Coded, own, ours}
 use Rattle.full_ascii.specs.declared.Sent.{Sent}
 use Rattle.full_ascii.specs.declared.Sized.{Sized}
@@ -17,6 +17,7 @@ use Rattle.full_ascii.specs.declared.Sized.the-variants.{Bits, NoCode}
 -- the number and the width of the entry's code
 pub record Sends (e : Entry) (r : Sent) : Type 0 where
   pub code : e .code ≡ low (r .width) (r .bits)
+  pub fits : r .bits < 2 ^ r .width
   pub short : 6 ≤ r .width
   pub long : r .width ≤ 9
 
@@ -41,3 +42,8 @@ NextOf text r = ((coded (getD text 0 0) ≡ false) × (r .width ≡ 0)) ⊎ Firs
 abbrev pub Sizes : List ℕ → Sized → Type 0
 Sizes text (Bits n) = Coded text × (length (codes (ours text)) ≡ n)
 Sizes text (NoCode i) = (i < length text) × (coded (getD text i 0) ≡ false) × Coded (take i text)
+
+-- what our writer builds of the text stands at the front of the buffer, r bytes, and nothing else changed
+pub record Writes (text entry exit : List ℕ) (r : ℕ) : Type 0 where
+  pub size : r ≡ length (written (ours text))
+  pub whole : exit ≡ written (ours text) ++ drop r entry

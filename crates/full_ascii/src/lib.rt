@@ -3,18 +3,19 @@
 use codes::Buffer;
 use codes::Measured;
 ghost use mathlib.Core.Path.{_≡_};
-ghost use Prim.Native.Nat.{_+_, _-_, _<_, _≤_, _^_};
+ghost use Prim.Native.Nat.{_+_, _-_, _/_, _<_, _≤_, _^_};
 ghost use mathlib.Core.List.{List};
 ghost use lib.ListN.{length, drop};
 ghost use Rattle.bits.specs.Row.{bits};
+ghost use Rattle.codes.specs.Chain.{codes};
 ghost use Rattle.codes.specs.Laid.{laid, Readable, Placed};
 ghost use Rattle.codes.specs.Measure.{Measures};
 ghost use Rattle.codes.specs.Ahead.{Says};
 ghost use Rattle.codes.specs.Pack.{low};
-ghost use Rattle.full_ascii.specs.Sending.{OwnOf, NextOf, Sizes};
+ghost use Rattle.full_ascii.specs.Sending.{OwnOf, NextOf, Sizes, Writes};
 ghost use Rattle.full_ascii.specs.Table.{tables};
 ghost use Rattle.full_ascii.specs.Taken.{Takes, characters};
-ghost use Rattle.full_ascii.specs.Writer.{LineEnd};
+ghost use Rattle.full_ascii.specs.Writer.{Coded, ours, LineEnd};
 
 // A code: how many bits it has, and the one or two characters that it says.
 pub struct Code {
@@ -273,4 +274,28 @@ pub fn bits_of(text: &[u8]) -> Sized
         i += c.count;
     }
     Sized::Bits(n)
+}
+
+// What our writer builds of the text, at the front of the buffer; how many bytes it is.
+pub fn write(text: &[u8], out: &mut [u8]) -> usize
+    requires { ⌜ Coded (now text) × ((length (codes (ours (now text))) + 7) / 8 ≤ length (now out)) ⌝ }
+    ensures { λ r. ⌜ Writes (now (text .entry)) (now (out .entry)) (now (out .exit)) r ⌝ }
+{
+    let mut held: u64 = 0;
+    let mut have: u64 = 0;
+    let mut i: usize = 0;
+    let mut n: usize = 0;
+    while i < text.len() {
+        if 8 <= have {
+            have -= 8;
+            out[n] = ((held >> have) % 256) as u8;
+            n += 1;
+        } else {
+            let c = next_code(text, i);
+            held = codes::push(held, c.bits, c.width);
+            have += c.width;
+            i += c.count;
+        }
+    }
+    codes::flush(out, n, held, have)
 }
