@@ -1,4 +1,4 @@
-// Codes in a row, then fill: definitions in specs/, what holds of every format of this shape in proofs/. The code here reads bits through a buffer.
+// Codes in a row, then fill: definitions in specs/, what holds of every format of this shape in proofs/. The code here takes bits out of bytes and puts them in, through a buffer.
 
 ghost use mathlib.Core.Path.{_≡_};
 ghost use mathlib.Core.List.{_++_};

@@ -1,4 +1,4 @@
-pub mod Table
-pub mod Writer
-pub mod Taken
 pub mod Sending
+pub mod Table
+pub mod Taken
+pub mod Writer

@@ -1,10 +1,9 @@
-// Compact Full ASCII (001, 4.5): its table and what our writer builds in specs/, their theorems in proofs/.
+// Compact Full ASCII (001, 4.5), read and written: its table and what our writer builds in specs/, their theorems in proofs/.
 
 use codes::Buffer;
 use codes::Measured;
 ghost use mathlib.Core.Path.{_≡_};
 ghost use Prim.Native.Nat.{_+_, _-_, _/_, _<_, _≤_, _^_};
-ghost use mathlib.Core.List.{List};
 ghost use lib.ListN.{length, drop};
 ghost use Rattle.bits.specs.Row.{bits};
 ghost use Rattle.codes.specs.Chain.{codes};
@@ -18,7 +17,7 @@ ghost use Rattle.full_ascii.specs.Taken.{Takes, characters};
 ghost use Rattle.full_ascii.specs.Writer.{Coded, ours, LineEnd};
 
 // A code: how many bits it has, and the one or two characters that it says.
-pub struct Code {
+struct Code {
     pub width: u64,
     pub count: usize,
     pub first: u8,
@@ -26,7 +25,7 @@ pub struct Code {
 }
 
 // The code that begins nine bits: any nine bits begin one.
-pub fn first_code(w: u64) -> Code
+fn first_code(w: u64) -> Code
     requires { ⌜ w < 512 ⌝ }
     ensures { λ r. ⌜ Takes w r ⌝ }
 {
@@ -177,7 +176,7 @@ pub fn read(s: &[u8], out: &mut [u8]) -> usize
 }
 
 // A code to be sent: its bits as a number, how many they are, and the characters that it takes. No bits: there is no code.
-pub struct Sent {
+struct Sent {
     pub bits: u64,
     pub width: u64,
     pub count: usize,
@@ -239,7 +238,7 @@ fn pair_at(text: &[u8], i: usize) -> bool
 }
 
 // The first of our codes of the text from i on.
-pub fn next_code(text: &[u8], i: usize) -> Sent
+fn next_code(text: &[u8], i: usize) -> Sent
     requires { ⌜ i < length (now text) ⌝ }
     ensures { λ r. ⌜ NextOf (drop i (now (text .entry))) r ⌝ }
 {

@@ -43,27 +43,18 @@ shr-out c = omega arith
 cast-out : tie.Need-cast-out Inv-loop μ-loop
 cast-out c = omega arith
 
-slice-write-out : tie.Need-slice-write-out Inv-loop μ-loop
-slice-write-out c =
+byte-room : (c : tie.In-loop Inv-loop μ-loop) → c .before .loop .n < length (c .before .before .before .args .out .now)
+byte-room c =
     let a = c .before in
     let e = a .before .before in
-    omega (
-      arith,
-      pending-room (last (e .args .held) (e .args .have)) (e .args .out .now) (e .args .at) (last-bytes (e .args .held) (e .args .have)) (room a)
-          (a .loop .out) (a .loop .n) (e .args .held) (a .loop .left) (replicate (gap (e .args .have)) 1) (c .loop-test .taken) (a .loop .inv .2),
-      same a,
-    )
+    pending-room (last (e .args .held) (e .args .have)) (e .args .out .now) (e .args .at) (last-bytes (e .args .held) (e .args .have)) (room a)
+    (a .loop .out) (a .loop .n) (e .args .held) (a .loop .left) (replicate (gap (e .args .have)) 1) (c .loop-test .taken) (a .loop .inv .2)
+
+slice-write-out : tie.Need-slice-write-out Inv-loop μ-loop
+slice-write-out c = omega (arith, byte-room c, same (c .before))
 
 add-n : tie.Need-add-n Inv-loop μ-loop
-add-n c =
-    let a = c .before in
-    let e = a .before .before in
-    omega (
-      arith,
-      pending-room (last (e .args .held) (e .args .have)) (e .args .out .now) (e .args .at) (last-bytes (e .args .held) (e .args .have)) (room a)
-          (a .loop .out) (a .loop .n) (e .args .held) (a .loop .left) (replicate (gap (e .args .have)) 1) (c .loop-test .taken) (a .loop .inv .2),
-      e .good,
-    )
+add-n c = omega (arith, byte-room c, c .before .before .before .good)
 
 loop-less : tie.Need-loop-less Inv-loop μ-loop
 loop-less c = omega arith
