@@ -1,12 +1,21 @@
--- The contracts of measuring and of reading leave one answer, and one content of the buffer.
+-- The contracts of measuring, reading and sizing leave one answer, and one content of the buffer.
 -- Assumes nothing.
-use mathlib.Core.Path.{_≡_, sym, ap, _∙_}
+use mathlib.Core.Path.{_≡_, refl, sym, ap, _∙_}
+use mathlib.Core.Bool.{Bool}
+use mathlib.Core.Logic.{by-cases}
 use mathlib.Core.List.{List}
 use Prim.Native.Nat.{ℕ, _+_}
+use native.Mathlib.Decide.{decLt}
+use native.Mathlib.Omega.{arith}
 use lib.ListN.{length}
 use Rattle.codes.specs.Chain.{Tables}
 use Rattle.codes.specs.Laid.{laid, Placed}
 use Rattle.codes.specs.Measure.{Measures}
+use Rattle.codes.specs.Size.{First, Searches, Needs}
+use Rattle.codes.specs.declared.Needed.{Needed}
+use Rattle.codes.specs.declared.Needed.the-variants.{Bytes, TooMany}
+use Rattle.codes.specs.declared.Uncoded.{Uncoded}
+use Rattle.codes.specs.declared.Uncoded.the-variants.{At, Nowhere}
 use Rattle.codes.specs.declared.Measured.{Measured}
 use Rattle.codes.specs.declared.Measured.the-variants.{Text, Malformed}
 use Rattle.codes.proofs.Laws.{Laws}
@@ -23,3 +32,23 @@ module _ {tables : Tables} (laws : Laws tables) (bs : List ℕ) where
   one-content {entry} {x} {y} {n} h k =
       let same : h .text ≡ k .text = one-text laws (h .reads) (k .reads) in
       (h .whole ∙ ap (laid entry n) same ∙ sym (k .whole), h .place ∙ ap (λ (t : List ℕ). n + length t) same ∙ sym (k .place))
+
+-- ---- the contracts of what a text asks before it is written
+
+module _ (has : ℕ → Bool) (text : List ℕ) where
+  pub first-one : (i j : ℕ) → First has text i → First has text j → i ≡ j
+  first-one i j a b =
+      by-cases (decLt i j) (λ l. absurd (a .none (b .before i l)))
+      (λ l. by-cases (decLt j i) (λ m. absurd (b .none (a .before j m))) (λ m. omega arith))
+
+  pub one-search : (a b : Uncoded) → Searches has text a → Searches has text b → a ≡ b
+  one-search (At i) (At j) h k = ap {B = Uncoded} At (first-one i j h k)
+  one-search (At i) Nowhere h k = absurd (h .none (k i (h .there)))
+  one-search Nowhere (At j) h k = absurd (k .none (h j (k .there)))
+  one-search Nowhere Nowhere h k = refl
+
+pub one-need : (carried : List ℕ) (a b : Needed) → Needs carried a → Needs carried b → a ≡ b
+one-need carried (Bytes m) (Bytes n) h k = ap {B = Needed} Bytes (h .0 ∙ sym (k .0))
+one-need carried (Bytes m) TooMany h k = absurd (let no′ : ⊥ = omega (arith, h .0, h .1) in no′)
+one-need carried TooMany (Bytes n) h k = absurd (let no′ : ⊥ = omega (arith, k .0, k .1) in no′)
+one-need carried TooMany TooMany h k = refl

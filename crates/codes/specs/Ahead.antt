@@ -1,7 +1,6 @@
 -- A buffer of bits over a row of bytes.
 -- Assumes nothing.
 use mathlib.Core.Path.{_≡_}
-use mathlib.Core.Bool.{Bool, true, false}
 use mathlib.Core.List.{List, _++_}
 use Prim.Native.Nat.{ℕ, _+_, _*_, _≤_, _<_}
 use lib.ListN.{length, take, drop, replicate}
@@ -25,8 +24,3 @@ pub record Refilled (s : List ℕ) (b r : Buffer) : Type 0 where
 pub record Window (held have w : ℕ) : Type 0 where
   pub nine : low 9 w ≡ take 9 (low have held ++ replicate 9 1)
   pub small : w < 512
-
--- a boolean answer to the question whether P holds
-abbrev pub Says : Bool → Type 0 → Type 0
-Says true P = P
-Says false P = P → ⊥

@@ -3,3 +3,4 @@ pub mod Chain
 pub mod Laid
 pub mod Measure
 pub mod Pack
+pub mod Size

@@ -4,7 +4,8 @@ ghost use mathlib.Core.Path.{_≡_};
 ghost use mathlib.Core.List.{_++_};
 ghost use Prim.Native.Nat.{ℕ, _+_, _*_, _/_, _^_, _≤_, _<_};
 ghost use lib.ListN.{length};
-ghost use Rattle.codes.specs.Ahead.{Refilled, Window, Says};
+ghost use Rattle.bits.specs.Says.{Says};
+ghost use Rattle.codes.specs.Ahead.{Refilled, Window};
 ghost use Rattle.codes.specs.Chain.{Fill};
 ghost use Rattle.codes.specs.Laid.{Flushed};
 ghost use Rattle.codes.specs.Pack.{low};
@@ -110,4 +111,21 @@ pub fn flush(out: &mut [u8], at: usize, held: u64, have: u64) -> usize
 pub enum Measured {
     Text(usize),
     Malformed(usize),
+}
+
+// The index of the first character that has no code, if there is one.
+pub enum Uncoded {
+    At(usize),
+    Nowhere,
+}
+
+// How many data bytes a text takes, if one packet holds so many.
+pub enum Needed {
+    Bytes(usize),
+    TooMany,
+}
+
+impl Needed {
+    // The most bits that one packet holds.
+    pub const MOST: usize = 32000;
 }

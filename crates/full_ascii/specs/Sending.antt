@@ -7,12 +7,10 @@ use mathlib.Core.List.{List, _∷_, _++_}
 use Prim.Native.Nat.{_^_, ℕ, _≤_, _<_}
 use lib.Dec.{T}
 use lib.ListN.{length, take, drop, getD}
-use Rattle.codes.specs.Chain.{Entry, codes}
+use Rattle.codes.specs.Chain.{Entry}
 use Rattle.codes.specs.Pack.{low, written}
 use Rattle.full_ascii.specs.Writer.{coded, Coded, own, ours}
 use Rattle.full_ascii.specs.declared.Sent.{Sent}
-use Rattle.full_ascii.specs.declared.Sized.{Sized}
-use Rattle.full_ascii.specs.declared.Sized.the-variants.{Bits, NoCode}
 
 -- the number and the width of the entry's code
 pub record Sends (e : Entry) (r : Sent) : Type 0 where
@@ -37,11 +35,6 @@ pub record FirstOf (text : List ℕ) (r : Sent) : Type 0 where
 -- or the text begins with a character that has none
 abbrev pub NextOf : List ℕ → Sent → Type 0
 NextOf text r = ((coded (getD text 0 0) ≡ false) × (r .width ≡ 0)) ⊎ FirstOf text r
-
--- how many bits our codes of the text take, or the first of its characters that has no code
-abbrev pub Sizes : List ℕ → Sized → Type 0
-Sizes text (Bits n) = Coded text × (length (codes (ours text)) ≡ n)
-Sizes text (NoCode i) = (i < length text) × (coded (getD text i 0) ≡ false) × Coded (take i text)
 
 -- what our writer builds of the text stands at the front of the buffer, r bytes, and nothing else changed
 pub record Writes (text entry exit : List ℕ) (r : ℕ) : Type 0 where

@@ -2,6 +2,8 @@
 
 use codes::Buffer;
 use codes::Measured;
+use codes::Needed;
+use codes::Uncoded;
 ghost use mathlib.Core.Path.{_≡_};
 ghost use Prim.Native.Nat.{_+_, _-_, _/_, _<_, _≤_, _^_};
 ghost use lib.ListN.{length, drop};
@@ -9,12 +11,13 @@ ghost use Rattle.bits.specs.Row.{bits};
 ghost use Rattle.codes.specs.Chain.{codes};
 ghost use Rattle.codes.specs.Laid.{laid, Readable, Placed};
 ghost use Rattle.codes.specs.Measure.{Measures};
-ghost use Rattle.codes.specs.Ahead.{Says};
-ghost use Rattle.codes.specs.Pack.{low};
-ghost use Rattle.full_ascii.specs.Sending.{OwnOf, NextOf, Sizes, Writes};
+ghost use Rattle.bits.specs.Says.{Says};
+ghost use Rattle.codes.specs.Pack.{low, written};
+ghost use Rattle.codes.specs.Size.{Searches, Needs};
+ghost use Rattle.full_ascii.specs.Sending.{OwnOf, NextOf, Writes};
 ghost use Rattle.full_ascii.specs.Table.{tables};
 ghost use Rattle.full_ascii.specs.Taken.{Takes, characters};
-ghost use Rattle.full_ascii.specs.Writer.{Coded, ours, LineEnd};
+ghost use Rattle.full_ascii.specs.Writer.{coded, Coded, ours, LineEnd};
 
 // A code: how many bits it has, and the one or two characters that it says.
 struct Code {
@@ -252,27 +255,40 @@ fn next_code(text: &[u8], i: usize) -> Sent
     own_code(text[i])
 }
 
-// How many bits our codes take, or the first character that has none.
-pub enum Sized {
-    Bits(usize),
-    NoCode(usize),
+// The index of the first character that has no code.
+pub fn first_uncoded(text: &[u8]) -> Uncoded
+    ensures { λ r. ⌜ Searches coded (now (text .entry)) r ⌝ }
+{
+    let mut i: usize = 0;
+    while i < text.len() {
+        let c = own_code(text[i]);
+        if c.width == 0 {
+            return Uncoded::At(i);
+        }
+        i += 1;
+    }
+    Uncoded::Nowhere
 }
 
-pub fn bits_of(text: &[u8]) -> Sized
-    requires { ⌜ length (now text) < 2 ^ 60 ⌝ }
-    ensures { λ r. ⌜ Sizes (now (text .entry)) r ⌝ }
+// How many bytes our data of the text has, or that one packet does not hold them: the loop ends where that is certain.
+pub fn data_length(text: &[u8]) -> Needed
+    requires { ⌜ Coded (now text) ⌝ }
+    ensures { λ r. ⌜ Needs (written (ours (now (text .entry)))) r ⌝ }
 {
     let mut i: usize = 0;
     let mut n: usize = 0;
     while i < text.len() {
-        let c = next_code(text, i);
-        if c.width == 0 {
-            return Sized::NoCode(i);
+        if Needed::MOST < n {
+            return Needed::TooMany;
         }
+        let c = next_code(text, i);
         n += c.width as usize;
         i += c.count;
     }
-    Sized::Bits(n)
+    if Needed::MOST < n {
+        return Needed::TooMany;
+    }
+    Needed::Bytes((n + 7) / 8)
 }
 
 // What our writer builds of the text, at the front of the buffer; how many bytes it is.

@@ -113,7 +113,7 @@ module _ (format : Format) (sync : Bool) (word : ℕ) (carried : List ℕ) (low 
         mended = distance word header;
         «data_length» = length carried;
         «text_length» = n;
-        used = length carried + 6
+        used = length carried + 6;
       }
 
   pub sent-accepted : low ∷ high ∷ [] ≡ sent carried → (text : List ℕ) → Carries format text carried → (room : ℕ) → length text ≤ room
@@ -133,17 +133,19 @@ module _ (format : Format) (sync : Bool) (word : ℕ) (carried : List ℕ) (low 
         mended = ap (λ (w : ℕ). distance w header) (sym (received-is word carried low high after bits));
         data-length = sym long;
         text-length = refl;
-        used = ap (λ (n : ℕ). n + 6) (sym long)
+        used = ap (λ (n : ℕ). n + 6) (sym long);
       }
 
   -- and of one whose checksum is not that of its data
   pub sent-refused : (low ∷ high ∷ [] ≡ sent carried → ⊥) → (room : ℕ) → Refuses packet room Checksum
   sent-refused bad room =
       record {
-        fault =
-          (header, header-near,
-          λ e. bad (sym (sum-is word carried low high after header long) ∙ e ∙ ap sent (data-is word carried low high after header long)));
+        fault = (
+          header,
+          header-near,
+          λ e. bad (sym (sum-is word carried low high after header long) ∙ e ∙ ap sent (data-is word carried low high after header long)),
+        );
         first =
-          clear-six packet room header header-near format (header-typed format sync (length carried) few) (omega (arith, long)) (omega (arith, long))
-          (omega (arith, long, long-enough word carried low high after))
+            clear-six packet room header header-near format (header-typed format sync (length carried) few) (omega (arith, long)) (omega (arith, long))
+            (omega (arith, long, long-enough word carried low high after));
       }

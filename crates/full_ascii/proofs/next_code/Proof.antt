@@ -4,7 +4,7 @@ use mathlib.Core.Bool.{Bool}
 use mathlib.Core.Logic.{inr}
 use native.Mathlib.Omega.{arith}
 use lib.ListN.{drop}
-use Rattle.codes.specs.Ahead.{Says}
+use Rattle.bits.specs.Says.{Says}
 use Rattle.full_ascii.specs.Writer.{LineEnd}
 use Rattle.full_ascii.proofs.Sending.{first-pair, first-own}
 use borrow.Author.Needs.{needs}

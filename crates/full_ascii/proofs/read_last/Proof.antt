@@ -6,7 +6,7 @@ use mathlib.Core.List.{List, [], _++_, append-nil}
 use Prim.Native.Nat.{ℕ, _+_, _-_, _≤_}
 use native.Mathlib.Omega.{arith}
 use lib.ListN.{length}
-use Rattle.codes.specs.Ahead.{Says}
+use Rattle.bits.specs.Says.{Says}
 use Rattle.codes.specs.Chain.{Fill}
 use Rattle.codes.specs.Laid.{laid, Readable}
 use Rattle.codes.specs.Pack.{low}
