@@ -3,20 +3,20 @@
 use mathlib.Core.Path.{_≡_, refl, sym, ap, ap₂, subst, subst⁻¹, _∙_}
 use mathlib.Core.List.{List, _++_, append-assoc, append-nil}
 use Prim.Native.Nat.{ℕ, suc, _+_, _-_, _*_, _/_, _%_, _^_, _≤_, _<_}
-use native.Mathlib.Nat.{mod-lt, mod-eq-of-lt, zero-lt-suc, one-mul, mul-mod-left, add-zero, add-comm}
+use native.Mathlib.Nat.{mod-lt, mod-eq-of-lt, zero-lt-suc, one-mul, add-comm}
 use native.Mathlib.Numerals.{add-one}
 use native.Mathlib.Omega.{arith}
 use lib.Arith.{digits-lt}
 use lib.Dec.{lit<}
 use lib.ListN.{length, take, drop, getD, replicate, length-append, length-replicate, replicate-append-replicate, take-append-drop, drop-of-length-le}
-use lib.Pow.{shl-exact, shl-shr, mod-mod-pow, mod-pow-add, pow-add, pow-pos, ones-lt}
+use lib.Pow.{shl-exact, mod-mod-pow, pow-add, pow-pos, ones-lt}
 use lib.Seq.{take-at, drop-cons, drop-at, take-take, take-append-seam, take-append-le, take-append-add}
 use Rattle.bits.specs.Row.{bits}
 use Rattle.bits.specs.Word.{bit}
 use Rattle.codes.specs.Chain.{Fill, Begins}
 use Rattle.codes.specs.Pack.{low, value}
 use Rattle.codes.specs.Ahead.{ahead, Window}
-use Rattle.codes.proofs.Low.{length-low, low-mod, low-join, low-add, low-padded, value-low}
+use Rattle.codes.proofs.Low.{length-low, low-mod, low-join, low-add, low-padded, value-low, shl-mod}
 use Rattle.codes.proofs.Fill.{ones-fill}
 use Rattle.codes.proofs.Pack.{bits-cons}
 
@@ -99,11 +99,7 @@ one-shifted k h = shl-exact 1 k 64 (lit< tt) (omega arith) ∙ one-mul (2 ^ k)
 
 pub held-shifted : (held h k : ℕ) → h + k ≡ 9 → held * 2 ^ k % 2 ^ 64 % 512 ≡ held % 2 ^ h * 2 ^ k
 held-shifted held h k e =
-    mod-mod-pow (held * 2 ^ k) 55 9
-    ∙ ap (λ (n : ℕ). held * 2 ^ k % 2 ^ n) (sym e)
-    ∙ mod-pow-add (held * 2 ^ k) h k
-    ∙ ap₂ (λ (x y : ℕ). x % 2 ^ h * 2 ^ k + y) (shl-shr held k) (mul-mod-left held (2 ^ k))
-    ∙ add-zero (held % 2 ^ h * 2 ^ k)
+    mod-mod-pow (held * 2 ^ k) 55 9 ∙ ap (λ (n : ℕ). held * 2 ^ k % 2 ^ n) (sym e) ∙ shl-mod held h k
 
 pub window-short : (held have w : ℕ) → have < 9 → w ≡ held % 2 ^ have * 2 ^ (9 - have) + (2 ^ (9 - have) - 1) → Window held have w
 window-short held have w h e =
@@ -149,7 +145,7 @@ begins-window held have w c v b h = (
       ∙ take-append-add c (b .0 ++ replicate 9 1) (9 - length c),
 )
 
-take-ones : (n : ℕ) → n ≤ 9 → take {A = ℕ} n (replicate 9 1) ≡ replicate n 1
+pub take-ones : (n : ℕ) → n ≤ 9 → take {A = ℕ} n (replicate 9 1) ≡ replicate n 1
 take-ones n h =
     ap (λ (k : ℕ). take {A = ℕ} n (replicate k 1)) (let e : 9 ≡ n + (9 - n) = omega arith in e)
     ∙ ap (take n) (sym (replicate-append-replicate n (9 - n) 1))

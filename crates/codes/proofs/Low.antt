@@ -3,12 +3,12 @@
 use mathlib.Core.Path.{_≡_, refl, sym, ap, ap₂, subst⁻¹, _∙_}
 use mathlib.Core.List.{List, [], _∷_, _++_}
 use Prim.Native.Nat.{ℕ, zero, suc, _+_, _-_, _*_, _/_, _%_, _^_, _<_}
-use native.Mathlib.Nat.{mod-lt, mod-eq-of-lt, zero-lt-suc, zero-add, suc-add, pow-succ', two-pow-succ}
+use native.Mathlib.Nat.{mod-lt, mod-eq-of-lt, zero-lt-suc, zero-add, add-zero, suc-add, pow-succ', two-pow-succ, mul-mod-left}
 use native.Mathlib.Numerals.{one-add}
 use native.Mathlib.Omega.{arith}
 use lib.ListN.{length, replicate}
 use lib.Arith.{digits-lt}
-use lib.Pow.{mod-pow-add, field, mod-mod-pow, high, shr-shr, ones-lt, pow-pos, low as low-digits}
+use lib.Pow.{mod-pow-add, field, mod-mod-pow, high, shr-shr, shl-shr, ones-lt, pow-pos, low as low-digits}
 use Rattle.bits.specs.Word.{bit}
 use Rattle.codes.specs.Pack.{Binary, low, value}
 
@@ -87,3 +87,10 @@ low-padded h k v =
     ∙ ap₂ (λ (a b : List ℕ). a ++ b)
     (ap (low h) (high (v % 2 ^ h) k (ones-lt k)) ∙ ap (λ (n : ℕ). low h (v % 2 ^ n)) (sym (zero-add h)) ∙ low-mod h 0 v)
     (low-join k (v % 2 ^ h) (2 ^ k - 1) (ones-lt k) ∙ low-ones k)
+
+-- a shift to the left drops the bits above
+pub shl-mod : (a h k : ℕ) → a * 2 ^ k % 2 ^ (h + k) ≡ a % 2 ^ h * 2 ^ k
+shl-mod a h k =
+    mod-pow-add (a * 2 ^ k) h k
+    ∙ ap₂ (λ (x y : ℕ). x % 2 ^ h * 2 ^ k + y) (shl-shr a k) (mul-mod-left a (2 ^ k))
+    ∙ add-zero (a % 2 ^ h * 2 ^ k)

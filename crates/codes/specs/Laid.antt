@@ -5,6 +5,7 @@ use mathlib.Core.List.{List, _++_}
 use Prim.Native.Nat.{ℕ, _+_, _≤_}
 use lib.ListN.{length, take, drop}
 use Rattle.codes.specs.Chain.{Tables, Reads}
+use Rattle.codes.specs.Pack.{packed, filled}
 
 -- the row c over d, from place n on
 unfoldable pub laid : List ℕ → ℕ → List ℕ → List ℕ
@@ -22,3 +23,8 @@ pub record Placed (tables : Tables) (bs entry exit : List ℕ) (n r : ℕ) : Typ
   pub reads : Reads tables 0 bs text
   pub place : r ≡ n + length text
   pub whole : exit ≡ laid entry n text
+
+-- the bits stand in the buffer from place n on, then ones up to the byte's end, up to place r, and nothing else changed
+pub record Flushed (bs entry exit : List ℕ) (n r : ℕ) : Type 0 where
+  pub place : r ≡ n + length (packed (filled bs))
+  pub whole : exit ≡ laid entry n (packed (filled bs))

@@ -1,5 +1,5 @@
 pub mod Ahead
 pub mod Chain
-pub mod Pack
 pub mod Laid
 pub mod Measure
+pub mod Pack

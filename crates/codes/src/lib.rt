@@ -1,10 +1,12 @@
-// Codes in a row, then fill: definitions in specs/, what holds of every format of this shape in proofs/. The code here reads bits through a buffer.
+// Codes in a row, then fill: definitions in specs/, what holds of every format of this shape in proofs/. The code here takes bits out of bytes and puts them in, through a buffer.
 
 ghost use mathlib.Core.Path.{_≡_};
-ghost use Prim.Native.Nat.{_+_, _*_, _≤_, _<_};
+ghost use mathlib.Core.List.{_++_};
+ghost use Prim.Native.Nat.{ℕ, _+_, _*_, _/_, _^_, _≤_, _<_};
 ghost use lib.ListN.{length};
 ghost use Rattle.codes.specs.Ahead.{Refilled, Window, Says};
 ghost use Rattle.codes.specs.Chain.{Fill};
+ghost use Rattle.codes.specs.Laid.{Flushed};
 ghost use Rattle.codes.specs.Pack.{low};
 
 // The bits that are still to be read: the lowest `have` bits of `held`, then those of the bytes from `next` on.
@@ -75,6 +77,33 @@ pub fn at_end(held: u64, have: u64) -> bool
         return true;
     }
     false
+}
+
+// `width` bits put in at the lower end.
+pub fn push(held: u64, bits: u64, width: u64) -> u64
+    requires { ⌜ (width ≤ 32) × (bits < 2 ^ width) ⌝ }
+    ensures { λ r. ⌜ ((n : ℕ) → n ≤ 32 → low (n + width) r ≡ low n held ++ low width bits) ⌝ }
+{
+    (held << width) | bits
+}
+
+// The lowest `have` bits of `held`, then ones up to the byte's end, from place `at` on; the place after them.
+pub fn flush(out: &mut [u8], at: usize, held: u64, have: u64) -> usize
+    requires { ⌜ (have ≤ 64) × (at + (have + 7) / 8 ≤ length (now out)) ⌝ }
+    ensures { λ r. ⌜ Flushed (low have held) (now (out .entry)) (now (out .exit)) at r ⌝ }
+{
+    let mut left = have;
+    let mut n = at;
+    while 8 <= left {
+        left -= 8;
+        out[n] = ((held >> left) % 256) as u8;
+        n += 1;
+    }
+    if left == 0 {
+        return n;
+    }
+    out[n] = (window(held, left) / 2) as u8;
+    n + 1
 }
 
 // What a reading comes to, its text unwritten: the text's length, or the bit at which it is malformed.

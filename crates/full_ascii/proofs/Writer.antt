@@ -23,7 +23,7 @@ use Rattle.full_ascii.specs.Writer.{coded, Coded, own, ours}
 use Rattle.full_ascii.proofs.Table.{sounds, mutes, all-bits}
 use Rattle.full_ascii.proofs.Entries.{Sayer, entry-of, own-in, own-says, pair-in}
 
-line-end : (c d : ℕ) → (eqb c CR && eqb d LF) ≡ true → (c ≡ CR) × (d ≡ LF)
+pub line-end : (c d : ℕ) → (eqb c CR && eqb d LF) ≡ true → (c ≡ CR) × (d ≡ LF)
 line-end c d x =
     let both : T (eqb c CR && eqb d LF) = subst⁻¹ T x tt in
     (eqb→eq c CR (and-left (eqb c CR) (eqb d LF) both), eqb→eq d LF (and-right (eqb c CR) (eqb d LF) both))
@@ -55,7 +55,7 @@ ours-row =
     ours-has (λ (t : List ℕ) (es : List Entry). Coded t → Row tables 0 es 0) (λ h. refl)
     (λ c t es k h. row-one mutes es (own-in c (h .0)) (k (h .1))) (λ t es k h. row-one mutes es pair-in (k (h .1 .1)))
 
-ours-binary : (t : List ℕ) → Coded t → Binary (codes (ours t))
+pub ours-binary : (t : List ℕ) → Coded t → Binary (codes (ours t))
 ours-binary t h = row-binary tables all-bits 0 0 (ours t) (ours-row t h)
 
 -- what the writer builds is a building of the text, in bytes
@@ -68,7 +68,7 @@ pub ours-bytes : (t : List ℕ) → Coded t → Bytes (written (ours t))
 ours-bytes t h = written-bytes (ours t) (ours-binary t h)
 
 -- every character of a text that was built has a code
-coded-append : (a b : List ℕ) → Coded a → Coded b → Coded (a ++ b)
+pub coded-append : (a b : List ℕ) → Coded a → Coded b → Coded (a ++ b)
 coded-append [] b h k = k
 coded-append (c ∷ a) b h k = (h .0, coded-append a b (h .1) k)
 

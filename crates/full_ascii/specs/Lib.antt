@@ -1,3 +1,4 @@
+pub mod Sending
 pub mod Table
-pub mod Writer
 pub mod Taken
+pub mod Writer

@@ -1,5 +1,6 @@
 -- What our writer builds of a text in Compact Full ASCII: `written (ours text)`.
 -- Assumes nothing.
+use mathlib.Core.Path.{_≡_}
 use mathlib.Core.Bool.{Bool, cond, _&&_, _||_}
 use mathlib.Core.List.{List, [], _∷_}
 use Prim.Native.Nat.{ℕ}
@@ -30,3 +31,7 @@ ours (c ∷ d ∷ text) =
     let together = pair ∷ ours text in
     let single = own c ∷ ours (d ∷ text) in
     cond (eqb c CR && eqb d LF) together single
+
+-- the text begins with a line end, CR and then LF
+abbrev pub LineEnd : List ℕ → Type 0
+LineEnd text = (rest : List ℕ) × (text ≡ CR ∷ LF ∷ rest)

@@ -1,19 +1,23 @@
-// Compact Full ASCII (001, 4.5): its table and what our writer builds in specs/, their theorems in proofs/.
+// Compact Full ASCII (001, 4.5), read and written: its table and what our writer builds in specs/, their theorems in proofs/.
 
 use codes::Buffer;
 use codes::Measured;
 ghost use mathlib.Core.Path.{_≡_};
-ghost use Prim.Native.Nat.{_+_, _-_, _<_, _≤_, _^_};
-ghost use lib.ListN.{length};
+ghost use Prim.Native.Nat.{_+_, _-_, _/_, _<_, _≤_, _^_};
+ghost use lib.ListN.{length, drop};
 ghost use Rattle.bits.specs.Row.{bits};
+ghost use Rattle.codes.specs.Chain.{codes};
 ghost use Rattle.codes.specs.Laid.{laid, Readable, Placed};
 ghost use Rattle.codes.specs.Measure.{Measures};
+ghost use Rattle.codes.specs.Ahead.{Says};
 ghost use Rattle.codes.specs.Pack.{low};
+ghost use Rattle.full_ascii.specs.Sending.{OwnOf, NextOf, Sizes, Writes};
 ghost use Rattle.full_ascii.specs.Table.{tables};
 ghost use Rattle.full_ascii.specs.Taken.{Takes, characters};
+ghost use Rattle.full_ascii.specs.Writer.{Coded, ours, LineEnd};
 
 // A code: how many bits it has, and the one or two characters that it says.
-pub struct Code {
+struct Code {
     pub width: u64,
     pub count: usize,
     pub first: u8,
@@ -21,7 +25,7 @@ pub struct Code {
 }
 
 // The code that begins nine bits: any nine bits begin one.
-pub fn first_code(w: u64) -> Code
+fn first_code(w: u64) -> Code
     requires { ⌜ w < 512 ⌝ }
     ensures { λ r. ⌜ Takes w r ⌝ }
 {
@@ -169,4 +173,128 @@ pub fn read(s: &[u8], out: &mut [u8]) -> usize
         }
     }
     read_last(held, have, out, n)
+}
+
+// A code to be sent: its bits as a number, how many they are, and the characters that it takes. No bits: there is no code.
+struct Sent {
+    pub bits: u64,
+    pub width: u64,
+    pub count: usize,
+}
+
+// The code of a character by itself.
+fn own_code(c: u8) -> Sent
+    ensures { λ r. ⌜ OwnOf c r ⌝ }
+{
+    match c {
+        9 => Sent {
+            bits: 508,
+            width: 9,
+            count: 1,
+        },
+        10 => Sent {
+            bits: 510,
+            width: 9,
+            count: 1,
+        },
+        13 => Sent {
+            bits: 509,
+            width: 9,
+            count: 1,
+        },
+        32..=63 => Sent {
+            bits: (c - 32) as u64,
+            width: 6,
+            count: 1,
+        },
+        64..=126 => Sent {
+            bits: c as u64,
+            width: 7,
+            count: 1,
+        },
+        _ => Sent {
+            bits: 0,
+            width: 0,
+            count: 1,
+        },
+    }
+}
+
+// Whether the character at i is a CR that has LF next.
+fn pair_at(text: &[u8], i: usize) -> bool
+    requires { ⌜ i < length (now text) ⌝ }
+    ensures { λ r. ⌜ Says r (LineEnd (drop i (now (text .entry)))) ⌝ }
+{
+    if text[i] != 13 {
+        return false;
+    }
+    if text.len() - i < 2 {
+        return false;
+    }
+    if text[i + 1] == 10 {
+        return true;
+    }
+    false
+}
+
+// The first of our codes of the text from i on.
+fn next_code(text: &[u8], i: usize) -> Sent
+    requires { ⌜ i < length (now text) ⌝ }
+    ensures { λ r. ⌜ NextOf (drop i (now (text .entry))) r ⌝ }
+{
+    if pair_at(text, i) {
+        return Sent {
+            bits: 511,
+            width: 9,
+            count: 2,
+        };
+    }
+    own_code(text[i])
+}
+
+// How many bits our codes take, or the first character that has none.
+pub enum Sized {
+    Bits(usize),
+    NoCode(usize),
+}
+
+pub fn bits_of(text: &[u8]) -> Sized
+    requires { ⌜ length (now text) < 2 ^ 60 ⌝ }
+    ensures { λ r. ⌜ Sizes (now (text .entry)) r ⌝ }
+{
+    let mut i: usize = 0;
+    let mut n: usize = 0;
+    while i < text.len() {
+        let c = next_code(text, i);
+        if c.width == 0 {
+            return Sized::NoCode(i);
+        }
+        n += c.width as usize;
+        i += c.count;
+    }
+    Sized::Bits(n)
+}
+
+// What our writer builds of the text, at the front of the buffer; how many bytes it is.
+pub fn write(text: &[u8], out: &mut [u8]) -> usize
+    requires { ⌜ Coded (now text) × ((length (codes (ours (now text))) + 7) / 8 ≤ length (now out)) ⌝ }
+    ensures { λ r. ⌜ Writes (now (text .entry)) (now (out .entry)) (now (out .exit)) r ⌝ }
+{
+    let mut held: u64 = 0;
+    let mut have: u64 = 0;
+    let mut i: usize = 0;
+    let mut n: usize = 0;
+    while i < text.len() {
+        if 8 <= have {
+            have -= 8;
+            out[n] = ((held >> have) % 256) as u8;
+            n += 1;
+        } else {
+            let c = next_code(text, i);
+            held = codes::push(held, c.bits, c.width);
+            have += c.width;
+            i += c.count;
+        }
+    }
+    codes::flush(out, n, held, have)
 }

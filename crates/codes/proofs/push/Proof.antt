@@ -1,0 +1,14 @@
+-- `codes::push` meets its contract. Assumes nothing.
+use Rattle.codes.proofs.Pending.{pushed}
+use borrow.Author.Needs.{needs}
+use Rattle.codes.proofs.push.Statement.{statement}
+use Rattle.codes.proofs.push.Tie as tie
+
+shl-result : tie.Need-shl-result
+shl-result c = search needs
+
+returns : tie.Need-returns
+returns c n h = pushed (c .args .held) (c .args .bits) (c .args .width) n (c .pre .0) (c .pre .1) h
+
+pub push-spec : {M : Type 1} → statement M
+push-spec = tie.close (tie.spec shl-result returns)
