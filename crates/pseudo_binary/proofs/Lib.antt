@@ -7,3 +7,8 @@ pub mod Size
 pub mod Least
 pub mod Bound
 pub mod Edges
+pub mod Starts
+pub mod First
+pub mod Values
+pub mod Passing
+pub mod Steps

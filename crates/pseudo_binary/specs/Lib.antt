@@ -1,3 +1,4 @@
 pub mod Size
 pub mod Table
 pub mod Writer
+pub mod Taken

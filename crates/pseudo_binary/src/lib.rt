@@ -1,1 +1,173 @@
 // Compact Pseudo Binary (001, 4.2): its tables and what our writer builds in specs/, their theorems in proofs/.
+
+use codes::Buffer;
+use codes::Measured;
+ghost use mathlib.Core.Path.{_≡_};
+ghost use Prim.Native.Nat.{_+_, _*_, _≤_, _<_, _^_};
+ghost use lib.ListN.{length, replicate};
+ghost use Rattle.bits.specs.Row.{bits};
+ghost use Rattle.codes.specs.Ahead.{ahead};
+ghost use Rattle.codes.specs.Laid.{laid, Readable, Placed};
+ghost use Rattle.codes.specs.Measure.{Measures};
+ghost use Rattle.pseudo_binary.specs.Table.{tables};
+ghost use Rattle.pseudo_binary.specs.Taken.{Starts, Takes, characters};
+
+// An indicator: how many bits it has, how many values it announces, and how often it says which character.
+pub struct Indicator {
+    pub width: usize,
+    pub values: usize,
+    pub count: usize,
+    pub character: u8,
+}
+
+// The indicator that begins nine bits: any nine bits begin one.
+fn first_indicator(w: u64) -> Indicator
+    requires { ⌜ w < 512 ⌝ }
+    ensures { λ r. ⌜ Takes w r ⌝ }
+{
+    if 256 <= w {
+        return Indicator {
+            width: 8,
+            values: (w / 2 % 128 + 1) as usize,
+            count: 0,
+            character: 0,
+        };
+    }
+    let count = (w / 8 % 16 + 1) as usize;
+    if w < 128 {
+        return Indicator {
+            width: 6,
+            values: 0,
+            count,
+            character: b' ',
+        };
+    }
+    Indicator {
+        width: 6,
+        values: 0,
+        count,
+        character: b'/',
+    }
+}
+
+// A buffer that starts at a bit of the data, wherever in a byte that is.
+fn buffer_at(s: &[u8], at: usize) -> Buffer
+    requires { ⌜ at ≤ length (now s) * 8 ⌝ }
+    ensures { λ r. ⌜ Starts (now (s .entry)) at r ⌝ }
+{
+    let first = at / 8;
+    if first == s.len() {
+        return Buffer {
+            held: 0,
+            have: 0,
+            next: first,
+        };
+    }
+    let b = codes::refill(
+        s,
+        Buffer {
+            held: 0,
+            have: 0,
+            next: first,
+        },
+    );
+    let held = b.held;
+    let have = b.have - (at % 8) as u64;
+    let next = b.next;
+    if have < 9 {
+        if next < s.len() {
+            return codes::refill(s, Buffer { held, have, next });
+        }
+    }
+    Buffer { held, have, next }
+}
+
+// The length of the text, or the bit at which the data is malformed. Announced values are not looked at: any six bits are a value.
+pub fn measure(s: &[u8]) -> Measured
+    requires { ⌜ length (now s) < 2 ^ 56 ⌝ }
+    ensures { λ r. ⌜ Measures tables (bits (now (s .entry))) r ⌝ }
+{
+    let end = s.len() * 8;
+    let mut at: usize = 0;
+    let mut n: usize = 0;
+    loop {
+        let b = buffer_at(s, at);
+        if codes::at_end(b.held, b.have) {
+            return Measured::Text(n);
+        }
+        let i = first_indicator(codes::window(b.held, b.have));
+        if end - at < i.width {
+            return Measured::Malformed(at);
+        }
+        let left = end - at - i.width;
+        if left < i.values * 6 {
+            return Measured::Malformed(end - left % 6);
+        }
+        at += i.width + i.values * 6;
+        n += i.count + i.values;
+    }
+}
+
+// The six-bit values next in the buffer, each as its character, from place n on.
+fn read_values(s: &[u8], b: Buffer, count: usize, out: &mut [u8], n: usize)
+    requires { ⌜ (b .have ≤ 40) × (b .next ≤ length (now s)) × (6 * count ≤ length (ahead (now s) (b .held) (b .have) (b .next))) ⌝ }
+    requires { ⌜ n + count ≤ length (now out) ⌝ }
+    ensures { λ r. ⌜ now (out .exit) ≡ laid (now (out .entry)) n (characters count (ahead (now (s .entry)) (b .held) (b .have) (b .next))) ⌝ }
+{
+    let mut held = b.held;
+    let mut have = b.have;
+    let mut next = b.next;
+    let mut at = n;
+    let end = n + count;
+    while at < end {
+        if have < 6 {
+            let b = codes::refill(s, Buffer { held, have, next });
+            held = b.held;
+            have = b.have;
+            next = b.next;
+        } else {
+            have -= 6;
+            out[at] = (64 + (held >> have) % 64) as u8;
+            at += 1;
+        }
+    }
+}
+
+// The character, so many times, from place n on.
+fn repeat(out: &mut [u8], n: usize, count: usize, character: u8)
+    requires { ⌜ n + count ≤ length (now out) ⌝ }
+    ensures { λ r. ⌜ now (out .exit) ≡ laid (now (out .entry)) n (replicate count character) ⌝ }
+{
+    let end = n + count;
+    let mut at = n;
+    while at < end {
+        out[at] = character;
+        at += 1;
+    }
+}
+
+// The text of the data, at the front of the buffer; its length.
+pub fn read(s: &[u8], out: &mut [u8]) -> usize
+    requires { ⌜ (length (now s) < 2 ^ 56) × Readable tables (bits (now s)) (length (now out)) ⌝ }
+    ensures { λ r. ⌜ Placed tables (bits (now (s .entry))) (now (out .entry)) (now (out .exit)) 0 r ⌝ }
+{
+    let mut at: usize = 0;
+    let mut n: usize = 0;
+    loop {
+        let b = buffer_at(s, at);
+        if codes::at_end(b.held, b.have) {
+            return n;
+        }
+        let i = first_indicator(codes::window(b.held, b.have));
+        repeat(out, n, i.count, i.character);
+        n += i.count;
+        let rest = Buffer {
+            held: b.held,
+            have: b.have - i.width as u64,
+            next: b.next,
+        };
+        read_values(s, rest, i.values, out, n);
+        n += i.values;
+        at += i.width + i.values * 6;
+    }
+}

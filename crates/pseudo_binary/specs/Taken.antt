@@ -1,0 +1,38 @@
+-- An indicator and values as the reader takes them out of the bits.
+-- Assumes nothing.
+use mathlib.Core.Path.{_≡_}
+use mathlib.Core.List.{List, [], _∷_}
+use Prim.Native.Nat.{ℕ, zero, suc, _≤_, _<_}
+use lib.ListN.{length, take, drop, replicate}
+use Rattle.bits.specs.Row.{bits}
+use Rattle.codes.specs.Ahead.{ahead}
+use Rattle.codes.specs.Chain.{Entry, In, Begins}
+use Rattle.codes.specs.Pack.{low, value}
+use Rattle.codes.specs.declared.Buffer.{Buffer}
+use Rattle.pseudo_binary.specs.Table.{characterOf, tables}
+use Rattle.pseudo_binary.specs.declared.Indicator.{Indicator}
+
+-- a buffer that starts at bit `at`: what is still to be read is what follows that bit. It holds nine bits of it, or all
+pub record Starts (s : List ℕ) (at : ℕ) (b : Buffer) : Type 0 where
+  pub same : ahead s (b .held) (b .have) (b .next) ≡ drop at (bits s)
+  pub within : b .next ≤ length s
+  pub few : b .have ≤ 40
+  pub enough : b .next < length s → 9 ≤ b .have
+
+-- the indicator that begins the nine bits w: its width, how many values it announces, and how often it says its character
+pub record Takes (w : ℕ) (r : Indicator) : Type 0 where
+  pub entry : Entry
+  pub legal : In entry (tables 0)
+  pub begins : Begins (entry .code) (low 9 w)
+  pub width : r .width ≡ length (entry .code)
+  pub announces : r .values ≡ entry .announces
+  pub says : replicate (r .count) (r .character) ≡ entry .says
+  pub short : 6 ≤ r .width
+  pub long : r .width ≤ 8
+  pub few : r .count ≤ 16
+  pub many : r .values ≤ 128
+
+-- the characters of the n six-bit values that begin the bits
+unfoldable pub characters : ℕ → List ℕ → List ℕ
+characters zero bs = []
+characters (suc n) bs = characterOf (value (take 6 bs)) ∷ characters n (drop 6 bs)
