@@ -7,7 +7,8 @@ use Prim.Native.Nat.{ℕ, _+_, _-_, _*_, _≤_}
 use native.Mathlib.Omega.{arith}
 use lib.ListN.{length, drop, replicate}
 use Rattle.bits.specs.Row.{bits}
-use Rattle.codes.specs.Ahead.{ahead, Says}
+use Rattle.bits.specs.Says.{Says}
+use Rattle.codes.specs.Ahead.{ahead}
 use Rattle.codes.specs.Chain.{Fill}
 use Rattle.codes.specs.Laid.{laid}
 use Rattle.codes.specs.Pack.{low}
