@@ -27,7 +27,8 @@ use Rattle.packet.specs.declared.Refusal.the-variants.{Short, NoHeader, OtherTy
 use Rattle.packet.specs.declared.WriteAnswer.{WriteAnswer}
 use Rattle.packet.specs.declared.WriteAnswer.the-variants.{Written, Refused as NotWritten}
 use Rattle.packet.specs.Data.{Carries, Unreadable, Coded, dataOf}
-use Rattle.packet.specs.Packet.{longest, received, dataIn, sumIn, packetOf, headerFor}
+use Rattle.codes.specs.Size.{longest}
+use Rattle.packet.specs.Packet.{received, dataIn, sumIn, packetOf, headerFor}
 use Rattle.packet.specs.Reader.{Fault, Refuses, Accepts, Reads}
 use Rattle.packet.specs.Refusals.{numberOf}
 use Rattle.packet.specs.Writer.{WriteRefuses, WriteAccepts, Writes, ourPacket}

@@ -25,7 +25,8 @@ use Rattle.packet.specs.declared.WriteAnswer.{WriteAnswer}
 use Rattle.packet.specs.declared.WriteAnswer.the-variants.{Written, Refused as NotWritten}
 use Rattle.packet.specs.declared.Refusal.the-variants.{Empty}
 use Rattle.packet.specs.Data.{Carries, Coded, dataOf}
-use Rattle.packet.specs.Packet.{longest, dataIn, packetOf, headerFor}
+use Rattle.codes.specs.Size.{longest}
+use Rattle.packet.specs.Packet.{dataIn, packetOf, headerFor}
 use Rattle.packet.specs.Reader.{Accepts, Reads}
 use Rattle.packet.specs.Writer.{ourPacket, WriteAccepts, Writes}
 use Rattle.packet.proofs.Formats.{carries-coded, writer-carries, no-fewer, carries-some, data-some}

@@ -20,7 +20,8 @@ use Rattle.packet.specs.declared.Reading.{Reading}
 use Rattle.packet.specs.declared.ReadAnswer.{ReadAnswer}
 use Rattle.packet.specs.declared.ReadAnswer.the-variants.{Accepted, Refused}
 use Rattle.packet.specs.declared.Refusal.the-variants.{Checksum}
-use Rattle.packet.specs.Packet.{longest, received, packetOf, headerFor}
+use Rattle.codes.specs.Size.{longest}
+use Rattle.packet.specs.Packet.{received, packetOf, headerFor}
 use Rattle.packet.specs.Reader.{Refuses, Reads}
 use Rattle.packet.proofs.ReadOnce.{reads-one}
 use Rattle.packet.proofs.Sent.{arrived, received-is, header-valid, sentReading, sent-accepted, sent-refused}

@@ -10,7 +10,8 @@ use Rattle.header.specs.declared.Format.{Format}
 use Rattle.header.specs.Fields.{bytesOf}
 use Rattle.mending.specs.Mends.{distance}
 use Rattle.packet.specs.Data.{Carries}
-use Rattle.packet.specs.Packet.{longest, received, packetOf, headerFor}
+use Rattle.codes.specs.Size.{longest}
+use Rattle.packet.specs.Packet.{received, packetOf, headerFor}
 
 -- a packet that a maker could have built: of a text, in a format, with a sync bit. Its data is what a maker may build of the text, runs and line
 -- ends cut as that maker liked, 1 to 4,000 bytes; before it the header of its length, behind it its checksum

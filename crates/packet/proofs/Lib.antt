@@ -1,4 +1,5 @@
 pub mod Answers
+pub mod Dispatch
 pub mod Formats
 pub mod InPlace
 pub mod ReadOnce

@@ -20,7 +20,8 @@ use Rattle.packet.specs.declared.Reading.{Reading}
 use Rattle.packet.specs.declared.ReadAnswer.{ReadAnswer}
 use Rattle.packet.specs.declared.ReadAnswer.the-variants.{Accepted, Refused}
 use Rattle.packet.specs.Data.{Carries, Unreadable}
-use Rattle.packet.specs.Packet.{longest, received, dataIn, sumIn}
+use Rattle.codes.specs.Size.{longest}
+use Rattle.packet.specs.Packet.{received, dataIn, sumIn}
 use Rattle.packet.specs.Reader.{Under, Fault, Refuses, Accepts, Reads}
 use Rattle.packet.specs.Refusals.{numberOf, valueOf}
 use Rattle.packet.proofs.Refused.{refusalFrom, from-both, same-number, plain, first-one}

@@ -18,7 +18,8 @@ use Rattle.mending.specs.Mends.{Near, distance}
 use Rattle.checksum.specs.Checksum.{sent}
 use Rattle.packet.specs.declared.Reading.{Reading}
 use Rattle.packet.specs.Data.{Carries}
-use Rattle.packet.specs.Packet.{longest, received, dataIn, sumIn, headerFor}
+use Rattle.codes.specs.Size.{longest}
+use Rattle.packet.specs.Packet.{received, dataIn, sumIn, headerFor}
 use Rattle.packet.specs.declared.Refusal.the-variants.{Checksum}
 use Rattle.packet.specs.Reader.{Accepts, Refuses}
 use Rattle.packet.proofs.Stages.{clear-six}

@@ -16,7 +16,8 @@ use Rattle.checksum.specs.Checksum.{sent}
 use Rattle.packet.specs.declared.Refusal.{Refusal}
 use Rattle.packet.specs.declared.Refusal.the-variants.{Short, NoHeader, OtherType, OtherLength, CutOff, Checksum, Malformed, NoRoom, NoCode, Empty, TooLong, OtherFormat}
 use Rattle.packet.specs.Data.{Carries, Unreadable}
-use Rattle.packet.specs.Packet.{longest, received, dataIn, sumIn}
+use Rattle.codes.specs.Size.{longest}
+use Rattle.packet.specs.Packet.{received, dataIn, sumIn}
 use Rattle.packet.specs.Reader.{Fault}
 use Rattle.packet.specs.Refusals.{numberOf}
 use Rattle.packet.proofs.Formats.{never-unreadable}

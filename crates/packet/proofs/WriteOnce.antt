@@ -4,7 +4,6 @@ use mathlib.Core.Bool.{Bool}
 use mathlib.Core.List.{List, [], _++_}
 use mathlib.Core.Path.{_≡_, refl, sym, ap, ap₂, _∙_, subst}
 use Prim.Native.Nat.{ℕ, zero, suc, _+_, _≤_, _<_}
-use native.Mathlib.Decide.{decLt}
 use native.Mathlib.Omega.{arith}
 use lib.ListN.{length, drop}
 use Rattle.header.specs.declared.Format.{Format}
@@ -14,19 +13,12 @@ use Rattle.packet.specs.declared.Refusal.{Refusal}
 use Rattle.packet.specs.declared.Refusal.the-variants.{Short, NoHeader, OtherType, OtherLength, CutOff, Checksum, Malformed, NoRoom, NoCode, Empty, TooLong, OtherFormat}
 use Rattle.packet.specs.declared.WriteAnswer.{WriteAnswer}
 use Rattle.packet.specs.declared.WriteAnswer.the-variants.{Written, Refused}
-use Rattle.packet.specs.Data.{Uncoded, Coded, dataOf}
-use Rattle.packet.specs.Packet.{longest}
+use Rattle.packet.specs.Data.{coded, Uncoded, dataOf}
+use Rattle.codes.specs.Size.{longest}
 use Rattle.packet.specs.Refusals.{numberOf, valueOf, writerTurn, First}
 use Rattle.packet.specs.Writer.{Named, WriteFault, WriteRefuses, WriteAccepts, Writes, ourPacket}
-use Rattle.packet.proofs.Refused.{refusalFrom, from-both, same-number, plain, first-one}
-
-pub uncoded-one : (format : Format) (text : List ℕ) (i j : ℕ) → Uncoded format text i → Uncoded format text j → i ≡ j
-uncoded-one format text i j a b = pick (decLt i j) (decLt j i)
-  where
-    pick : Dec (i < j) → Dec (j < i) → i ≡ j
-    pick (yes lt) d = absurd (a .none (b .before i lt))
-    pick (no ge) (yes lt) = absurd (b .none (a .before j lt))
-    pick (no ge) (no le) = omega arith
+use Rattle.codes.proofs.Only.{first-one}
+use Rattle.packet.proofs.Refused.{refusalFrom, from-both, same-number, plain, first-one as first-match}
 
 -- the number of the refusal of each of the writer's turns
 unfoldable pub turnNumber : ℕ → ℕ
@@ -65,7 +57,7 @@ module _ (number : ℕ) (text : List ℕ) (room : ℕ) where
   same-value TooLong s e f g = plain TooLong s e refl
   same-value (NoCode i) s e f g =
       let other = subst (WriteFault number text room) (same-number (NoCode i) s e) g in
-      uncoded-one (f .0) text i (valueOf s) (f .2) (named (λ (k : Format). Uncoded k text (valueOf s)) (f .0) (f .1) other)
+      first-one (coded (f .0)) text i (valueOf s) (f .2) (named (λ (k : Format). Uncoded k text (valueOf s)) (f .0) (f .1) other)
   same-value (NoRoom n) s e f g =
       let other = subst (WriteFault number text room) (same-number (NoRoom n) s e) g in
       f .2 .0 ∙ sym (named (λ (k : Format). (valueOf s ≡ length (dataOf k text) + 6) × (room < valueOf s)) (f .0) (f .1) other .0)
@@ -79,7 +71,7 @@ module _ (number : ℕ) (text : List ℕ) (room : ℕ) where
 
   pub write-refuses-one : (r s : Refusal) → WriteRefuses number text room r → WriteRefuses number text room s → r ≡ s
   write-refuses-one =
-      first-one (WriteFault number text room) writerTurn
+      first-match (WriteFault number text room) writerTurn
       (λ r s e f g.
       let same : numberOf r ≡ numberOf s = numbered r f ∙ ap turnNumber e ∙ sym (numbered s g) in
       sym (from-both r) ∙ ap₂ refusalFrom same (same-value r s same f g) ∙ from-both s)

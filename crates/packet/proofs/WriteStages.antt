@@ -9,7 +9,7 @@ use Rattle.header.specs.declared.Format.{Format}
 use Rattle.header.specs.Typed.{formatNumber}
 use Rattle.packet.specs.declared.Refusal.{Refusal}
 use Rattle.packet.specs.Data.{Uncoded, Coded, dataOf}
-use Rattle.packet.specs.Packet.{longest}
+use Rattle.codes.specs.Size.{longest}
 use Rattle.packet.specs.Refusals.{numberOf, valueOf, writerTurn}
 use Rattle.packet.specs.Writer.{WriteFault}
 use Rattle.packet.proofs.Refused.{refusalFrom, from-both, Clear, clear-next}

@@ -1,15 +1,14 @@
 -- What the data of each format is: the text that it carries, where it is malformed, and what our writer makes of a text.
 -- Assumes nothing.
 use mathlib.Core.Bool.{Bool, true}
-use mathlib.Core.List.{List, [], _∷_}
+use mathlib.Core.List.{List}
 use mathlib.Core.Path.{_≡_}
-use Prim.Native.Nat.{ℕ, _<_}
-use lib.Dec.{T}
-use lib.ListN.{length, getD}
+use Prim.Native.Nat.{ℕ}
 use Rattle.header.specs.declared.Format.{Format}
 use Rattle.header.specs.declared.Format.the-variants.{Open, PseudoBinary, FullAscii}
 use Rattle.codes.specs.Chain.{Built, Malformed}
 use Rattle.codes.specs.Pack.{written}
+use Rattle.codes.specs.Size
 use Rattle.full_ascii.specs.Table as ascii
 use Rattle.full_ascii.specs.Writer as ascii-writer
 use Rattle.pseudo_binary.specs.Table as pseudo
@@ -35,13 +34,11 @@ coded FullAscii c = ascii-writer.coded c
 
 -- each character below the index has a code
 abbrev pub Coded : Format → List ℕ → ℕ → Type 0
-Coded format text n = (i : ℕ) → i < n → T (coded format (getD text i 0))
+Coded format = Size.Coded (coded format)
 
 -- the index of the first character that has none
-pub record Uncoded (format : Format) (text : List ℕ) (index : ℕ) : Type 0 where
-  pub there : index < length text
-  pub before : Coded format text index
-  pub none : T (coded format (getD text index 0)) → ⊥
+abbrev pub Uncoded : Format → List ℕ → ℕ → Type 0
+Uncoded format = Size.First (coded format)
 
 -- the data that our writer makes of a text that has codes
 abbrev pub dataOf : Format → List ℕ → List ℕ

@@ -10,10 +10,6 @@ use Rattle.header.specs.Typed.{formatNumber}
 use Rattle.header.specs.Valid.{lengthIn}
 use Rattle.checksum.specs.Checksum.{sent}
 
--- a packet has 1 to 4,000 data bytes
-abbrev pub longest : ℕ
-longest = 4000
-
 -- ---- of a received slice, whose first byte is the flag
 
 -- its first 32 bits

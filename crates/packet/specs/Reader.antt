@@ -18,7 +18,8 @@ use Rattle.packet.specs.declared.Reading.{Reading}
 use Rattle.packet.specs.declared.ReadAnswer.{ReadAnswer}
 use Rattle.packet.specs.declared.ReadAnswer.the-variants.{Accepted, Refused}
 use Rattle.packet.specs.Data.{Carries, Unreadable}
-use Rattle.packet.specs.Packet.{longest, received, dataIn, sumIn}
+use Rattle.codes.specs.Size.{longest}
+use Rattle.packet.specs.Packet.{received, dataIn, sumIn}
 use Rattle.packet.specs.Refusals.{numberOf, First}
 
 -- the valid header that the packet is read as, at most two bits away, with what the condition says of it

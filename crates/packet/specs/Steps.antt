@@ -9,17 +9,16 @@ use Rattle.header.specs.Fields.{fieldsIn}
 use Rattle.header.specs.Typed.{Typed}
 use Rattle.header.specs.Valid.{lengthIn}
 use Rattle.mending.specs.Mends.{Near, distance}
+use Rattle.codes.specs.declared.Measured.{Measured}
+use Rattle.codes.specs.declared.Measured.the-variants as Measured
 use Rattle.packet.specs.declared.Head.{Head}
 use Rattle.packet.specs.declared.Head.the-variants.{Found, Refused}
 use Rattle.packet.specs.declared.Opened.{Opened}
-use Rattle.packet.specs.declared.Needed.{Needed}
-use Rattle.packet.specs.declared.Needed.the-variants.{Bytes, TooMany}
-use Rattle.packet.specs.declared.Uncoded.{Uncoded as UncodedAt}
-use Rattle.packet.specs.declared.Uncoded.the-variants.{At, Nowhere}
 use Rattle.packet.specs.declared.Taken.{Taken}
 use Rattle.packet.specs.declared.Taken.the-variants.{Text, Malformed, NoRoom}
-use Rattle.packet.specs.Data.{Carries, Unreadable, Coded, Uncoded, dataOf}
-use Rattle.packet.specs.Packet.{longest, received}
+use Rattle.packet.specs.Data.{Carries, Unreadable, Coded, dataOf}
+use Rattle.codes.specs.Size.{longest}
+use Rattle.packet.specs.Packet.{received}
 use Rattle.packet.specs.Reader.{Refuses}
 
 -- tests 1 to 5 are passed: the header that the packet is read as
@@ -38,6 +37,24 @@ abbrev pub Heads : List ℕ → Head → Type 0
 Heads packet (Found opened) = Headed packet opened
 Heads packet (Refused refusal) = (room : ℕ) → Refuses packet room refusal
 
+-- what the data comes to: a text of this length, or the place where it is malformed
+abbrev pub Measures : Format → List ℕ → Measured → Type 0
+Measures format sent (Measured.Text n) = (text : List ℕ) × (length text ≡ n) × Carries format text sent
+Measures format sent (Measured.Malformed bit) = Unreadable format sent bit
+
+-- the data carries a text that there is room for
+pub record Readable (format : Format) (sent : List ℕ) (room : ℕ) : Type 0 where
+  pub text : List ℕ
+  pub carries : Carries format text sent
+  pub held : length text ≤ room
+
+-- the text of the data at the front of the buffer, n characters, and nothing else changed
+pub record Placed (format : Format) (sent entry exit : List ℕ) (n : ℕ) : Type 0 where
+  pub text : List ℕ
+  pub carries : Carries format text sent
+  pub long : n ≡ length text
+  pub whole : exit ≡ text ++ drop (length text) entry
+
 -- tests 7 and 8, and the text in the buffer where they are passed
 abbrev pub Takes : Format → List ℕ → List ℕ → Taken → List ℕ → Type 0
 Takes format sent entry (Text n) exit =
@@ -47,16 +64,6 @@ Takes format sent entry (NoRoom needed) exit =
     ((text : List ℕ) × Carries format text sent × (length text ≡ needed) × (length entry < needed)) × (exit ≡ entry)
 
 -- ---- the writer's
-
--- the first character that has no code, or that each has one
-abbrev pub Searches : Format → List ℕ → UncodedAt → Type 0
-Searches format text (At index) = Uncoded format text index
-Searches format text Nowhere = Coded format text (length text)
-
--- how many bytes the writer's data has, or that they are too many
-abbrev pub Needs : Format → List ℕ → Needed → Type 0
-Needs format text (Bytes n) = (n ≡ length (dataOf format text)) × (n ≤ longest)
-Needs format text TooMany = longest < length (dataOf format text)
 
 -- the text has codes, its data is not too long, and there is room for it
 pub record Fits (format : Format) (text : List ℕ) (room : ℕ) : Type 0 where

@@ -13,7 +13,8 @@ use Rattle.packet.specs.declared.Refusal.the-variants.{Short, NoHeader, 
 use Rattle.packet.specs.declared.WriteAnswer.{WriteAnswer}
 use Rattle.packet.specs.declared.WriteAnswer.the-variants.{Written, Refused}
 use Rattle.packet.specs.Data.{Uncoded, Coded, dataOf}
-use Rattle.packet.specs.Packet.{longest, packetOf, headerFor}
+use Rattle.codes.specs.Size.{longest}
+use Rattle.packet.specs.Packet.{packetOf, headerFor}
 use Rattle.packet.specs.Refusals.{writerTurn, First}
 
 -- the format of this number, with what the condition says of it

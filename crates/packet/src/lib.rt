@@ -1,4 +1,7 @@
 // Packets: the reader and the writer, the two entry points, with their refusals.
+use codes::Measured;
+use codes::Needed;
+use codes::Uncoded;
 use header::Format;
 use header::Header;
 use header::Typing;
@@ -9,11 +12,11 @@ ghost use Prim.Native.Nat.{_+_, _≤_};
 ghost use lib.ListN.{length, take, drop};
 ghost use Rattle.header.specs.Fields.{bytesOf};
 ghost use Rattle.checksum.specs.Checksum.{sent};
-ghost use Rattle.packet.specs.Data.{Coded, dataOf};
-ghost use Rattle.packet.specs.Packet.{longest};
+ghost use Rattle.codes.specs.Size.{longest, Searches, Needs};
+ghost use Rattle.packet.specs.Data.{coded, Coded, dataOf};
 ghost use Rattle.packet.specs.Reader.{Reads};
 ghost use Rattle.packet.specs.Writer.{Writes, ourPacket};
-ghost use Rattle.packet.specs.Steps.{Heads, Headed, Takes, Searches, Needs, Fits, Laid};
+ghost use Rattle.packet.specs.Steps.{Heads, Headed, Measures, Readable, Placed, Takes, Fits, Laid};
 
 // Why a packet is not read, or a text not written; the paper's numbers are in specs/Refusals.antt.
 pub enum Refusal {
@@ -71,18 +74,6 @@ enum Taken {
     NoRoom(usize),
 }
 
-// The index of the first character that has no code, if there is one.
-enum Uncoded {
-    At(usize),
-    Nowhere,
-}
-
-// How many data bytes a text takes, if one packet holds so many.
-enum Needed {
-    Bytes(usize),
-    TooMany,
-}
-
 // Tests 1 to 5: the header that the packet is read as, its type and length, and bytes enough.
 fn open(packet: &[u8]) -> Head
     ensures { λ r. ⌜ Heads (now (packet .entry)) r ⌝ }
@@ -118,12 +109,45 @@ fn open(packet: &[u8]) -> Head
     })
 }
 
+// The length of the text that the data carries, or where it is malformed.
+fn measure(format: Format, data: &[u8]) -> Measured
+    requires { ⌜ length (now «data») ≤ longest ⌝ }
+    ensures { λ r. ⌜ Measures format (now («data» .entry)) r ⌝ }
+{
+    match format {
+        Format::Open => Measured::Text(data.len()),
+        Format::PseudoBinary => pseudo_binary::measure(data),
+        Format::FullAscii => full_ascii::measure(data),
+    }
+}
+
+// The text that the data carries, at the front of the buffer; its length.
+fn unpack(format: Format, data: &[u8], text: &mut [u8]) -> usize
+    requires { ⌜ (length (now «data») ≤ longest) × Readable format (now «data») (length (now text)) ⌝ }
+    ensures { λ r. ⌜ Placed format (now («data» .entry)) (now (text .entry)) (now (text .exit)) r ⌝ }
+{
+    match format {
+        Format::Open => bytes::copy(data, text),
+        Format::PseudoBinary => pseudo_binary::read(data, text),
+        Format::FullAscii => full_ascii::read(data, text),
+    }
+}
+
 // Tests 7 and 8; the text in the buffer where they are passed.
 fn take(format: Format, data: &[u8], text: &mut [u8]) -> Taken
     requires { ⌜ length (now «data») ≤ longest ⌝ }
     ensures { λ r. ⌜ Takes format (now («data» .entry)) (now (text .entry)) r (now (text .exit)) ⌝ }
 {
-    Taken::Malformed(0)
+    let measured = measure(format, data);
+    match measured {
+        Measured::Malformed(bit) => Taken::Malformed(bit),
+        Measured::Text(n) => {
+            if text.len() < n {
+                return Taken::NoRoom(n);
+            }
+            Taken::Text(unpack(format, data, text))
+        }
+    }
 }
 
 // Tests 6 to 8, under a header that is found.
@@ -164,14 +188,14 @@ pub fn read(packet: &[u8], text: &mut [u8]) -> ReadAnswer
 }
 
 fn first_uncoded(format: Format, text: &[u8]) -> Uncoded
-    ensures { λ r. ⌜ Searches format (now (text .entry)) r ⌝ }
+    ensures { λ r. ⌜ Searches (coded format) (now (text .entry)) r ⌝ }
 {
     Uncoded::Nowhere
 }
 
 fn data_length(format: Format, text: &[u8]) -> Needed
     requires { ⌜ Coded format (now text) (length (now text)) ⌝ }
-    ensures { λ r. ⌜ Needs format (now (text .entry)) r ⌝ }
+    ensures { λ r. ⌜ Needs (dataOf format (now (text .entry))) r ⌝ }
 {
     Needed::TooMany
 }

@@ -15,7 +15,8 @@ use Rattle.header.specs.Typed.{formatNumber}
 use Rattle.header.proofs.Typed.{number-lt}
 use Rattle.checksum.specs.Checksum.{sent}
 use Rattle.packet.specs.Data.{dataOf}
-use Rattle.packet.specs.Packet.{longest, packetOf, headerFor}
+use Rattle.codes.specs.Size.{longest}
+use Rattle.packet.specs.Packet.{packetOf, headerFor}
 use Rattle.packet.specs.Writer.{ourPacket}
 use Rattle.packet.proofs.InPlace.{lent-back, laid-out}
 use Rattle.packet.proofs.put_packet.Statement.{statement}

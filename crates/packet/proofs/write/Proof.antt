@@ -9,11 +9,9 @@ use lib.ListN.{length}
 use Rattle.header.specs.declared.Format.{Format}
 use Rattle.header.specs.declared.Typing.{Typing}
 use Rattle.header.specs.Typed.{Names, formatNumber}
-use Rattle.packet.specs.declared.Needed.{Needed}
-use Rattle.packet.specs.declared.Needed.the-variants.{Bytes}
-use Rattle.packet.specs.Data.{Coded, dataOf}
-use Rattle.packet.specs.Packet.{longest}
-use Rattle.packet.specs.Steps.{Searches, Needs}
+use Rattle.packet.specs.Data.{coded, Coded, dataOf}
+use Rattle.codes.specs.Size.{longest}
+use Rattle.codes.specs.Size.{Searches, Needs}
 use Rattle.packet.proofs.WriteStages.{clear-zero, clear-one, clear-two, clear-three, clear-four}
 use Rattle.packet.proofs.write.Statement.{statement}
 use Rattle.packet.proofs.write.Tie as tie
@@ -42,7 +40,7 @@ coded-at : (c : tie.After-enum-told2)
     (length (start (c .before .before .before .before) .args .text .now))
 coded-at c =
     let k = c .before .before .before .before in
-    subst (Searches (format-at k) (start k .args .text .now)) (c .enum-told2 .given .1) (c .before .before .first-uncoded .ensures)
+    subst (Searches (coded (format-at k)) (start k .args .text .now)) (c .enum-told2 .given .1) (c .before .before .first-uncoded .ensures)
 
 abbrev known-at : tie.After-known-told3 → tie.After-known-told
 known-at c = c .before .before .before .before .before .before .before .before
@@ -51,7 +49,7 @@ needed-at : (c : tie.After-known-told3)
     → (c .before .needed .given .0 .0 ≡ length (dataOf (format-at (known-at c)) (start (known-at c) .args .text .now)))
     × (c .before .needed .given .0 .0 ≤ longest)
 needed-at c =
-    subst (Needs (format-at (known-at c)) (start (known-at c) .args .text .now)) (c .before .needed .given .1) (c .before .before .before .data-length .ensures)
+    subst (Needs (dataOf (format-at (known-at c)) (start (known-at c) .args .text .now))) (c .before .needed .given .1) (c .before .before .before .data-length .ensures)
 
 named-requires : tie.Need-named-requires
 named-requires c κs = search needs
@@ -98,7 +96,7 @@ returns-3 c =
         fault = (
           format-at k,
           named-at k,
-          subst (Searches (format-at k) (a .text .now)) (c .before .uncoded .given .1) (u .first-uncoded .ensures),
+          subst (Searches (coded (format-at k)) (a .text .now)) (c .before .uncoded .given .1) (u .first-uncoded .ensures),
         );
         first = clear-two (a .format) (a .text .now) (length (a .packet .now)) (format-at k) (named-at k) (some-at (u .before));
       },
@@ -124,7 +122,7 @@ returns-4 c =
     let a = start k .args in (
       record {
         fault =
-            (format-at k, named-at k, subst (Needs (format-at k) (a .text .now)) (c .enum-told3 .given .1) (d .data-length .ensures));
+            (format-at k, named-at k, subst (Needs (dataOf (format-at k) (a .text .now))) (c .enum-told3 .given .1) (d .data-length .ensures));
         first =
             clear-three (a .format) (a .text .now) (length (a .packet .now)) (format-at k) (named-at k) (some-at (d .before .before .before .before))
             (coded-at (d .before));
