@@ -2,6 +2,8 @@
 
 use codes::Buffer;
 use codes::Measured;
+use codes::Needed;
+use codes::Uncoded;
 ghost use mathlib.Core.Path.{_≡_};
 ghost use lib.Dec.{T};
 ghost use Prim.Native.Nat.{ℕ, _+_, _*_, _≤_, _<_, _^_};
@@ -11,7 +13,8 @@ ghost use Rattle.codes.specs.Ahead.{ahead};
 ghost use Rattle.codes.specs.Laid.{laid, Readable, Placed};
 ghost use Rattle.codes.specs.Measure.{Measures};
 ghost use Rattle.codes.specs.Pack.{written};
-ghost use Rattle.pseudo_binary.specs.Sending.{Between, FirstOf, FirstUncoded, Sizes, Writes};
+ghost use Rattle.codes.specs.Size.{Searches, Needs};
+ghost use Rattle.pseudo_binary.specs.Sending.{Between, FirstOf, Writes};
 ghost use Rattle.pseudo_binary.specs.Table.{Kind, coded, Coded, tables};
 ghost use Rattle.pseudo_binary.specs.Taken.{Starts, Takes, characters};
 ghost use Rattle.pseudo_binary.specs.Writer.{run, ours};
@@ -188,14 +191,9 @@ fn is_coded(c: u8) -> bool
     }
 }
 
-// Where the first character stands that has no code.
-pub enum Uncoded {
-    At(usize),
-    Nowhere,
-}
-
+// The index of the first character that has no code.
 pub fn first_uncoded(text: &[u8]) -> Uncoded
-    ensures { λ r. ⌜ FirstUncoded (now (text .entry)) r ⌝ }
+    ensures { λ r. ⌜ Searches coded (now (text .entry)) r ⌝ }
 {
     let mut i: usize = 0;
     while i < text.len() {
@@ -273,27 +271,22 @@ fn next_indicator(text: &[u8], i: usize) -> Sent
     }
 }
 
-// How many bytes our data of a text is.
-pub enum Sized {
-    Bytes(usize),
-    TooLong,
-}
-
-pub fn data_length(text: &[u8]) -> Sized
+// How many bytes our data of the text has, or that one packet does not hold them: the loop ends where that is certain.
+pub fn data_length(text: &[u8]) -> Needed
     requires { ⌜ Coded (now text) ⌝ }
-    ensures { λ r. ⌜ Sizes (now (text .entry)) r ⌝ }
+    ensures { λ r. ⌜ Needs (written (ours (now (text .entry)))) r ⌝ }
 {
     let mut i: usize = 0;
     let mut n: usize = 0;
     while i < text.len() {
         let r = next_indicator(text, i);
         n += r.width as usize + r.values * 6;
-        if 32000 < n {
-            return Sized::TooLong;
+        if Needed::MOST < n {
+            return Needed::TooMany;
         }
         i += r.count + r.values;
     }
-    Sized::Bytes((n + 7) / 8)
+    Needed::Bytes((n + 7) / 8)
 }
 
 // What our writer builds of the text, at the front of the buffer; how many bytes it is.
