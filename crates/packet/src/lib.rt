@@ -15,6 +15,7 @@ ghost use Rattle.checksum.specs.Checksum.{sent};
 ghost use Rattle.codes.specs.Size.{longest, Searches, Needs};
 ghost use Rattle.packet.specs.Data.{coded, Coded, dataOf};
 ghost use Rattle.packet.specs.Reader.{Reads};
+ghost use Rattle.packet.specs.Refusals.{numberOf, valueOf};
 ghost use Rattle.packet.specs.Writer.{Writes, ourPacket};
 ghost use Rattle.packet.specs.Steps.{Heads, Headed, Measures, Readable, Placed, Takes, Fits, Packed, Laid};
 
@@ -32,6 +33,48 @@ pub enum Refusal {
     Empty,
     TooLong,
     OtherFormat,
+}
+
+impl Refusal {
+    // The paper's number.
+    pub fn number(self) -> u32
+        ensures { λ r. ⌜ r ≡ numberOf self ⌝ }
+    {
+        match self {
+            Refusal::Short => 1,
+            Refusal::NoHeader => 2,
+            Refusal::OtherType => 3,
+            Refusal::OtherLength => 4,
+            Refusal::CutOff => 5,
+            Refusal::Checksum => 6,
+            Refusal::Malformed(_) => 7,
+            Refusal::NoRoom(_) => 8,
+            Refusal::NoCode(_) => 9,
+            Refusal::Empty => 10,
+            Refusal::TooLong => 11,
+            Refusal::OtherFormat => 12,
+        }
+    }
+
+    // The whole number that comes with it.
+    pub fn value(self) -> usize
+        ensures { λ r. ⌜ r ≡ valueOf self ⌝ }
+    {
+        match self {
+            Refusal::Malformed(bit) => bit,
+            Refusal::NoRoom(needed) => needed,
+            Refusal::NoCode(index) => index,
+            Refusal::Short => 0,
+            Refusal::NoHeader => 0,
+            Refusal::OtherType => 0,
+            Refusal::OtherLength => 0,
+            Refusal::CutOff => 0,
+            Refusal::Checksum => 0,
+            Refusal::Empty => 0,
+            Refusal::TooLong => 0,
+            Refusal::OtherFormat => 0,
+        }
+    }
 }
 
 // An accepted packet: its format and sync bit, how many header bits were mended, the lengths of data and text, and the bytes used.
