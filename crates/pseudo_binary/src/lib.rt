@@ -99,16 +99,16 @@ pub fn measure(s: &[u8]) -> Measured
         if codes::at_end(b.held, b.have) {
             return Measured::Text(n);
         }
-        let i = first_indicator(codes::window(b.held, b.have));
-        if end - at < i.width {
+        let indicator = first_indicator(codes::window(b.held, b.have));
+        if end - at < indicator.width {
             return Measured::Malformed(at);
         }
-        let left = end - at - i.width;
-        if left < i.values * 6 {
+        let left = end - at - indicator.width;
+        if left < indicator.values * 6 {
             return Measured::Malformed(end - left % 6);
         }
-        at += i.width + i.values * 6;
-        n += i.count + i.values;
+        at += indicator.width + indicator.values * 6;
+        n += indicator.count + indicator.values;
     }
 }
 
@@ -142,9 +142,9 @@ fn repeat(out: &mut [u8], n: usize, count: usize, character: u8)
     requires { ⌜ n + count ≤ length (now out) ⌝ }
     ensures { λ r. ⌜ now (out .exit) ≡ laid (now (out .entry)) n (replicate count character) ⌝ }
 {
-    let end = n + count;
+    let past = n + count;
     let mut at = n;
-    while at < end {
+    while at < past {
         out[at] = character;
         at += 1;
     }
@@ -162,17 +162,17 @@ pub fn read(s: &[u8], out: &mut [u8]) -> usize
         if codes::at_end(b.held, b.have) {
             return n;
         }
-        let i = first_indicator(codes::window(b.held, b.have));
-        repeat(out, n, i.count, i.character);
-        n += i.count;
+        let run = first_indicator(codes::window(b.held, b.have));
+        repeat(out, n, run.count, run.character);
+        n += run.count;
         let rest = Buffer {
             held: b.held,
-            have: b.have - i.width as u64,
+            have: b.have - run.width as u64,
             next: b.next,
         };
-        read_values(s, rest, i.values, out, n);
-        n += i.values;
-        at += i.width + i.values * 6;
+        read_values(s, rest, run.values, out, n);
+        n += run.values;
+        at += run.width + run.values * 6;
     }
 }
 
