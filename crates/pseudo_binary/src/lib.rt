@@ -4,7 +4,7 @@ use codes::Buffer;
 use codes::Measured;
 ghost use mathlib.Core.Path.{_≡_};
 ghost use lib.Dec.{T};
-ghost use Prim.Native.Nat.{ℕ, _+_, _*_, _≤_, _<_, _^_};
+ghost use Prim.Native.Nat.{_+_, _*_, _≤_, _<_, _^_};
 ghost use lib.ListN.{length, drop, getD, replicate};
 ghost use Rattle.bits.specs.Row.{bits};
 ghost use Rattle.codes.specs.Ahead.{ahead};

@@ -1,7 +1,6 @@
 -- `pseudo_binary::first_uncoded` meets its contract. The loop's invariant: the characters that were passed have codes.
 -- Assumes nothing.
-use mathlib.Core.Path.{_≡_, sym, subst, subst⁻¹, _∙_}
-use mathlib.Core.List.{List}
+use mathlib.Core.Path.{sym, subst, subst⁻¹, _∙_}
 use Prim.Native.Nat.{ℕ, _-_, _≤_}
 use native.Mathlib.Numerals.{add-one}
 use native.Mathlib.Omega.{arith}
