@@ -17,7 +17,7 @@ ghost use Rattle.pseudo_binary.specs.Taken.{Starts, Takes, characters};
 ghost use Rattle.pseudo_binary.specs.Writer.{run, ours};
 
 // An indicator: how many bits it has, how many values it announces, and how often it says which character.
-pub struct Indicator {
+struct Indicator {
     pub width: usize,
     pub values: usize,
     pub count: usize,
@@ -181,8 +181,8 @@ fn is_coded(c: u8) -> bool
     ensures { λ r. ⌜ r ≡ coded c ⌝ }
 {
     match c {
-        32 => true,
-        47 => true,
+        b' ' => true,
+        b'/' => true,
         64..=127 => true,
         _ => false,
     }
@@ -243,8 +243,8 @@ fn next_indicator(text: &[u8], i: usize) -> Sent
     ensures { λ r. ⌜ FirstOf (drop i (now (text .entry))) r ⌝ }
 {
     match text[i] {
-        32 => {
-            let count = run_of(text, i, 32, 32, 16);
+        b' ' => {
+            let count = run_of(text, i, b' ', b' ', 16);
             Sent {
                 bits: count as u64 - 1,
                 width: 6,
@@ -252,8 +252,8 @@ fn next_indicator(text: &[u8], i: usize) -> Sent
                 count,
             }
         }
-        47 => {
-            let count = run_of(text, i, 47, 47, 16);
+        b'/' => {
+            let count = run_of(text, i, b'/', b'/', 16);
             Sent {
                 bits: count as u64 - 1 + 16,
                 width: 6,
