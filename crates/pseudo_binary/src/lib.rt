@@ -273,7 +273,10 @@ fn next_indicator(text: &[u8], i: usize) -> Sent
     }
 }
 
-// How many bytes our data of a text is.
+// The bits of 4,000 data bytes.
+const MOST_BITS: usize = 32000;
+
+// How many bytes our data of a text is, or that it is more than 4,000.
 pub enum Sized {
     Bytes(usize),
     TooLong,
@@ -286,12 +289,12 @@ pub fn data_length(text: &[u8]) -> Sized
     let mut i: usize = 0;
     let mut n: usize = 0;
     while i < text.len() {
-        let r = next_indicator(text, i);
-        n += r.width as usize + r.values * 6;
-        if 32000 < n {
+        let indicator = next_indicator(text, i);
+        n += indicator.width as usize + indicator.values * 6;
+        if MOST_BITS < n {
             return Sized::TooLong;
         }
-        i += r.count + r.values;
+        i += indicator.count + indicator.values;
     }
     Sized::Bytes((n + 7) / 8)
 }
@@ -317,11 +320,11 @@ pub fn write(text: &[u8], out: &mut [u8]) -> usize
             i += 1;
             announced -= 1;
         } else {
-            let r = next_indicator(text, i);
-            held = codes::push(held, r.bits, r.width);
-            have += r.width;
-            i += r.count;
-            announced = r.values;
+            let indicator = next_indicator(text, i);
+            held = codes::push(held, indicator.bits, indicator.width);
+            have += indicator.width;
+            i += indicator.count;
+            announced = indicator.values;
         }
     }
     codes::flush(out, n, held, have)
