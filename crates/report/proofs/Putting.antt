@@ -127,3 +127,7 @@ module _ (word numbers entry : List ℕ) (held : length (line word numbers) ≤ 
           front
               (puts-more word-put (puts-more p (puts-byte late end 10 here) (omega (arith, spaced-held))) (omega (arith, line-held))),
         )
+
+-- what stands at the front is a part of the buffer
+pub front-within : {row entry exit : List ℕ} {r : ℕ} → Fronts row entry exit r → r ≤ length exit
+front-within {row} {entry} {exit} {r} p = omega (arith, p .long, ap length (p .whole), length-append row (drop r entry))
