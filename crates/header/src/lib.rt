@@ -135,7 +135,8 @@ impl Header {
     }
 }
 
-fn one_if(set: bool) -> u32
+// 1 for a bit that is set.
+pub fn one_if(set: bool) -> u32
     ensures { λ r. ⌜ r ≡ oneIf set ⌝ }
 {
     if set { 1 } else { 0 }

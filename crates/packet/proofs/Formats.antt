@@ -74,11 +74,18 @@ carries-coded Open text sent p = λ i lt. tt
 carries-coded PseudoBinary text sent p = by-index pseudo.coded pseudo.Coded (λ c t h. h) text (pseudo-built.built-coded sent p)
 carries-coded FullAscii text sent p = by-index ascii-writer.coded ascii-writer.Coded (λ c t h. h) text (ascii-built.built-coded sent p)
 
+-- codes for each character, by the row, as the format's own functions ask them
+pub pseudo-coded : (t : List ℕ) → Coded PseudoBinary t (length t) → pseudo.Coded t
+pseudo-coded t h = by-row pseudo.coded pseudo.Coded tt (λ c t x y. (x, y)) t h
+
+pub ascii-coded : (t : List ℕ) → Coded FullAscii t (length t) → ascii-writer.Coded t
+ascii-coded t h = by-row ascii-writer.coded ascii-writer.Coded tt (λ c t x y. (x, y)) t h
+
 -- what our writer makes of a text that has codes carries it
 pub writer-carries : (format : Format) (text : List ℕ) → Coded format text (length text) → Carries format text (dataOf format text)
 writer-carries Open text h = refl
-writer-carries PseudoBinary text h = pseudo-built.ours-built text (by-row pseudo.coded pseudo.Coded tt (λ c t x y. (x, y)) text h)
-writer-carries FullAscii text h = ascii-built.ours-built text (by-row ascii-writer.coded ascii-writer.Coded tt (λ c t x y. (x, y)) text h)
+writer-carries PseudoBinary text h = pseudo-built.ours-built text (pseudo-coded text h)
+writer-carries FullAscii text h = ascii-built.ours-built text (ascii-coded text h)
 
 -- and nothing that carries it has fewer bytes
 pub no-fewer : (format : Format) (text sent : List ℕ) → Carries format text sent → length (dataOf format text) ≤ length sent

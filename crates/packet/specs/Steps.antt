@@ -71,6 +71,11 @@ pub record Fits (format : Format) (text : List ℕ) (room : ℕ) : Type 0 where
   pub few : length (dataOf format text) ≤ longest
   pub held : length (dataOf format text) ≤ room
 
+-- the data of the text at the front of the buffer, n bytes, and nothing else changed
+pub record Packed (format : Format) (text entry exit : List ℕ) (n : ℕ) : Type 0 where
+  pub long : n ≡ length (dataOf format text)
+  pub whole : exit ≡ dataOf format text ++ drop (length (dataOf format text)) entry
+
 -- the whole packet fits, with n data bytes
 pub record Laid (format : Format) (text : List ℕ) (n room : ℕ) : Type 0 where
   pub coded : Coded format text (length text)

@@ -15,8 +15,9 @@ ghost use Rattle.checksum.specs.Checksum.{sent};
 ghost use Rattle.codes.specs.Size.{longest, Searches, Needs};
 ghost use Rattle.packet.specs.Data.{coded, Coded, dataOf};
 ghost use Rattle.packet.specs.Reader.{Reads};
+ghost use Rattle.packet.specs.Refusals.{numberOf, valueOf};
 ghost use Rattle.packet.specs.Writer.{Writes, ourPacket};
-ghost use Rattle.packet.specs.Steps.{Heads, Headed, Measures, Readable, Placed, Takes, Fits, Laid};
+ghost use Rattle.packet.specs.Steps.{Heads, Headed, Measures, Readable, Placed, Takes, Fits, Packed, Laid};
 
 // Why a packet is not read, or a text not written; the paper's numbers are in specs/Refusals.antt.
 pub enum Refusal {
@@ -32,6 +33,48 @@ pub enum Refusal {
     Empty,
     TooLong,
     OtherFormat,
+}
+
+impl Refusal {
+    // The paper's number.
+    pub fn number(self) -> u32
+        ensures { λ r. ⌜ r ≡ numberOf self ⌝ }
+    {
+        match self {
+            Refusal::Short => 1,
+            Refusal::NoHeader => 2,
+            Refusal::OtherType => 3,
+            Refusal::OtherLength => 4,
+            Refusal::CutOff => 5,
+            Refusal::Checksum => 6,
+            Refusal::Malformed(_) => 7,
+            Refusal::NoRoom(_) => 8,
+            Refusal::NoCode(_) => 9,
+            Refusal::Empty => 10,
+            Refusal::TooLong => 11,
+            Refusal::OtherFormat => 12,
+        }
+    }
+
+    // The whole number that comes with it.
+    pub fn value(self) -> usize
+        ensures { λ r. ⌜ r ≡ valueOf self ⌝ }
+    {
+        match self {
+            Refusal::Malformed(bit) => bit,
+            Refusal::NoRoom(needed) => needed,
+            Refusal::NoCode(index) => index,
+            Refusal::Short => 0,
+            Refusal::NoHeader => 0,
+            Refusal::OtherType => 0,
+            Refusal::OtherLength => 0,
+            Refusal::CutOff => 0,
+            Refusal::Checksum => 0,
+            Refusal::Empty => 0,
+            Refusal::TooLong => 0,
+            Refusal::OtherFormat => 0,
+        }
+    }
 }
 
 // An accepted packet: its format and sync bit, how many header bits were mended, the lengths of data and text, and the bytes used.
@@ -187,24 +230,49 @@ pub fn read(packet: &[u8], text: &mut [u8]) -> ReadAnswer
     }
 }
 
+// The index of the first character that has no code in the format.
 fn first_uncoded(format: Format, text: &[u8]) -> Uncoded
     ensures { λ r. ⌜ Searches (coded format) (now (text .entry)) r ⌝ }
 {
-    Uncoded::Nowhere
+    match format {
+        Format::Open => Uncoded::Nowhere,
+        Format::PseudoBinary => pseudo_binary::first_uncoded(text),
+        Format::FullAscii => full_ascii::first_uncoded(text),
+    }
 }
 
+fn open_length(text: &[u8]) -> Needed
+    ensures { λ r. ⌜ Needs (now (text .entry)) r ⌝ }
+{
+    if (Header::LONGEST as usize) < text.len() {
+        return Needed::TooMany;
+    }
+    Needed::Bytes(text.len())
+}
+
+// How many bytes the data of a text has, or that one packet does not hold them.
 fn data_length(format: Format, text: &[u8]) -> Needed
     requires { ⌜ Coded format (now text) (length (now text)) ⌝ }
     ensures { λ r. ⌜ Needs (dataOf format (now (text .entry))) r ⌝ }
 {
-    Needed::TooMany
+    match format {
+        Format::Open => open_length(text),
+        Format::PseudoBinary => pseudo_binary::data_length(text),
+        Format::FullAscii => full_ascii::data_length(text),
+    }
 }
 
-// The data of a text, at the front of the part of the packet that is lent.
-fn pack(format: Format, text: &[u8], data: &mut [u8])
+// The data of a text, at the front of the part of the packet that is lent; its length.
+fn pack(format: Format, text: &[u8], data: &mut [u8]) -> usize
     requires { ⌜ Fits format (now text) (length (now «data»)) ⌝ }
-    ensures { λ r. ⌜ now («data» .exit) ≡ dataOf format (now (text .entry)) ++ drop (length (dataOf format (now (text .entry)))) (now («data» .entry)) ⌝ }
-{}
+    ensures { λ r. ⌜ Packed format (now (text .entry)) (now («data» .entry)) (now («data» .exit)) r ⌝ }
+{
+    match format {
+        Format::Open => bytes::copy(text, data),
+        Format::PseudoBinary => pseudo_binary::write(text, data),
+        Format::FullAscii => full_ascii::write(text, data),
+    }
+}
 
 // The four bytes of a header, at the front of the packet.
 fn put_header(header: u32, packet: &mut [u8])

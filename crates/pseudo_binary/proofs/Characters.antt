@@ -10,12 +10,7 @@ use lib.ListN.{replicate}
 use borrow.Author.Tests.{eqb-true, ne-eqb, le-leb}
 use Rattle.codes.proofs.Every.{and-left, and-right}
 use Rattle.pseudo_binary.specs.Table.{SPACE, SLASH, Kind, values, spaces, slashes, of, coded, valueOf, characterOf}
-use Rattle.pseudo_binary.specs.Writer.{kind}
-
--- each character is of kind k
-abbrev pub Alike : Kind → List ℕ → Type 0
-Alike k [] = Unit {0}
-Alike k (c ∷ r) = (of k c ≡ true) × Alike k r
+use Rattle.pseudo_binary.specs.Writer.{kind, Alike}
 
 -- the text is empty or begins with another kind
 abbrev pub Other : Kind → List ℕ → Type 0

@@ -14,9 +14,9 @@ use Rattle.codes.specs.Pack.{low, written}
 use Rattle.codes.proofs.Least.{Cost, least}
 use Rattle.codes.proofs.Pack.{length-written, built-length}
 use Rattle.pseudo_binary.specs.Table.{SPACE, SLASH, Kind, values, spaces, slashes, of, characterOf, indicator, most, six, tables}
-use Rattle.pseudo_binary.specs.Writer.{ours}
+use Rattle.pseudo_binary.specs.Writer.{ours, Alike}
 use Rattle.pseudo_binary.specs.Size.{width, each, bitsAfter, ourBits}
-use Rattle.pseudo_binary.proofs.Characters.{Alike, alike-replicate, of-kind, characterOf-value}
+use Rattle.pseudo_binary.proofs.Characters.{alike-replicate, of-kind, characterOf-value}
 use Rattle.pseudo_binary.proofs.Entries.{pred-most, indicator-of, six-of, after-six}
 use Rattle.pseudo_binary.proofs.Size.{none-in-hand, opens, counts, no-use, our-bits}
 

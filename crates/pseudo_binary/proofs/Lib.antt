@@ -12,3 +12,4 @@ pub mod First
 pub mod Values
 pub mod Passing
 pub mod Steps
+pub mod Sending

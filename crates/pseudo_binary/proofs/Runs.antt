@@ -9,8 +9,8 @@ use lib.ListN.{length, replicate}
 use borrow.Author.Tests.{eqb-true}
 use Rattle.codes.specs.Chain.{Entry, after, Row, codes, texts, Reads}
 use Rattle.pseudo_binary.specs.Table.{SPACE, SLASH, Kind, values, spaces, slashes, of, valueOf, indicator, most, six, tables}
-use Rattle.pseudo_binary.specs.Writer.{besides}
-use Rattle.pseudo_binary.proofs.Characters.{Alike, valueOf-back, valueOf-small}
+use Rattle.pseudo_binary.specs.Writer.{besides, Alike}
+use Rattle.pseudo_binary.proofs.Characters.{valueOf-back, valueOf-small}
 use Rattle.pseudo_binary.proofs.Entries.{indicator-in, six-in, after-six}
 
 -- what an indicator that counts j says, and what it announces

@@ -10,9 +10,9 @@ use lib.ListN.{length, length-append}
 use Rattle.codes.specs.Chain.{Entry, codes}
 use Rattle.codes.specs.Pack.{low}
 use Rattle.pseudo_binary.specs.Table.{Kind, values, spaces, slashes, of, indicator, most, six}
-use Rattle.pseudo_binary.specs.Writer.{kind, run, besides, oursAfter, ours}
+use Rattle.pseudo_binary.specs.Writer.{kind, run, besides, oursAfter, ours, Alike}
 use Rattle.pseudo_binary.specs.Size.{width, each, takes, bitsAfter, ourBits}
-use Rattle.pseudo_binary.proofs.Characters.{Alike, Other, of-kind}
+use Rattle.pseudo_binary.proofs.Characters.{Other, of-kind}
 
 -- the bits of an indicator, and of a character besides
 indicator-width : (k : Kind) (c : ℕ) → length (indicator k c .code) ≡ width k
@@ -21,7 +21,7 @@ indicator-width values c = refl
 indicator-width spaces c = refl
 indicator-width slashes c = refl
 
-besides-each : (k : Kind) (c : ℕ) (es : List Entry) → length (codes (besides k c ++ es)) ≡ each k + length (codes es)
+pub besides-each : (k : Kind) (c : ℕ) (es : List Entry) → length (codes (besides k c ++ es)) ≡ each k + length (codes es)
 unfolding besides each six codes low
 besides-each values c es = omega arith
 besides-each spaces c es = omega arith

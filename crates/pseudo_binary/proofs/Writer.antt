@@ -15,14 +15,14 @@ use Rattle.codes.proofs.Every.{every, every-at, and-left, and-right}
 use Rattle.codes.proofs.Pack.{row-binary, written-built, written-bytes, length-bits}
 use Rattle.codes.proofs.Speaks.{never-silent}
 use Rattle.pseudo_binary.specs.Table.{Kind, values, of, coded, Coded, characterOf, indicator, most, indicators, six, tables}
-use Rattle.pseudo_binary.specs.Writer.{kind, run, besides, oursAfter, ours}
+use Rattle.pseudo_binary.specs.Writer.{kind, run, besides, oursAfter, ours, Alike}
 use Rattle.pseudo_binary.proofs.Table.{sounds, all-bits}
-use Rattle.pseudo_binary.proofs.Characters.{Alike, Other, of-kind, kind-of}
+use Rattle.pseudo_binary.proofs.Characters.{Other, of-kind, kind-of}
 use Rattle.pseudo_binary.proofs.Entries.{pred-most}
 use Rattle.pseudo_binary.proofs.Runs.{said, announced, Counted, counted-none, counted-one, counted-all, spelled}
 
 -- a run is counted no further than asked
-run-le : (k : Kind) (n : ℕ) (t : List ℕ) → run k n t ≤ n
+pub run-le : (k : Kind) (n : ℕ) (t : List ℕ) → run k n t ≤ n
 unfolding run
 run-le k zero t = omega arith
 run-le k (suc n) [] = omega arith
@@ -65,7 +65,7 @@ pub ours-says : (t : List ℕ) → Coded t → texts (ours t) ≡ t
 unfolding ours run said
 ours-says t u = follows values 0 t u .says
 
-ours-binary : (t : List ℕ) → Coded t → Binary (codes (ours t))
+pub ours-binary : (t : List ℕ) → Coded t → Binary (codes (ours t))
 ours-binary t u = row-binary tables all-bits 0 0 (ours t) (ours-row t u)
 
 -- what the writer builds is a building of the text, in bytes

@@ -1,4 +1,5 @@
+pub mod Sending
 pub mod Size
 pub mod Table
-pub mod Writer
 pub mod Taken
+pub mod Writer

@@ -1,6 +1,7 @@
 -- What our writer builds of a text in Compact Pseudo Binary: `written (ours text)`.
 -- Assumes nothing.
-use mathlib.Core.Bool.{cond}
+use mathlib.Core.Path.{_≡_}
+use mathlib.Core.Bool.{true, cond}
 use mathlib.Core.List.{List, [], _∷_, _++_}
 use Prim.Native.Nat.{ℕ, zero, suc, pred}
 use Rattle.codes.specs.Chain.{Entry}
@@ -35,3 +36,8 @@ oursAfter (suc n) (c ∷ text) = besides (kind c) c ++ oursAfter n text
 -- runs of one kind, each in the fullest indicators, the remainder last
 unfoldable pub ours : List ℕ → List Entry
 ours text = oursAfter 0 text
+
+-- each character is of kind k
+abbrev pub Alike : Kind → List ℕ → Type 0
+Alike k [] = Unit {0}
+Alike k (c ∷ r) = (of k c ≡ true) × Alike k r

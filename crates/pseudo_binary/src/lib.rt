@@ -1,16 +1,23 @@
-// Compact Pseudo Binary (001, 4.2): its tables and what our writer builds in specs/, their theorems in proofs/.
+// Compact Pseudo Binary (001, 4.2), read and written: its tables and what our writer builds in specs/, their theorems in proofs/.
 
 use codes::Buffer;
 use codes::Measured;
+use codes::Needed;
+use codes::Uncoded;
 ghost use mathlib.Core.Path.{_≡_};
-ghost use Prim.Native.Nat.{_+_, _*_, _≤_, _<_, _^_};
-ghost use lib.ListN.{length, replicate};
+ghost use lib.Dec.{T};
+ghost use Prim.Native.Nat.{ℕ, _+_, _*_, _≤_, _<_, _^_};
+ghost use lib.ListN.{length, drop, getD, replicate};
 ghost use Rattle.bits.specs.Row.{bits};
 ghost use Rattle.codes.specs.Ahead.{ahead};
 ghost use Rattle.codes.specs.Laid.{laid, Readable, Placed};
 ghost use Rattle.codes.specs.Measure.{Measures};
-ghost use Rattle.pseudo_binary.specs.Table.{tables};
+ghost use Rattle.codes.specs.Pack.{written};
+ghost use Rattle.codes.specs.Size.{Searches, Needs};
+ghost use Rattle.pseudo_binary.specs.Sending.{Between, FirstOf, Writes};
+ghost use Rattle.pseudo_binary.specs.Table.{Kind, coded, Coded, tables};
 ghost use Rattle.pseudo_binary.specs.Taken.{Starts, Takes, characters};
+ghost use Rattle.pseudo_binary.specs.Writer.{run, ours};
 
 // An indicator: how many bits it has, how many values it announces, and how often it says which character.
 pub struct Indicator {
@@ -170,4 +177,145 @@ pub fn read(s: &[u8], out: &mut [u8]) -> usize
         n += i.values;
         at += i.width + i.values * 6;
     }
+}
+
+// Whether a character has a code.
+fn is_coded(c: u8) -> bool
+    ensures { λ r. ⌜ r ≡ coded c ⌝ }
+{
+    match c {
+        32 => true,
+        47 => true,
+        64..=127 => true,
+        _ => false,
+    }
+}
+
+// The index of the first character that has no code.
+pub fn first_uncoded(text: &[u8]) -> Uncoded
+    ensures { λ r. ⌜ Searches coded (now (text .entry)) r ⌝ }
+{
+    let mut i: usize = 0;
+    while i < text.len() {
+        if !is_coded(text[i]) {
+            return Uncoded::At(i);
+        }
+        i += 1;
+    }
+    Uncoded::Nowhere
+}
+
+// How many characters from `first` to `last` stand in a row at place i, counted up to `most`.
+fn run_of(text: &[u8], i: usize, first: u8, last: u8, most: usize) -> usize
+    requires { ⌜ i ≤ length (now text) ⌝ }
+    ensures { λ r. ⌜ ((k : Kind) → Between k first last → r ≡ run k most (drop i (now (text .entry)))) ⌝ }
+{
+    let mut n: usize = 0;
+    while n < most {
+        if i + n == text.len() {
+            return n;
+        }
+        let c = text[i + n];
+        if c < first {
+            return n;
+        }
+        if last < c {
+            return n;
+        }
+        n += 1;
+    }
+    n
+}
+
+// An indicator to be sent: its bits as a number, how many they are, how many values it announces, and how many characters it says itself.
+struct Sent {
+    pub bits: u64,
+    pub width: u64,
+    pub values: usize,
+    pub count: usize,
+}
+
+// The first of our indicators of the text from i on: it counts as many characters of the first one's kind as it can.
+fn next_indicator(text: &[u8], i: usize) -> Sent
+    requires { ⌜ (i < length (now text)) × T (coded (getD (now text) i 0)) ⌝ }
+    ensures { λ r. ⌜ FirstOf (drop i (now (text .entry))) r ⌝ }
+{
+    match text[i] {
+        32 => {
+            let count = run_of(text, i, 32, 32, 16);
+            Sent {
+                bits: count as u64 - 1,
+                width: 6,
+                values: 0,
+                count,
+            }
+        }
+        47 => {
+            let count = run_of(text, i, 47, 47, 16);
+            Sent {
+                bits: count as u64 - 1 + 16,
+                width: 6,
+                values: 0,
+                count,
+            }
+        }
+        _ => {
+            let values = run_of(text, i, 64, 127, 128);
+            Sent {
+                bits: values as u64 - 1 + 128,
+                width: 8,
+                values,
+                count: 0,
+            }
+        }
+    }
+}
+
+// How many bytes our data of the text has, or that one packet does not hold them: the loop ends where that is certain.
+pub fn data_length(text: &[u8]) -> Needed
+    requires { ⌜ Coded (now text) ⌝ }
+    ensures { λ r. ⌜ Needs (written (ours (now (text .entry)))) r ⌝ }
+{
+    let mut i: usize = 0;
+    let mut n: usize = 0;
+    while i < text.len() {
+        let r = next_indicator(text, i);
+        n += r.width as usize + r.values * 6;
+        if Needed::MOST < n {
+            return Needed::TooMany;
+        }
+        i += r.count + r.values;
+    }
+    Needed::Bytes((n + 7) / 8)
+}
+
+// What our writer builds of the text, at the front of the buffer; how many bytes it is.
+pub fn write(text: &[u8], out: &mut [u8]) -> usize
+    requires { ⌜ Coded (now text) × (length (written (ours (now text))) ≤ length (now out)) ⌝ }
+    ensures { λ r. ⌜ Writes (now (text .entry)) (now (out .entry)) (now (out .exit)) r ⌝ }
+{
+    let mut held: u64 = 0;
+    let mut have: u64 = 0;
+    let mut i: usize = 0;
+    let mut n: usize = 0;
+    let mut announced: usize = 0;
+    while i < text.len() {
+        if 8 <= have {
+            have -= 8;
+            out[n] = ((held >> have) % 256) as u8;
+            n += 1;
+        } else if 0 < announced {
+            held = codes::push(held, (text[i] % 64) as u64, 6);
+            have += 6;
+            i += 1;
+            announced -= 1;
+        } else {
+            let r = next_indicator(text, i);
+            held = codes::push(held, r.bits, r.width);
+            have += r.width;
+            i += r.count;
+            announced = r.values;
+        }
+    }
+    codes::flush(out, n, held, have)
 }

@@ -95,7 +95,7 @@ returns c =
     let held : length carried ≤ length (take (length s - 4) (drop 4 s)) =
     simp (length-take, length-drop) (omega (arith, a .pre .long, a .pre .held)) in
     steps s carried (pk .pack .last .1 .1 .0) (putMid 4 (length s - 4) s (pk .pack .last .1 .1 .0)) (ps .put-sum .last .1 .0) (ph .put-header .last .1 .0)
-    (a .args .n) (tb .to-bits .result) (length s - 4) (a .pre .long) (a .pre .held) held (pk .pack .ensures) refl (ps .put-sum .ensures) (ph .put-header .ensures)
+    (a .args .n) (tb .to-bits .result) (length s - 4) (a .pre .long) (a .pre .held) held (pk .pack .ensures .whole) refl (ps .put-sum .ensures) (ph .put-header .ensures)
     ∙ ap (λ (h : ℕ). packetOf h carried ++ drop (a .args .n + 6) s)
     (tb .to-bits .ensures
     ∙ ap headerOf

@@ -1,0 +1,57 @@
+-- The answers of the entry points as plain structs: `refusal` is the paper's number, 0 where the call is accepted; `number` comes with it; and every
+-- member that a refusal does not name is 0.
+-- Assumes nothing.
+use mathlib.Core.Bool.{Bool}
+use mathlib.Core.List.{List}
+use mathlib.Core.Path.{_≡_}
+use Prim.Native.Nat.{ℕ}
+use Rattle.header.specs.Fields.{oneIf}
+use Rattle.header.specs.Typed.{formatNumber}
+use Rattle.packet.specs.declared.ReadAnswer.{ReadAnswer}
+use Rattle.packet.specs.declared.ReadAnswer.the-variants.{Accepted, Refused}
+use Rattle.packet.specs.declared.WriteAnswer.{WriteAnswer}
+use Rattle.packet.specs.declared.WriteAnswer.the-variants.{Written, Refused as NotWritten}
+use Rattle.packet.specs.Reader as reader
+use Rattle.packet.specs.Refusals.{numberOf, valueOf}
+use Rattle.packet.specs.Writer as writer
+use Rattle.rosopyat_c.specs.declared.ReadReply.{ReadReply}
+use Rattle.rosopyat_c.specs.declared.WriteReply.{WriteReply}
+
+abbrev pub readReply : ReadAnswer → ReadReply
+readReply (Accepted reading) =
+    record {
+      refusal = 0;
+      number = 0;
+      format = formatNumber (reading .format);
+      sync = oneIf (reading .sync);
+      mended = reading .mended;
+      «data_length» = reading .«data_length»;
+      «text_length» = reading .«text_length»;
+      used = reading .used;
+    }
+readReply (Refused refusal) =
+    record {
+      refusal = numberOf refusal;
+      number = valueOf refusal;
+      format = 0;
+      sync = 0;
+      mended = 0;
+      «data_length» = 0;
+      «text_length» = 0;
+      used = 0;
+    }
+
+abbrev pub writeReply : WriteAnswer → WriteReply
+writeReply (Written length) = record { refusal = 0; number = 0; length = length }
+writeReply (NotWritten refusal) = record { refusal = numberOf refusal; number = valueOf refusal; length = 0 }
+
+-- the reply is that of an answer that the entry point may give
+pub record Reads (packet entry : List ℕ) (reply : ReadReply) (exit : List ℕ) : Type 0 where
+  pub answer : ReadAnswer
+  pub reads : reader.Reads packet entry answer exit
+  pub is : reply ≡ readReply answer
+
+pub record Writes (number : ℕ) (sync : Bool) (text entry : List ℕ) (reply : WriteReply) (exit : List ℕ) : Type 0 where
+  pub answer : WriteAnswer
+  pub writes : writer.Writes number sync text entry answer exit
+  pub is : reply ≡ writeReply answer

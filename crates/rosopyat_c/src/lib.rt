@@ -1,0 +1,81 @@
+// The reader and the writer for C and Rust: the entry points of `packet`, their answers as plain structs.
+use header::Header;
+use packet::ReadAnswer;
+use packet::WriteAnswer;
+ghost use Rattle.rosopyat_c.specs.Answers.{Reads, Writes};
+
+// A packet that was read (`refusal` 0), or why not: then every member but `refusal` and `number` is 0.
+#[repr(C)]
+pub struct ReadReply {
+    pub refusal: u32,
+    pub number: usize,
+    pub format: u32,
+    pub sync: u32,
+    pub mended: u32,
+    pub data_length: usize,
+    pub text_length: usize,
+    pub used: usize,
+}
+
+#[repr(C)]
+pub struct WriteReply {
+    pub refusal: u32,
+    pub number: usize,
+    pub length: usize,
+}
+
+#[no_mangle]
+pub extern "C" fn rosopyat_read(packet: &[u8], text: &mut [u8]) -> ReadReply
+    ensures { λ r. ⌜ Reads (now (packet .entry)) (now (text .entry)) r (now (text .exit)) ⌝ }
+{
+    let answer = packet::read(packet, text);
+    match answer {
+        ReadAnswer::Accepted(reading) => {
+            let format = reading.format;
+            ReadReply {
+                refusal: 0,
+                number: 0,
+                format: Header::number(format) as u32,
+                sync: header::one_if(reading.sync),
+                mended: reading.mended,
+                data_length: reading.data_length,
+                text_length: reading.text_length,
+                used: reading.used,
+            }
+        }
+        ReadAnswer::Refused(refusal) => ReadReply {
+            refusal: refusal.number(),
+            number: refusal.value(),
+            format: 0,
+            sync: 0,
+            mended: 0,
+            data_length: 0,
+            text_length: 0,
+            used: 0,
+        },
+    }
+}
+
+#[no_mangle]
+pub extern "C" fn rosopyat_write(
+    format: u8,
+    sync: bool,
+    text: &[u8],
+    packet: &mut [u8],
+) -> WriteReply
+    ensures { λ r. ⌜ Writes format sync (now (text .entry)) (now (packet .entry)) r (now (packet .exit)) ⌝ }
+{
+    let answer = packet::write(format, sync, text, packet);
+    match answer {
+        WriteAnswer::Written(length) => WriteReply {
+            refusal: 0,
+            number: 0,
+            length,
+        },
+        WriteAnswer::Refused(refusal) => WriteReply {
+            refusal: refusal.number(),
+            number: refusal.value(),
+            length: 0,
+        },
+    }
+}
