@@ -5,11 +5,11 @@
  * more where the refusal says so. Every other member of a refused answer is 0, and no byte of the lent buffer has changed.
  *
  * What a caller keeps to:
- *   - a pointer leads to as many bytes as the length beside it says, and is not NULL, also when that length is 0;
+ *   - a pointer leads to as many bytes as the length beside it says; where that length is 0 any pointer will do, NULL too;
  *   - the two buffers of one call do not overlap.
  *
  * Nothing is allocated, kept or shared between calls: any number of threads may call at once, on buffers of their own.
- * Link with librosopyat_c.a (x86-64).
+ * Link with librosopyat_c.a (x86-64), which needs memset and nothing else of the C library.
  */
 #ifndef ROSOPYAT_H
 #define ROSOPYAT_H

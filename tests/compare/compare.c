@@ -161,6 +161,12 @@ static struct place new_place(size_t length)
     return place;
 }
 
+/* Any pointer will do for no bytes. */
+static uint8_t *at_place(uint8_t *region, struct place place)
+{
+    return place.length == 0 && chance(50) ? NULL : region + place.start;
+}
+
 /* Reports. */
 
 static void dump_bytes(const char *name, const uint8_t *bytes, size_t length)
@@ -251,6 +257,8 @@ static size_t some_room(size_t needed)
         return needed + between(2, 2000);
     case 4:
         return chance(10) ? 90000 : needed + 40;
+    case 5:
+        return chance(20) ? 0 : needed;
     default:
         return needed;
     }
@@ -517,7 +525,7 @@ static bool reader_case(void)
     size_t room = some_room(needed.refusal == 8 ? needed.number : below(100));
     struct place text = new_place(room);
 
-    rosopyat_read_answer ours = rosopyat_read(input + packet.start, packet.length, library_output + text.start, room);
+    rosopyat_read_answer ours = rosopyat_read(at_place(input, packet), packet.length, at_place(library_output, text), room);
     const char *wrong = compare_input(packet);
     rosopyat_read_answer theirs = independent_read(input + packet.start, packet.length, independent_output + text.start, room);
     if (!wrong)
@@ -655,7 +663,7 @@ static bool writer_case(void)
     size_t room = some_room(needed.refusal == 8 ? needed.number : below(100));
     struct place packet = new_place(room);
 
-    rosopyat_write_answer ours = rosopyat_write(format, sync, input + text.start, length, library_output + packet.start, room);
+    rosopyat_write_answer ours = rosopyat_write(format, sync, at_place(input, text), length, at_place(library_output, packet), room);
     const char *wrong = compare_input(text);
     rosopyat_write_answer theirs = independent_write(format, sync, input + text.start, length, independent_output + packet.start, room);
     if (!wrong)
