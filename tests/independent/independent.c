@@ -323,9 +323,11 @@ static void write_data(unsigned format, struct bit_row *row, const uint8_t *text
         write_pseudo_binary(row, text, length);
     else if (format == 4)
         write_full_ascii(row, text, length);
-    else
-        for (size_t i = 0; i < length; i++)
-            put_bits(row, text[i], 8);
+    else {
+        for (size_t i = 0; row->data && i < length; i++)
+            row->data[i] = text[i];
+        row->bits += 8 * length;
+    }
     while (row->bits % 8 != 0)
         put_bits(row, 1, 1);
 }
