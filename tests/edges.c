@@ -8,6 +8,12 @@
 #include <stdlib.h>
 #include <string.h>
 
+/* The structs as the library lays them out. */
+_Static_assert(sizeof(rosopyat_read_answer) == 56 && offsetof(rosopyat_read_answer, number) == 8 && offsetof(rosopyat_read_answer, format) == 16 &&
+                   offsetof(rosopyat_read_answer, mended) == 24 && offsetof(rosopyat_read_answer, data_length) == 32,
+               "layout of the reader's answer");
+_Static_assert(sizeof(rosopyat_write_answer) == 24 && offsetof(rosopyat_write_answer, number) == 8, "layout of the writer's answer");
+
 static unsigned checked, failed;
 
 static void expect(const char *what, const char *name, size_t got, size_t wanted)

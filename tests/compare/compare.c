@@ -19,7 +19,7 @@
 #include <time.h>
 #include <unistd.h>
 
-enum { MEANT_CASES = 10000, GUARD = 32, REGION = 28 * 4096, LONG_TEXT = 100000, LONG_PACKET = 8192 };
+enum { MEANT_CASES = 20000, GUARD = 32, REGION = 28 * 4096, LONG_TEXT = 100000, LONG_PACKET = 8192 };
 
 /* Random numbers: one row for each case. */
 
@@ -275,6 +275,7 @@ struct made {
 };
 
 static struct made made;
+static uint32_t types_made; /* a bit for each of the 32 types of a flag */
 static uint8_t made_text[LONG_TEXT];
 
 static void add_text(unsigned character, size_t count)
@@ -380,7 +381,7 @@ static void make_ending(struct maker_bits *bits)
 
 static size_t make_data(unsigned format, uint8_t *data)
 {
-    bool longest = format == 1 && chance(1);
+    bool longest = format == 1 && chance(2);
     size_t length = longest ? 4000 : some_length();
     struct maker_bits bits = {data, 0};
     if (format == 0) {
@@ -462,10 +463,13 @@ static void make_packet(void)
     size_t length = make_data(made.format, made.packet + 4);
     unsigned flag = 0x40 | made.format << 2 | made.sync << 1;
     made.length = maker_close(made.packet, flag, length);
-    if (chance(6)) { /* a header that says something else */
+    if (chance(10)) { /* a header that says something else */
         static const unsigned lengths[] = {0, 0, 1, 3999, 4000, 4001, 4002, 0x3fff};
         made.known = false;
-        uint32_t header = maker_header(chance(50) ? below(128) : flag, chance(30) ? lengths[below(8)] : chance(30) ? below(0x4000) : length);
+        if (chance(50))
+            flag = below(128);
+        types_made |= 1u << (flag >> 2);
+        uint32_t header = maker_header(flag, chance(30) ? lengths[below(8)] : chance(30) ? below(0x4000) : length);
         for (int i = 0; i < 4; i++)
             made.packet[i] = header >> (24 - 8 * i);
     }
@@ -725,7 +729,8 @@ static bool print_outcomes(bool all_meant)
             printf("%10" PRIu64 "  %s%s\n", outcomes[i], outcome_name[i], never ? ": NEVER OCCURRED" : "");
             missing |= never;
         }
-    return !missing;
+    printf("%10d  of the 32 types in a header\n", __builtin_popcount(types_made));
+    return !missing && (!all_meant || types_made == ~0u);
 }
 
 int main(int count, char **words)
