@@ -3,14 +3,16 @@
 use mathlib.Core.Path.{_≡_, refl, sym, ap, _∙_}
 use mathlib.Core.Bool.{Bool}
 use mathlib.Core.Logic.{by-cases}
-use mathlib.Core.List.{List}
+use mathlib.Core.List.{List, _++_}
 use Prim.Native.Nat.{ℕ, _+_}
 use native.Mathlib.Decide.{decLt}
 use native.Mathlib.Omega.{arith}
-use lib.ListN.{length}
+use lib.ListN.{length, drop}
 use Rattle.codes.specs.Chain.{Tables}
-use Rattle.codes.specs.Laid.{laid, Placed}
-use Rattle.codes.specs.Measure.{Measures}
+use Rattle.codes.specs.Laid.{laid, Placed, Fronted}
+use Rattle.codes.specs.Measure.{Measures, Comes}
+use Rattle.codes.specs.declared.Outcome.{Outcome}
+use Rattle.codes.specs.declared.Outcome.the-variants as Outcome
 use Rattle.codes.specs.Size.{First, Searches, Needs}
 use Rattle.codes.specs.declared.Needed.{Needed}
 use Rattle.codes.specs.declared.Needed.the-variants.{Bytes, TooMany}
@@ -33,6 +35,19 @@ module _ {tables : Tables} (laws : Laws tables) (bs : List ℕ) where
       let same : h .text ≡ k .text = one-text laws (h .reads) (k .reads) in
       (h .whole ∙ ap (laid entry n) same ∙ sym (k .whole), h .place ∙ ap (λ (t : List ℕ). n + length t) same ∙ sym (k .place))
 
+module _ {tables : Tables} (laws : Laws tables) (sent : List ℕ) where
+  pub one-outcome : (a b : Outcome) → Comes tables sent a → Comes tables sent b → a ≡ b
+  one-outcome (Outcome.Text m) (Outcome.Text n) h k =
+      ap {B = Outcome} Outcome.Text (sym (h .1 .1) ∙ ap length (one-text laws (h .1 .2) (k .1 .2)) ∙ k .1 .1)
+  one-outcome (Outcome.Text m) (Outcome.Malformed j) h k = absurd (never-both laws (h .1 .2) (k .1))
+  one-outcome (Outcome.Text m) Outcome.TooLong h k = absurd (let no′ : ⊥ = omega (arith, h .0) in no′)
+  one-outcome (Outcome.Malformed i) (Outcome.Text n) h k = absurd (never-both laws (k .1 .2) (h .1))
+  one-outcome (Outcome.Malformed i) (Outcome.Malformed j) h k = ap {B = Outcome} Outcome.Malformed (one-place laws (h .1) (k .1))
+  one-outcome (Outcome.Malformed i) Outcome.TooLong h k = absurd (let no′ : ⊥ = omega (arith, h .0) in no′)
+  one-outcome Outcome.TooLong (Outcome.Text n) h k = absurd (let no′ : ⊥ = omega (arith, k .0) in no′)
+  one-outcome Outcome.TooLong (Outcome.Malformed j) h k = absurd (let no′ : ⊥ = omega (arith, k .0) in no′)
+  one-outcome Outcome.TooLong Outcome.TooLong h k = refl
+
 -- ---- the contracts of what a text asks before it is written
 
 module _ (has : ℕ → Bool) (text : List ℕ) where
@@ -52,3 +67,8 @@ one-need carried (Bytes m) (Bytes n) h k = ap {B = Needed} Bytes (h .0 ∙ sym (
 one-need carried (Bytes m) TooMany h k = absurd (let no′ : ⊥ = omega (arith, h .0, h .1) in no′)
 one-need carried TooMany (Bytes n) h k = absurd (let no′ : ⊥ = omega (arith, k .0, k .1) in no′)
 one-need carried TooMany TooMany h k = refl
+
+pub one-front : {row entry x y : List ℕ} {r q : ℕ} → Fronted row entry x r → Fronted row entry y q → (x ≡ y) × (r ≡ q)
+one-front {row} {entry} h k =
+    let same = h .size ∙ sym (k .size) in
+    (h .whole ∙ ap (λ (n : ℕ). row ++ drop n entry) same ∙ sym (k .whole), same)

@@ -28,3 +28,8 @@ pub record Placed (tables : Tables) (bs entry exit : List ℕ) (n r : ℕ) : Typ
 pub record Flushed (bs entry exit : List ℕ) (n r : ℕ) : Type 0 where
   pub place : r ≡ n + length (packed (filled bs))
   pub whole : exit ≡ laid entry n (packed (filled bs))
+
+-- the row stands at the front of the buffer, r of them, and nothing else changed
+pub record Fronted (row entry exit : List ℕ) (r : ℕ) : Type 0 where
+  pub size : r ≡ length row
+  pub whole : exit ≡ row ++ drop r entry

@@ -113,6 +113,18 @@ pub enum Measured {
     Malformed(usize),
 }
 
+// The same of data of any length: there is data so long that its bits cannot be counted.
+pub enum Outcome {
+    Text(usize),
+    Malformed(usize),
+    TooLong,
+}
+
+impl Outcome {
+    // Data of so many bytes or more is not looked at.
+    pub const LIMIT: usize = 0x100_0000_0000;
+}
+
 // The index of the first character that has no code, if there is one.
 pub enum Uncoded {
     At(usize),

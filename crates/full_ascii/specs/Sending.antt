@@ -8,6 +8,7 @@ use Prim.Native.Nat.{_^_, ℕ, _≤_, _<_}
 use lib.Dec.{T}
 use lib.ListN.{length, take, drop, getD}
 use Rattle.codes.specs.Chain.{Entry}
+use Rattle.codes.specs.Laid.{Fronted}
 use Rattle.codes.specs.Pack.{low, written}
 use Rattle.full_ascii.specs.Writer.{coded, Coded, own, ours}
 use Rattle.full_ascii.specs.declared.Sent.{Sent}
@@ -37,6 +38,5 @@ abbrev pub NextOf : List ℕ → Sent → Type 0
 NextOf text r = ((coded (getD text 0 0) ≡ false) × (r .width ≡ 0)) ⊎ FirstOf text r
 
 -- what our writer builds of the text stands at the front of the buffer, r bytes, and nothing else changed
-pub record Writes (text entry exit : List ℕ) (r : ℕ) : Type 0 where
-  pub size : r ≡ length (written (ours text))
-  pub whole : exit ≡ written (ours text) ++ drop r entry
+abbrev pub Writes : List ℕ → List ℕ → List ℕ → ℕ → Type 0
+Writes text = Fronted (written (ours text))

@@ -3,6 +3,7 @@
 use codes::Buffer;
 use codes::Measured;
 use codes::Needed;
+use codes::Outcome;
 use codes::Uncoded;
 ghost use mathlib.Core.Path.{_≡_};
 ghost use Prim.Native.Nat.{_+_, _-_, _/_, _<_, _≤_, _^_};
@@ -10,7 +11,7 @@ ghost use lib.ListN.{length, drop};
 ghost use Rattle.bits.specs.Row.{bits};
 ghost use Rattle.codes.specs.Chain.{codes};
 ghost use Rattle.codes.specs.Laid.{laid, Readable, Placed};
-ghost use Rattle.codes.specs.Measure.{Measures};
+ghost use Rattle.codes.specs.Measure.{Measures, Comes};
 ghost use Rattle.bits.specs.Says.{Says};
 ghost use Rattle.codes.specs.Pack.{low, written};
 ghost use Rattle.codes.specs.Size.{Searches, Needs};
@@ -97,7 +98,7 @@ fn measure_last(held: u64, have: u64) -> Measured
 }
 
 // The length of the text, or where the data is malformed.
-pub fn measure(s: &[u8]) -> Measured
+fn measure(s: &[u8]) -> Measured
     requires { ⌜ length (now s) < 2 ^ 60 ⌝ }
     ensures { λ r. ⌜ Measures tables (bits (now (s .entry))) r ⌝ }
 {
@@ -121,6 +122,20 @@ pub fn measure(s: &[u8]) -> Measured
     match last {
         Measured::Text(k) => Measured::Text(n + k),
         Measured::Malformed(i) => Measured::Malformed(s.len() * 8 - have as usize + i),
+    }
+}
+
+// The data taken apart, whatever its length.
+pub fn take_apart(s: &[u8]) -> Outcome
+    ensures { λ r. ⌜ Comes tables (now (s .entry)) r ⌝ }
+{
+    if Outcome::LIMIT <= s.len() {
+        return Outcome::TooLong;
+    }
+    let measured = measure(s);
+    match measured {
+        Measured::Text(n) => Outcome::Text(n),
+        Measured::Malformed(bit) => Outcome::Malformed(bit),
     }
 }
 

@@ -10,22 +10,24 @@ use Rattle.header.specs.declared.Format.the-variants.{Open, PseudoBinary, FullA
 use Rattle.codes.specs.Chain.{Tables, Built}
 use Rattle.codes.specs.Laid as codes
 use Rattle.codes.specs.Laid.{laid}
-use Rattle.codes.specs.Measure as codes-measure
-use Rattle.codes.specs.declared.Measured.{Measured}
-use Rattle.codes.specs.declared.Measured.the-variants.{Text, Malformed}
+use Rattle.codes.specs.Measure.{Comes}
+use Rattle.codes.specs.declared.Outcome.{Outcome}
+use Rattle.codes.specs.declared.Outcome.the-variants.{Text, Malformed, TooLong}
 use Rattle.full_ascii.specs.Table as ascii
 use Rattle.pseudo_binary.specs.Table as pseudo
 use Rattle.packet.specs.Steps.{Measures, Readable, Placed}
 
 -- ---- measuring
 
-pub measures-pseudo : (sent : List ℕ) (r : Measured) → codes-measure.Measures pseudo.tables (bits sent) r → Measures PseudoBinary sent r
-measures-pseudo sent (Text n) m = m
-measures-pseudo sent (Malformed i) m = m
+pub measures-pseudo : (sent : List ℕ) (r : Outcome) → Comes pseudo.tables sent r → Measures PseudoBinary sent r
+measures-pseudo sent (Text n) m = m .1
+measures-pseudo sent (Malformed i) m = m .1
+measures-pseudo sent TooLong m = m
 
-pub measures-ascii : (sent : List ℕ) (r : Measured) → codes-measure.Measures ascii.tables (bits sent) r → Measures FullAscii sent r
-measures-ascii sent (Text n) m = m
-measures-ascii sent (Malformed i) m = m
+pub measures-ascii : (sent : List ℕ) (r : Outcome) → Comes ascii.tables sent r → Measures FullAscii sent r
+measures-ascii sent (Text n) m = m .1
+measures-ascii sent (Malformed i) m = m .1
+measures-ascii sent TooLong m = m
 
 -- ---- reading
 

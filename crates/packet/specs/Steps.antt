@@ -2,15 +2,15 @@
 -- Assumes nothing.
 use mathlib.Core.List.{List, _++_}
 use mathlib.Core.Path.{_≡_}
-use Prim.Native.Nat.{ℕ, _+_, _≤_, _<_}
+use Prim.Native.Nat.{ℕ, _+_, _^_, _≤_, _<_}
 use lib.ListN.{length, drop}
 use Rattle.header.specs.declared.Format.{Format}
 use Rattle.header.specs.Fields.{fieldsIn}
 use Rattle.header.specs.Typed.{Typed}
 use Rattle.header.specs.Valid.{lengthIn}
 use Rattle.mending.specs.Mends.{Near, distance}
-use Rattle.codes.specs.declared.Measured.{Measured}
-use Rattle.codes.specs.declared.Measured.the-variants as Measured
+use Rattle.codes.specs.declared.Outcome.{Outcome}
+use Rattle.codes.specs.declared.Outcome.the-variants as Outcome
 use Rattle.packet.specs.declared.Head.{Head}
 use Rattle.packet.specs.declared.Head.the-variants.{Found, Refused}
 use Rattle.packet.specs.declared.Opened.{Opened}
@@ -37,10 +37,11 @@ abbrev pub Heads : List ℕ → Head → Type 0
 Heads packet (Found opened) = Headed packet opened
 Heads packet (Refused refusal) = (room : ℕ) → Refuses packet room refusal
 
--- what the data comes to: a text of this length, or the place where it is malformed
-abbrev pub Measures : Format → List ℕ → Measured → Type 0
-Measures format sent (Measured.Text n) = (text : List ℕ) × (length text ≡ n) × Carries format text sent
-Measures format sent (Measured.Malformed bit) = Unreadable format sent bit
+-- what the data comes to: a text of this length, or the place where it is malformed; or it is 2^40 bytes long or more
+abbrev pub Measures : Format → List ℕ → Outcome → Type 0
+Measures format sent (Outcome.Text n) = (text : List ℕ) × (length text ≡ n) × Carries format text sent
+Measures format sent (Outcome.Malformed bit) = Unreadable format sent bit
+Measures format sent Outcome.TooLong = 2 ^ 40 ≤ length sent
 
 -- the data carries a text that there is room for
 pub record Readable (format : Format) (sent : List ℕ) (room : ℕ) : Type 0 where

@@ -1,6 +1,6 @@
 // Packets: the reader and the writer, the two entry points, with their refusals.
-use codes::Measured;
 use codes::Needed;
+use codes::Outcome;
 use codes::Uncoded;
 use header::Format;
 use header::Header;
@@ -124,7 +124,8 @@ fn open(packet: &[u8]) -> Head
     if packet.len() < 4 {
         return Head::Refused(Refusal::Short);
     }
-    let mending = mending::mend(header::word(packet[0], packet[1], packet[2], packet[3]));
+    let received = header::word(packet[0], packet[1], packet[2], packet[3]);
+    let mending = mending::mend(received);
     let Mending::Mended(bits, mended) = mending else {
         return Head::Refused(Refusal::NoHeader);
     };
@@ -135,14 +136,16 @@ fn open(packet: &[u8]) -> Head
     };
     let length = fields.length as usize;
     let sync = fields.sync;
+    let most = Header::LONGEST as usize;
+    let end = length + 6;
     if length == 0 {
-        return Head::Refused(Refusal::OtherLength);
+        return Head::Refused(Refusal::OtherLength); // no data
     }
-    if (Header::LONGEST as usize) < length {
-        return Head::Refused(Refusal::OtherLength);
+    if most < length {
+        return Head::Refused(Refusal::OtherLength); // too much
     }
-    if packet.len() < length + 6 {
-        return Head::Refused(Refusal::CutOff);
+    if packet.len() < end {
+        return Head::Refused(Refusal::CutOff); // too few bytes
     }
     Head::Found(Opened {
         format,
@@ -153,14 +156,13 @@ fn open(packet: &[u8]) -> Head
 }
 
 // The length of the text that the data carries, or where it is malformed.
-fn measure(format: Format, data: &[u8]) -> Measured
-    requires { ⌜ length (now «data») ≤ longest ⌝ }
+fn measure(format: Format, data: &[u8]) -> Outcome
     ensures { λ r. ⌜ Measures format (now («data» .entry)) r ⌝ }
 {
     match format {
-        Format::Open => Measured::Text(data.len()),
-        Format::PseudoBinary => pseudo_binary::measure(data),
-        Format::FullAscii => full_ascii::measure(data),
+        Format::Open => Outcome::Text(data.len()),
+        Format::PseudoBinary => pseudo_binary::take_apart(data),
+        Format::FullAscii => full_ascii::take_apart(data),
     }
 }
 
@@ -183,8 +185,9 @@ fn take(format: Format, data: &[u8], text: &mut [u8]) -> Taken
 {
     let measured = measure(format, data);
     match measured {
-        Measured::Malformed(bit) => Taken::Malformed(bit),
-        Measured::Text(n) => {
+        Outcome::TooLong => Taken::Malformed(0), // never: a packet's data is short
+        Outcome::Malformed(bit) => Taken::Malformed(bit),
+        Outcome::Text(n) => {
             if text.len() < n {
                 return Taken::NoRoom(n);
             }

@@ -1,8 +1,8 @@
 -- Any nine bits begin an indicator: which one, by what number they are; and that it is the next to be read.
 -- Assumes nothing.
 use mathlib.Core.Path.{_≡_, refl, sym, ap, ap₂, subst, _∙_}
-use mathlib.Core.List.{List, [], _∷_, _++_, append-assoc}
-use Prim.Native.Nat.{ℕ, suc, _+_, _-_, _*_, _/_, _%_, _^_, _≤_, _<_}
+use mathlib.Core.List.{List, _∷_, _++_, append-assoc}
+use Prim.Native.Nat.{ℕ, suc, _+_, _-_, _*_, _/_, _%_, _≤_, _<_}
 use native.Mathlib.Numerals.{add-one}
 use native.Mathlib.Omega.{arith}
 use lib.Dec.{lit≤}
@@ -14,7 +14,7 @@ use Rattle.codes.specs.Chain.{Entry}
 use Rattle.codes.specs.Pack.{low}
 use Rattle.codes.specs.declared.Buffer.{Buffer}
 use Rattle.codes.proofs.Ahead.{window-begins, begins-window}
-use Rattle.codes.proofs.Low.{length-low, low-mod, low-add}
+use Rattle.codes.proofs.Low.{low-mod, low-add}
 use Rattle.codes.proofs.Pack.{length-bits}
 use Rattle.codes.proofs.Reading.{Halts}
 use Rattle.pseudo_binary.specs.Table.{SPACE, SLASH, Kind, values, spaces, slashes, indicator, most, tables}

@@ -64,10 +64,6 @@ module _ {tables : Tables} (bs rest entry out : List ℕ) (n : ℕ) (y : Laying 
       let p = passed-text laws rest (f .text) (y .passed) (f .reads) in
       omega (arith, f .fits, ap length (p .1), length-append (y .said) (p .0), y .place)
 
-  -- and what is left can be read
-  pub laying-later : Laws tables → Readable tables bs (length entry) → (t : List ℕ) × Reads tables 0 rest t
-  laying-later laws f = let p = passed-text laws rest (f .text) (y .passed) (f .reads) in (p .0, p .2)
-
   pub laying-end : Fill rest → Placed tables bs entry out 0 n
   laying-end f = record {
     text = y .said;

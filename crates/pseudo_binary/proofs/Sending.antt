@@ -3,7 +3,7 @@
 use mathlib.Core.Path.{_≡_, refl, sym, ap, ap₂, subst, subst⁻¹, _∙_}
 use mathlib.Core.Bool.{Bool, true, false, cond, _&&_}
 use mathlib.Core.List.{List, [], _∷_, _++_, append-assoc}
-use Prim.Native.Nat.{ℕ, zero, suc, pred, _+_, _-_, _*_, _/_, _%_, _^_, _≤_, _<_}
+use Prim.Native.Nat.{ℕ, zero, suc, pred, _+_, _-_, _*_, _/_, _%_, _≤_, _<_}
 use native.Mathlib.Nat.{add-zero}
 use native.Mathlib.Numerals.{add-one}
 use native.Mathlib.Omega.{arith}
@@ -21,6 +21,7 @@ use Rattle.pseudo_binary.specs.Size.{each}
 use Rattle.pseudo_binary.specs.Sending.{Between, FirstOf}
 use Rattle.pseudo_binary.specs.declared.Sent.{Sent}
 use Rattle.pseudo_binary.proofs.Characters.{of-kind, kind-of}
+use Rattle.pseudo_binary.proofs.Entries.{pred-most}
 use Rattle.pseudo_binary.proofs.Size.{besides-each}
 use Rattle.pseudo_binary.proofs.Writer.{run-le}
 
@@ -54,11 +55,6 @@ pub coded-at : (t : List ℕ) (i : ℕ) → Coded t → i < length t → T (code
 coded-at [] i c h = absurd (let none : ⊥ = omega arith in none)
 coded-at (x ∷ t) zero c h = c .0
 coded-at (x ∷ t) (suc i) c h = coded-at t i (c .1) (omega arith)
-
-pub coded-more : (t : List ℕ) (i : ℕ) → i < length t → Coded (take i t) → T (coded (getD t i 0)) → Coded (take (suc i) t)
-coded-more [] i h c x = absurd (let none : ⊥ = omega arith in none)
-coded-more (y ∷ t) zero h c x = (x, tt)
-coded-more (y ∷ t) (suc i) h c x = (c .0, coded-more t i (omega arith) (c .1) x)
 
 -- the kinds of character as ranges
 equal-between : (a c : ℕ) → eqb c a ≡ (leb a c && leb c a)
@@ -167,10 +163,11 @@ values-low j h =
     ap₂ (λ (x : ℕ) (l : List ℕ). x ∷ l) (let e : 1 ≡ (j + 128) / 128 % 2 = omega arith in e)
     (sym (low-join 7 1 j h) ∙ ap (low 7) (let e : 1 * 128 + j ≡ j + 128 = omega arith in e))
 
-spaces-low : (j : ℕ) → j < 16 → indicator spaces j .code ≡ low 6 j
+spaces-low : (j : ℕ) → j < 16 → indicator spaces j .code ≡ low 6 (j + 0)
 unfolding indicator low bit
 spaces-low j h =
     ap₂ (λ (x y : ℕ). x ∷ y ∷ low 4 j) (let e : 0 ≡ j / 32 % 2 = omega arith in e) (let e : 0 ≡ j / 16 % 2 = omega arith in e)
+    ∙ ap (low 6) (sym (add-zero j))
 
 slashes-low : (j : ℕ) → j < 16 → indicator slashes j .code ≡ low 6 (j + 16)
 unfolding indicator low bit
@@ -206,21 +203,23 @@ first-values c t n e x =
       alike = (e, run-alike values 127 t);
     })
 
-first-repeat : (k : Kind) (c : ℕ) (t : List ℕ) (n b : ℕ) → ((d : ℕ) → besides k d ≡ []) → most k ≡ 16 → of k c ≡ true
-    → n ≡ suc (run k (pred (most k)) t) → indicator k (n - 1) .code ≡ low 6 b → b < 64
-    → FirstOf (c ∷ t) (record { bits = b; width = 6; values = 0; count = n })
+first-repeat : (k : Kind) (lead c : ℕ) (t : List ℕ) (n : ℕ) → ((d : ℕ) → besides k d ≡ []) → most k ≡ 16 → lead ≤ 48
+    → ((j : ℕ) → j < 16 → indicator k j .code ≡ low 6 (j + lead)) → of k c ≡ true → n ≡ run k (most k) (c ∷ t)
+    → FirstOf (c ∷ t) (record { bits = n - 1 + lead; width = 6; values = 0; count = n })
 unfolding oursAfter ours
-first-repeat k c t n b none m e x code fits =
+first-repeat k lead c t n none m l codes e x =
     let more : ℕ = run k (pred (most k)) t in
+    let all : n ≡ suc more = x ∙ ap (λ (j : ℕ). run k j (c ∷ t)) (sym (pred-most k)) ∙ run-go k (pred (most k)) c t e in
+    let few : more < 16 = omega (arith, run-le k (pred (most k)) t, pred-most k) in
     record {
       entry = indicator k (n - 1);
       first = opening k c t e
           ∙ ap₂ (λ (j : ℕ) (es : List Entry). indicator k j ∷ es) (let y : more ≡ n - 1 = omega arith in y)
           (ap (λ (es : List Entry). es ++ oursAfter more t) (ap (λ (j : Kind). besides j c) (of-kind k c e) ∙ none c)
           ∙ skipped k none (pred (most k)) t)
-          ∙ ap (λ (j : ℕ). indicator k (n - 1) ∷ oursAfter 0 (drop j (c ∷ t))) (sym x);
-      code = code;
-      fits = fits;
+          ∙ ap (λ (j : ℕ). indicator k (n - 1) ∷ oursAfter 0 (drop j (c ∷ t))) (sym all);
+      code = codes (n - 1) (omega arith);
+      fits = omega arith;
       short = lit≤ tt;
       long = lit≤ tt;
       some = omega arith;
@@ -240,27 +239,24 @@ module _ (t : List ℕ) (i : ℕ) (h : i < length t) where
       subst⁻¹ (λ (l : List ℕ). FirstOf l (record { bits = n - 1 + 128; width = 8; values = n; count = 0 })) here
       (first-values (getD t i 0) (drop (suc i) t) n e (x ∙ ap (run values 128) here))
 
+  repeat-first : (k : Kind) (lead n : ℕ) → ((d : ℕ) → besides k d ≡ []) → most k ≡ 16 → lead ≤ 48
+      → ((j : ℕ) → j < 16 → indicator k j .code ≡ low 6 (j + lead)) → of k (getD t i 0) ≡ true → n ≡ run k (most k) (drop i t)
+      → FirstOf (drop i t) (record { bits = n - 1 + lead; width = 6; values = 0; count = n })
+  repeat-first k lead n none m l codes e x =
+      subst⁻¹ (λ (l : List ℕ). FirstOf l (record { bits = n - 1 + lead; width = 6; values = 0; count = n })) here
+      (first-repeat k lead (getD t i 0) (drop (suc i) t) n none m l codes e (x ∙ ap (run k (most k)) here))
+
   pub space-first : (n : ℕ) → getD t i 0 ≡ SPACE → n ≡ run spaces 16 (drop i t)
       → FirstOf (drop i t) (record { bits = n - 1; width = 6; values = 0; count = n })
   unfolding most besides of
   space-first n e x =
-      let c : ℕ = getD t i 0 in
-      let is : of spaces c ≡ true = eq-eqb c SPACE e in
-      let all : n ≡ suc (run spaces 15 (drop (suc i) t)) = x ∙ ap (run spaces 16) here ∙ run-go spaces 15 c (drop (suc i) t) is in
-      let few : run spaces 15 (drop (suc i) t) ≤ 15 = run-le spaces 15 (drop (suc i) t) in
-      subst⁻¹ (λ (l : List ℕ). FirstOf l (record { bits = n - 1; width = 6; values = 0; count = n })) here
-      (first-repeat spaces c (drop (suc i) t) n (n - 1) (λ d. refl) refl is all (spaces-low (n - 1) (omega arith)) (omega arith))
+      subst (λ (b : ℕ). FirstOf (drop i t) (record { bits = b; width = 6; values = 0; count = n })) (add-zero (n - 1))
+      (repeat-first spaces 0 n (λ d. refl) refl (lit≤ tt) spaces-low (eq-eqb (getD t i 0) SPACE e) x)
 
   pub slash-first : (n : ℕ) → getD t i 0 ≡ SLASH → n ≡ run slashes 16 (drop i t)
       → FirstOf (drop i t) (record { bits = n - 1 + 16; width = 6; values = 0; count = n })
   unfolding most besides of
-  slash-first n e x =
-      let c : ℕ = getD t i 0 in
-      let is : of slashes c ≡ true = eq-eqb c SLASH e in
-      let all : n ≡ suc (run slashes 15 (drop (suc i) t)) = x ∙ ap (run slashes 16) here ∙ run-go slashes 15 c (drop (suc i) t) is in
-      let few : run slashes 15 (drop (suc i) t) ≤ 15 = run-le slashes 15 (drop (suc i) t) in
-      subst⁻¹ (λ (l : List ℕ). FirstOf l (record { bits = n - 1 + 16; width = 6; values = 0; count = n })) here
-      (first-repeat slashes c (drop (suc i) t) n (n - 1 + 16) (λ d. refl) refl is all (slashes-low (n - 1) (omega arith)) (omega arith))
+  slash-first n e x = repeat-first slashes 16 n (λ d. refl) refl (lit≤ tt) slashes-low (eq-eqb (getD t i 0) SLASH e) x
 
   -- a run of the kind of its first character has one character or more
   pub run-some : (k : Kind) (m n : ℕ) → of k (getD t i 0) ≡ true → n ≡ run k (suc m) (drop i t) → 1 ≤ n

@@ -92,61 +92,65 @@ counting-run s at b h inside w v r k n c there = record {
   passed = passed-run s at b h inside w v r k (c .said) (c .passed) there;
 }
 
--- where the whole can be read and does not end here, the indicator and its values are there
+-- an indicator whose bits and values are there, and room for what they say: first the indicator's characters are laid, then its values
+pub record Whole (s : List ℕ) (at : ℕ) (b : Buffer) (r : Indicator) (entry out : List ℕ) (n : ℕ) : Type 0 where
+  pub there : r .width + r .values * 6 ≤ length s * 8 - at
+  pub held : r .width ≤ b .have
+  pub left : 6 * r .values ≤ length (ahead s (b .held) (b .have - r .width) (b .next))
+  pub room : n + r .count + r .values ≤ length entry
+  pub middle : (mid : List ℕ) → mid ≡ laid out n (replicate (r .count) (r .character)) → length mid ≡ length entry
+  pub next : (mid exit : List ℕ) → mid ≡ laid out n (replicate (r .count) (r .character))
+      → exit ≡ laid mid (n + r .count) (characters (r .values) (ahead s (b .held) (b .have - r .width) (b .next)))
+      → Laying tables (bits s) (drop (at + (r .width + r .values * 6)) (bits s)) entry exit (n + r .count + r .values)
+
+-- so it is where the whole can be read and does not end here
 module _ (s : List ℕ) (at : ℕ) (b : Buffer) (h : Starts s at b) (inside : at ≤ length s * 8) (w : ℕ) (v : Window (b .held) (b .have) w)
     (r : Indicator) (k : Takes w r) (entry out : List ℕ) (n : ℕ) (y : Laying tables (bits s) (drop at (bits s)) entry out n)
-    (f : Readable tables (bits s) (length entry)) (none : Fill (low (b .have) (b .held)) → ⊥) where
-  pub run-there : r .width + r .values * 6 ≤ length s * 8 - at
-  run-there =
+    (f : Readable tables (bits s) (length entry)) (none : Fill (low (b .have) (b .held)) → ⊥) (fits : n ≤ length entry) where
+  there : r .width + r .values * 6 ≤ length s * 8 - at
+  there =
       by-cases (decLe (r .width) (length s * 8 - at))
       (λ l. by-cases (decLe (r .values * 6) (length s * 8 - at - r .width)) (λ m. omega arith)
       (λ m. absurd (never-both laws (f .reads)
       (stuck-value s at b h inside w v r k (y .said) (y .passed) (length s * 8 - at - r .width) (omega arith) (omega arith)))))
       (λ l. absurd (never-both laws (f .reads) (stuck-indicator s at b h inside w v r k (y .said) (y .passed) (omega arith) none)))
 
-  pub run-have : r .width ≤ b .have
-  run-have = starts-have s at b h inside (r .width) (omega (arith, k .long)) (omega (arith, run-there))
+  held : r .width ≤ b .have
+  held = starts-have s at b h inside (r .width) (omega (arith, k .long)) (omega (arith, there))
 
-  -- what is ahead after the indicator
-  pub run-ahead : ahead s (b .held) (b .have - r .width) (b .next) ≡ drop (at + r .width) (bits s)
-  run-ahead = starts-drop s at b h inside (r .width) run-have
+  ahead-after : ahead s (b .held) (b .have - r .width) (b .next) ≡ drop (at + r .width) (bits s)
+  ahead-after = starts-drop s at b h inside (r .width) held
 
-  -- and there is room for what they say
-  module _ (room : n ≤ length entry) where
-    pub laying-run : Laying tables (bits s) (drop (at + (r .width + r .values * 6)) (bits s)) entry (laid out n (saying s at r))
-        (n + r .count + r .values)
-    laying-run =
-        subst (Laying tables (bits s) (drop (at + (r .width + r .values * 6)) (bits s)) entry (laid out n (saying s at r)))
-        (let e : n + length (saying s at r) ≡ n + r .count + r .values = omega (arith, length-saying s at r) in e)
-        (laying-more (bits s) (drop at (bits s)) entry out n y (drop (at + (r .width + r .values * 6)) (bits s)) (saying s at r) room
-        (passed-run s at b h inside w v r k (y .said) (y .passed) run-there))
+  laid-whole : Laying tables (bits s) (drop (at + (r .width + r .values * 6)) (bits s)) entry (laid out n (saying s at r)) (n + r .count + r .values)
+  laid-whole =
+      subst (Laying tables (bits s) (drop (at + (r .width + r .values * 6)) (bits s)) entry (laid out n (saying s at r)))
+      (let e : n + length (saying s at r) ≡ n + r .count + r .values = omega (arith, length-saying s at r) in e)
+      (laying-more (bits s) (drop at (bits s)) entry out n y (drop (at + (r .width + r .values * 6)) (bits s)) (saying s at r) fits
+      (passed-run s at b h inside w v r k (y .said) (y .passed) there))
 
-    pub run-room : n + r .count + r .values ≤ length entry
-    run-room =
-        laying-room (bits s) (drop (at + (r .width + r .values * 6)) (bits s)) entry (laid out n (saying s at r)) (n + r .count + r .values)
-        laying-run laws f
+  room : n + r .count + r .values ≤ length entry
+  room =
+      laying-room (bits s) (drop (at + (r .width + r .values * 6)) (bits s)) entry (laid out n (saying s at r)) (n + r .count + r .values)
+      laid-whole laws f
 
-    same : length out ≡ length entry
-    same = laying-length (bits s) (drop at (bits s)) entry out n y room
+  -- there is room for the indicator's characters
+  first-room : n + length (replicate (r .count) (r .character)) ≤ length out
+  first-room =
+      omega (arith, room, laying-length (bits s) (drop at (bits s)) entry out n y fits, length-replicate (r .count) (r .character))
 
-    -- first what the indicator says
-    pub mid-length : (mid : List ℕ) → mid ≡ laid out n (replicate (r .count) (r .character)) → length mid ≡ length entry
-    mid-length mid e =
-        ap length e
-        ∙ length-laid out n (replicate (r .count) (r .character))
-        (omega (arith, run-room, same, length-replicate (r .count) (r .character)))
-        ∙ same
-
-    -- then its values
-    pub run-laid : (mid exit : List ℕ) → mid ≡ laid out n (replicate (r .count) (r .character))
-        → exit ≡ laid mid (n + r .count) (characters (r .values) (ahead s (b .held) (b .have - r .width) (b .next)))
-        → Laying tables (bits s) (drop (at + (r .width + r .values * 6)) (bits s)) entry exit (n + r .count + r .values)
-    run-laid mid exit e d =
-        subst⁻¹
-        (λ (l : List ℕ). Laying tables (bits s) (drop (at + (r .width + r .values * 6)) (bits s)) entry l (n + r .count + r .values))
+  pub whole : Whole s at b r entry out n
+  whole = record {
+    there = there;
+    held = held;
+    left = omega (arith, there, ap length ahead-after, length-left s (at + r .width));
+    room = room;
+    middle = λ mid e. ap length e ∙ length-laid out n (replicate (r .count) (r .character)) first-room
+        ∙ laying-length (bits s) (drop at (bits s)) entry out n y fits;
+    next = λ mid exit e d.
+        subst⁻¹ (λ (l : List ℕ). Laying tables (bits s) (drop (at + (r .width + r .values * 6)) (bits s)) entry l (n + r .count + r .values))
         (d
-        ∙ ap₂ (λ (l m : List ℕ). laid l (n + r .count) (characters (r .values) m)) e run-ahead
-        ∙ laid-laid out n (n + r .count) (replicate (r .count) (r .character)) (characters (r .values) (drop (at + r .width) (bits s)))
-        (omega (arith, run-room, same, length-replicate (r .count) (r .character)))
+        ∙ ap₂ (λ (l m : List ℕ). laid l (n + r .count) (characters (r .values) m)) e ahead-after
+        ∙ laid-laid out n (n + r .count) (replicate (r .count) (r .character)) (characters (r .values) (drop (at + r .width) (bits s))) first-room
         (ap (λ (m : ℕ). n + m) (sym (length-replicate (r .count) (r .character)))))
-        laying-run
+        laid-whole;
+  }

@@ -7,6 +7,7 @@ use Prim.Native.Nat.{ℕ, _+_, _^_, _≤_, _<_}
 use lib.Dec.{leb}
 use lib.ListN.{length, take, drop}
 use Rattle.codes.specs.Chain.{Entry}
+use Rattle.codes.specs.Laid.{Fronted}
 use Rattle.codes.specs.Pack.{low, written}
 use Rattle.pseudo_binary.specs.Table.{Kind, values, of}
 use Rattle.pseudo_binary.specs.Writer.{Alike, oursAfter, ours}
@@ -31,6 +32,5 @@ pub record FirstOf (text : List ℕ) (r : Sent) : Type 0 where
   pub alike : Alike values (take (r .values) (drop (r .count) text))
 
 -- what our writer builds of the text stands at the front of the buffer, r bytes, and nothing else changed
-pub record Writes (text entry exit : List ℕ) (r : ℕ) : Type 0 where
-  pub size : r ≡ length (written (ours text))
-  pub whole : exit ≡ written (ours text) ++ drop r entry
+abbrev pub Writes : List ℕ → List ℕ → List ℕ → ℕ → Type 0
+Writes text = Fronted (written (ours text))

@@ -3,15 +3,16 @@
 use codes::Buffer;
 use codes::Measured;
 use codes::Needed;
+use codes::Outcome;
 use codes::Uncoded;
 ghost use mathlib.Core.Path.{_≡_};
 ghost use lib.Dec.{T};
-ghost use Prim.Native.Nat.{ℕ, _+_, _*_, _≤_, _<_, _^_};
+ghost use Prim.Native.Nat.{_+_, _*_, _≤_, _<_, _^_};
 ghost use lib.ListN.{length, drop, getD, replicate};
 ghost use Rattle.bits.specs.Row.{bits};
 ghost use Rattle.codes.specs.Ahead.{ahead};
 ghost use Rattle.codes.specs.Laid.{laid, Readable, Placed};
-ghost use Rattle.codes.specs.Measure.{Measures};
+ghost use Rattle.codes.specs.Measure.{Measures, Comes};
 ghost use Rattle.codes.specs.Pack.{written};
 ghost use Rattle.codes.specs.Size.{Searches, Needs};
 ghost use Rattle.pseudo_binary.specs.Sending.{Between, FirstOf, Writes};
@@ -20,7 +21,7 @@ ghost use Rattle.pseudo_binary.specs.Taken.{Starts, Takes, characters};
 ghost use Rattle.pseudo_binary.specs.Writer.{run, ours};
 
 // An indicator: how many bits it has, how many values it announces, and how often it says which character.
-pub struct Indicator {
+struct Indicator {
     pub width: usize,
     pub values: usize,
     pub count: usize,
@@ -90,7 +91,7 @@ fn buffer_at(s: &[u8], at: usize) -> Buffer
 }
 
 // The length of the text, or the bit at which the data is malformed. Announced values are not looked at: any six bits are a value.
-pub fn measure(s: &[u8]) -> Measured
+fn measure(s: &[u8]) -> Measured
     requires { ⌜ length (now s) < 2 ^ 56 ⌝ }
     ensures { λ r. ⌜ Measures tables (bits (now (s .entry))) r ⌝ }
 {
@@ -102,16 +103,16 @@ pub fn measure(s: &[u8]) -> Measured
         if codes::at_end(b.held, b.have) {
             return Measured::Text(n);
         }
-        let i = first_indicator(codes::window(b.held, b.have));
-        if end - at < i.width {
+        let indicator = first_indicator(codes::window(b.held, b.have));
+        if end - at < indicator.width {
             return Measured::Malformed(at);
         }
-        let left = end - at - i.width;
-        if left < i.values * 6 {
+        let left = end - at - indicator.width;
+        if left < indicator.values * 6 {
             return Measured::Malformed(end - left % 6);
         }
-        at += i.width + i.values * 6;
-        n += i.count + i.values;
+        at += indicator.width + indicator.values * 6;
+        n += indicator.count + indicator.values;
     }
 }
 
@@ -145,11 +146,25 @@ fn repeat(out: &mut [u8], n: usize, count: usize, character: u8)
     requires { ⌜ n + count ≤ length (now out) ⌝ }
     ensures { λ r. ⌜ now (out .exit) ≡ laid (now (out .entry)) n (replicate count character) ⌝ }
 {
-    let end = n + count;
+    let past = n + count;
     let mut at = n;
-    while at < end {
+    while at < past {
         out[at] = character;
         at += 1;
+    }
+}
+
+// The data taken apart, whatever its length.
+pub fn take_apart(s: &[u8]) -> Outcome
+    ensures { λ r. ⌜ Comes tables (now (s .entry)) r ⌝ }
+{
+    if Outcome::LIMIT <= s.len() {
+        return Outcome::TooLong;
+    }
+    let measured = measure(s);
+    match measured {
+        Measured::Text(n) => Outcome::Text(n),
+        Measured::Malformed(bit) => Outcome::Malformed(bit),
     }
 }
 
@@ -165,17 +180,17 @@ pub fn read(s: &[u8], out: &mut [u8]) -> usize
         if codes::at_end(b.held, b.have) {
             return n;
         }
-        let i = first_indicator(codes::window(b.held, b.have));
-        repeat(out, n, i.count, i.character);
-        n += i.count;
+        let run = first_indicator(codes::window(b.held, b.have));
+        repeat(out, n, run.count, run.character);
+        n += run.count;
         let rest = Buffer {
             held: b.held,
-            have: b.have - i.width as u64,
+            have: b.have - run.width as u64,
             next: b.next,
         };
-        read_values(s, rest, i.values, out, n);
-        n += i.values;
-        at += i.width + i.values * 6;
+        read_values(s, rest, run.values, out, n);
+        n += run.values;
+        at += run.width + run.values * 6;
     }
 }
 
@@ -184,8 +199,8 @@ fn is_coded(c: u8) -> bool
     ensures { λ r. ⌜ r ≡ coded c ⌝ }
 {
     match c {
-        32 => true,
-        47 => true,
+        b' ' => true,
+        b'/' => true,
         64..=127 => true,
         _ => false,
     }
@@ -241,8 +256,8 @@ fn next_indicator(text: &[u8], i: usize) -> Sent
     ensures { λ r. ⌜ FirstOf (drop i (now (text .entry))) r ⌝ }
 {
     match text[i] {
-        32 => {
-            let count = run_of(text, i, 32, 32, 16);
+        b' ' => {
+            let count = run_of(text, i, b' ', b' ', 16);
             Sent {
                 bits: count as u64 - 1,
                 width: 6,
@@ -250,8 +265,8 @@ fn next_indicator(text: &[u8], i: usize) -> Sent
                 count,
             }
         }
-        47 => {
-            let count = run_of(text, i, 47, 47, 16);
+        b'/' => {
+            let count = run_of(text, i, b'/', b'/', 16);
             Sent {
                 bits: count as u64 - 1 + 16,
                 width: 6,
@@ -279,12 +294,12 @@ pub fn data_length(text: &[u8]) -> Needed
     let mut i: usize = 0;
     let mut n: usize = 0;
     while i < text.len() {
-        let r = next_indicator(text, i);
-        n += r.width as usize + r.values * 6;
+        let indicator = next_indicator(text, i);
+        n += indicator.width as usize + indicator.values * 6;
         if Needed::MOST < n {
             return Needed::TooMany;
         }
-        i += r.count + r.values;
+        i += indicator.count + indicator.values;
     }
     Needed::Bytes((n + 7) / 8)
 }
@@ -310,11 +325,11 @@ pub fn write(text: &[u8], out: &mut [u8]) -> usize
             i += 1;
             announced -= 1;
         } else {
-            let r = next_indicator(text, i);
-            held = codes::push(held, r.bits, r.width);
-            have += r.width;
-            i += r.count;
-            announced = r.values;
+            let indicator = next_indicator(text, i);
+            held = codes::push(held, indicator.bits, indicator.width);
+            have += indicator.width;
+            i += indicator.count;
+            announced = indicator.values;
         }
     }
     codes::flush(out, n, held, have)

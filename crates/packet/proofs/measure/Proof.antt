@@ -4,7 +4,7 @@ use mathlib.Core.List.{List}
 use mathlib.Core.Path.{_≡_, refl, sym, subst}
 use borrow.Author.Needs.{needs}
 use Rattle.header.specs.declared.Format.{Format}
-use Rattle.codes.specs.declared.Measured.the-variants.{Text}
+use Rattle.codes.specs.declared.Outcome.the-variants.{Text}
 use Rattle.packet.specs.Steps.{Measures}
 use Rattle.packet.proofs.Dispatch.{measures-pseudo, measures-ascii}
 use lib.ListN.{length}
@@ -17,14 +17,14 @@ enum-told c = search needs
 enum-told-2 : tie.Need-enum-told-2
 enum-told-2 c = search needs
 
-measure-requires : tie.Need-measure-requires
-measure-requires c κs = search needs
+take-apart-requires : tie.Need-take-apart-requires
+take-apart-requires c κs = search needs
 
 enum-told-3 : tie.Need-enum-told-3
 enum-told-3 c = search needs
 
-measure-requires-2 : tie.Need-measure-requires-2
-measure-requires-2 c κs = search needs
+take-apart-requires-2 : tie.Need-take-apart-requires-2
+take-apart-requires-2 c κs = search needs
 
 returns : tie.Need-returns
 returns c =
@@ -34,12 +34,12 @@ returns c =
 returns-2 : tie.Need-returns-2
 returns-2 c =
     let sent = c .before .before .before .before .args .«data» .now in
-    subst (λ (k : Format). Measures k sent (c .measure .result)) (sym (c .before .enum-told2 .given .1)) (measures-pseudo sent (c .measure .result) (c .measure .ensures))
+    subst (λ (k : Format). Measures k sent (c .take-apart .result)) (sym (c .before .enum-told2 .given .1)) (measures-pseudo sent (c .take-apart .result) (c .take-apart .ensures))
 
 returns-3 : tie.Need-returns-3
 returns-3 c =
     let sent = c .before .before .before .before .args .«data» .now in
-    subst (λ (k : Format). Measures k sent (c .measure2 .result)) (sym (c .before .enum-told3 .given .1)) (measures-ascii sent (c .measure2 .result) (c .measure2 .ensures))
+    subst (λ (k : Format). Measures k sent (c .take-apart2 .result)) (sym (c .before .enum-told3 .given .1)) (measures-ascii sent (c .take-apart2 .result) (c .take-apart2 .ensures))
 
 pub measure-spec : {M : Type 1} → statement M
 measure-spec =
@@ -47,9 +47,9 @@ measure-spec =
     (tie.spec
     enum-told
     enum-told-2
-    measure-requires
+    take-apart-requires
     enum-told-3
-    measure-requires-2
+    take-apart-requires-2
     returns
     returns-2
     returns-3)

@@ -148,6 +148,12 @@ word-at c = told-at c .before .before .before .before
 cast-length : tie.Need-cast-length
 cast-length c = search needs
 
+cast-most : tie.Need-cast-most
+cast-most c = search needs
+
+add-end : tie.Need-add-end
+add-end c = search needs
+
 returns-4 : tie.Need-returns-4
 returns-4 c = λ room.
     let k = c .before .before in
@@ -158,9 +164,6 @@ returns-4 c = λ room.
       first = clear-four (packet-at (word-at k)) room h near (four (word-at k)) (k .before .typing2 .given .0 .0) (typed-at k);
     }
 
-cast-if3 : tie.Need-cast-if3
-cast-if3 c = search needs
-
 returns-5 : tie.Need-returns-5
 returns-5 c = λ room.
     let k = c .before .before .before in
@@ -170,9 +173,6 @@ returns-5 c = λ room.
       fault = (h, near, inr (omega (arith, long-at k, c .if3 .taken)));
       first = clear-four (packet-at (word-at k)) room h near (four (word-at k)) (k .before .typing2 .given .0 .0) (typed-at k);
     }
-
-add-if4 : tie.Need-add-if4
-add-if4 c = search needs
 
 returns-6 : tie.Need-returns-6
 returns-6 c = λ room.
@@ -223,9 +223,9 @@ open-spec =
     enum-told-2
     returns-3
     cast-length
+    cast-most
+    add-end
     returns-4
-    cast-if3
     returns-5
-    add-if4
     returns-6
     returns-7)

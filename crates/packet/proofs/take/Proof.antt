@@ -6,8 +6,8 @@ use Prim.Native.Nat.{ℕ, _≤_}
 use native.Mathlib.Omega.{arith}
 use borrow.Author.Needs.{needs}
 use lib.ListN.{length}
-use Rattle.codes.specs.declared.Measured.{Measured}
-use Rattle.codes.specs.declared.Measured.the-variants.{Text, Malformed}
+use Rattle.codes.specs.declared.Outcome.{Outcome}
+use Rattle.codes.specs.declared.Outcome.the-variants.{Text, Malformed, TooLong}
 use Rattle.packet.specs.Steps.{Measures}
 use Rattle.packet.proofs.Formats.{carries-one}
 use Rattle.packet.proofs.take.Statement.{statement}
@@ -18,11 +18,14 @@ use Rattle.packet.proofs.take.Tie as tie
 abbrev start : tie.After-measure → tie.Start
 start c = c .before .before .before
 
-measured : (c : tie.After-measure) (r : Measured) → c .measure .result ≡ r → Measures (start c .args .format) (start c .args .«data» .now) r
+measured : (c : tie.After-measure) (r : Outcome) → c .measure .result ≡ r → Measures (start c .args .format) (start c .args .«data» .now) r
 measured c r e = subst (Measures (start c .args .format) (start c .args .«data» .now)) e (c .measure .ensures)
 
 measure-requires : tie.Need-measure-requires
 measure-requires c κs = search needs
+
+enum-told : tie.Need-enum-told
+enum-told c = search needs
 
 enum-known-measured : tie.Need-enum-known-measured
 enum-known-measured c = search needs
@@ -44,16 +47,23 @@ unpack-requires c κs =
     let found = measured m (Text (k .before .measured2 .given .0 .0)) (k .before .measured2 .given .1) in
     (start m .pre, record { text = found .0; carries = found .2; held = omega (arith, found .1, c .before .if1 .left) })
 
+-- a packet's data is short
 returns-2 : tie.Need-returns-2
 returns-2 c =
+    let m = c .before .before in
+    let long = measured m TooLong (c .enum-told .given .1) in
+    absurd (let no′ : ⊥ = omega (arith, start m .pre) in no′)
+
+returns-3 : tie.Need-returns-3
+returns-3 c =
     let i = c .before .measured .given .0 .0 in
     (measured (c .before .before .before) (Malformed i) (c .before .measured .given .1), refl)
 
 same-length : tie.Need-same-length
 same-length c = search needs
 
-returns-3 : tie.Need-returns-3
-returns-3 c =
+returns-4 : tie.Need-returns-4
+returns-4 c =
     let u = c .before .before in
     let k = u .before .before .before in
     let m = k .before .before .before in
@@ -68,10 +78,12 @@ take-spec =
     tie.close
     (tie.spec
     measure-requires
+    enum-told
     enum-known-measured
     enum-known-measured-2
     returns
     unpack-requires
     returns-2
+    returns-3
     same-length
-    returns-3)
+    returns-4)

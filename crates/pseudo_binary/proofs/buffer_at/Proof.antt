@@ -1,10 +1,8 @@
 -- `pseudo_binary::buffer_at` meets its contract. Assumes nothing.
-use mathlib.Core.Path.{_≡_, sym, ap, _∙_}
-use mathlib.Core.Logic.{⊎-elim}
-use mathlib.Core.List.{List}
-use Prim.Native.Nat.{ℕ, _-_, _*_, _/_, _%_, _≤_}
+use mathlib.Core.Path.{_≡_, ap, _∙_}
+use Prim.Native.Nat.{ℕ, _-_, _/_, _%_}
 use native.Mathlib.Omega.{arith}
-use lib.ListN.{length, drop}
+use lib.ListN.{drop}
 use Rattle.bits.specs.Row.{bits}
 use Rattle.codes.specs.Ahead.{ahead}
 use Rattle.pseudo_binary.proofs.Starts.{ahead-none, ahead-at}

@@ -5,7 +5,6 @@ use native.Mathlib.Omega.{arith}
 use lib.ListN.{getD, drop}
 use borrow.Author.Tests.{eq-eqb}
 use Rattle.pseudo_binary.specs.Table.{SPACE, SLASH, values, spaces, slashes, of}
-use Rattle.pseudo_binary.specs.Writer.{run}
 use Rattle.pseudo_binary.proofs.Sending.{spaces-between, slashes-between, values-between, space-first, slash-first, value-first, run-some, else-value}
 use Rattle.pseudo_binary.proofs.Writer.{run-le}
 use borrow.Author.Needs.{needs}

@@ -1,23 +1,18 @@
 -- `pseudo_binary::read` meets its contract. The loop's invariant: the indicators and values that were passed leave what follows bit `at`, and their
 -- text is laid. Assumes nothing.
-use mathlib.Core.Path.{_≡_, sym, ap, subst, subst⁻¹, _∙_}
+use mathlib.Core.Path.{_≡_, subst}
 use mathlib.Core.Bool.{Bool}
-use mathlib.Core.List.{List, _++_}
-use Prim.Native.Nat.{ℕ, _+_, _-_, _*_, _≤_}
+use Prim.Native.Nat.{_-_, _*_, _≤_}
 use native.Mathlib.Omega.{arith}
-use lib.ListN.{length, drop, replicate}
+use lib.ListN.{length, drop}
 use Rattle.bits.specs.Row.{bits}
 use Rattle.bits.specs.Says.{Says}
-use Rattle.codes.specs.Ahead.{ahead}
 use Rattle.codes.specs.Chain.{Fill}
-use Rattle.codes.specs.Laid.{laid}
 use Rattle.codes.specs.Pack.{low}
-use Rattle.codes.proofs.Laid.{laid-laid, length-laid}
 use Rattle.pseudo_binary.specs.Table.{tables}
-use Rattle.pseudo_binary.specs.Taken.{characters}
 use Rattle.pseudo_binary.proofs.Passing.{Laying, laying-none, laying-length, laying-end}
-use Rattle.pseudo_binary.proofs.Starts.{length-ahead, starts-left, starts-fill}
-use Rattle.pseudo_binary.proofs.Steps.{run-there, run-have, run-room, mid-length, run-laid}
+use Rattle.pseudo_binary.proofs.Starts.{starts-fill}
+use Rattle.pseudo_binary.proofs.Steps.{Whole, whole}
 use Rattle.pseudo_binary.proofs.read.Statement.{statement}
 use Rattle.pseudo_binary.proofs.read.Tie as tie
 
@@ -64,107 +59,60 @@ window-requires c κs = omega (arith, c .before .before .buffer-at .ensures .few
 first-indicator-requires : tie.Need-first-indicator-requires Inv-loop μ-loop
 first-indicator-requires c κs = c .window .ensures .small
 
--- at the indicator that was found: it does not stand at the end
-goes-on : (f : tie.After-first-indicator Inv-loop μ-loop)
-    → Fill (low (f .before .before .before .before .buffer-at .result .have) (f .before .before .before .before .buffer-at .result .held)) → ⊥
-goes-on f =
-    subst (λ (t : Bool). Says t (Fill (low (f .before .before .before .before .buffer-at .result .have) (f .before .before .before .before .buffer-at .result .held))))
-    (f .before .before .if1 .left) (f .before .before .before .at-end .ensures)
-
--- its bits and those of its values are there, and there is room for what they say
-there : (f : tie.After-first-indicator Inv-loop μ-loop)
-    → f .first-indicator .result .width + f .first-indicator .result .values * 6 ≤ length (f .before .before .before .before .before .before .before .before .args .s .now) * 8 - f .before .before .before .before .before .loop .at
-there f =
+-- at the indicator that was found: its bits and its values are there, and there is room for what they say
+found : (f : tie.After-first-indicator Inv-loop μ-loop)
+    → Whole (f .before .before .before .before .before .before .before .before .args .s .now) (f .before .before .before .before .before .loop .at) (f .before .before .before .before .buffer-at .result)
+    (f .first-indicator .result) (f .before .before .before .before .before .before .before .before .args .out .now) (f .before .before .before .before .before .loop .out)
+    (f .before .before .before .before .before .loop .n)
+found f =
     let b = f .before .before .before .before in
     let a = b .before in
     let e = a .before .before .before in
-    run-there (e .args .s .now) (a .loop .at) (b .buffer-at .result) (b .buffer-at .ensures) (a .loop .inv .0) (f .before .window .result)
+    whole (e .args .s .now) (a .loop .at) (b .buffer-at .result) (b .buffer-at .ensures) (a .loop .inv .0) (f .before .window .result)
     (f .before .window .ensures) (f .first-indicator .result) (f .first-indicator .ensures) (e .args .out .now) (a .loop .out) (a .loop .n)
-    (a .loop .inv .2) (e .pre .1) (goes-on f)
-
-have : (f : tie.After-first-indicator Inv-loop μ-loop) → f .first-indicator .result .width ≤ f .before .before .before .before .buffer-at .result .have
-have f =
-    let b = f .before .before .before .before in
-    let a = b .before in
-    let e = a .before .before .before in
-    run-have (e .args .s .now) (a .loop .at) (b .buffer-at .result) (b .buffer-at .ensures) (a .loop .inv .0) (f .before .window .result)
-    (f .before .window .ensures) (f .first-indicator .result) (f .first-indicator .ensures) (e .args .out .now) (a .loop .out) (a .loop .n)
-    (a .loop .inv .2) (e .pre .1) (goes-on f)
-
-room : (f : tie.After-first-indicator Inv-loop μ-loop)
-    → f .before .before .before .before .before .loop .n + f .first-indicator .result .count + f .first-indicator .result .values ≤ length (f .before .before .before .before .before .before .before .before .args .out .now)
-room f =
-    let b = f .before .before .before .before in
-    let a = b .before in
-    let e = a .before .before .before in
-    run-room (e .args .s .now) (a .loop .at) (b .buffer-at .result) (b .buffer-at .ensures) (a .loop .inv .0) (f .before .window .result)
-    (f .before .window .ensures) (f .first-indicator .result) (f .first-indicator .ensures) (e .args .out .now) (a .loop .out) (a .loop .n)
-    (a .loop .inv .2) (e .pre .1) (goes-on f) (a .loop .inv .1)
+    (a .loop .inv .2) (e .pre .1)
+    (subst (λ (t : Bool). Says t (Fill (low (b .buffer-at .result .have) (b .buffer-at .result .held)))) (f .before .before .if1 .left)
+    (f .before .before .before .at-end .ensures))
+    (a .loop .inv .1)
 
 repeat-requires : tie.Need-repeat-requires Inv-loop μ-loop
-repeat-requires c κs = omega (arith, room (c .before), same (c .before .before .before .before .before .before))
+repeat-requires c κs = omega (arith, found (c .before) .room, same (c .before .before .before .before .before .before))
 
 add-n : tie.Need-add-n Inv-loop μ-loop
-add-n c = omega (arith, room (c .before .before .before .before .before), c .before .before .before .before .before .before .before .before .before .before .before .before .before .good)
+add-n c = omega (arith, found (c .before .before .before .before .before) .room, c .before .before .before .before .before .before .before .before .before .before .before .before .before .good)
 
 sub-t13 : tie.Need-sub-t13 Inv-loop μ-loop
-sub-t13 c = have (c .before .before .before .before .before .before)
+sub-t13 c = found (c .before .before .before .before .before .before) .held
 
 read-values-requires : tie.Need-read-values-requires Inv-loop μ-loop
 read-values-requires c κs =
     let f = c .before .before .before .before .before .before .before in
-    let b = f .before .before .before .before in
-    let a = b .before in
-    let e = a .before .before .before in
-    let s = e .args .s .now in
-    let i = f .first-indicator .result in (
-      (
-        omega (arith, b .buffer-at .ensures .few),
-        b .buffer-at .ensures .within,
-        omega (
-          arith,
-          there f,
-          have f,
-          starts-left s (a .loop .at) (b .buffer-at .result) (b .buffer-at .ensures) (a .loop .inv .0),
-          length-ahead s (b .buffer-at .result .held) (b .buffer-at .result .have - i .width) (b .buffer-at .result .next),
-        ),
-      ),
-      omega (
-        arith,
-        room f,
-        mid-length s (a .loop .at) (b .buffer-at .result) (b .buffer-at .ensures) (a .loop .inv .0) (f .before .window .result)
-            (f .before .window .ensures) i (f .first-indicator .ensures) (e .args .out .now) (a .loop .out) (a .loop .n) (a .loop .inv .2) (e .pre .1)
-            (goes-on f) (a .loop .inv .1) (c .before .before .before .before .before .repeat .last .0) (c .before .before .before .before .before .repeat .ensures),
-      ),
+    let b = f .before .before .before .before in (
+      (omega (arith, b .buffer-at .ensures .few), b .buffer-at .ensures .within, found f .left),
+      omega (arith, found f .room, found f .middle (c .before .before .before .before .before .repeat .last .0) (c .before .before .before .before .before .repeat .ensures)),
     )
 
 add-n-2 : tie.Need-add-n-2 Inv-loop μ-loop
-add-n-2 c = omega (arith, room (c .before .before .before .before .before .before .before .before .before .before .before), c .before .before .before .before .before .before .before .before .before .before .before .before .before .before .before .before .before .before .before .good)
+add-n-2 c = omega (arith, found (c .before .before .before .before .before .before .before .before .before .before .before) .room, c .before .before .before .before .before .before .before .before .before .before .before .before .before .before .before .before .before .before .before .good)
 
 mul-at : tie.Need-mul-at Inv-loop μ-loop
-mul-at c = omega (arith, there (c .before .before .before .before .before .before .before .before .before .before .before .before), c .before .before .before .before .before .before .before .before .before .before .before .before .before .before .before .before .before .before .before .before .pre .0)
+mul-at c = omega (arith, found (c .before .before .before .before .before .before .before .before .before .before .before .before) .there, c .before .before .before .before .before .before .before .before .before .before .before .before .before .before .before .before .before .before .before .before .pre .0)
 
 add-at : tie.Need-add-at Inv-loop μ-loop
-add-at c = omega (arith, there (c .before .before .before .before .before .before .before .before .before .before .before .before .before), c .before .before .before .before .before .before .before .before .before .before .before .before .before .before .before .before .before .before .before .before .before .pre .0)
+add-at c = omega (arith, found (c .before .before .before .before .before .before .before .before .before .before .before .before .before) .there, c .before .before .before .before .before .before .before .before .before .before .before .before .before .before .before .before .before .before .before .before .before .pre .0)
 
 add-at-2 : tie.Need-add-at-2 Inv-loop μ-loop
-add-at-2 c = omega (arith, there (c .before .before .before .before .before .before .before .before .before .before .before .before .before), c .before .before .before .before .before .before .before .before .before .before .before .before .before .before .before .before .before .before .before .before .before .pre .0)
+add-at-2 c = omega (arith, found (c .before .before .before .before .before .before .before .before .before .before .before .before .before) .there, c .before .before .before .before .before .before .before .before .before .before .before .before .before .before .before .before .before .before .before .before .before .pre .0)
 
 loop-less : tie.Need-loop-less Inv-loop μ-loop
-loop-less c = omega (arith, there (c .before .before .before .before .before .before .before .before .before .before .before .before .before), c .before .before .before .before .before .before .before .before .before .before .before .before .before .first-indicator .ensures .short)
+loop-less c = let f = c .before .before .before .before .before .before .before .before .before .before .before .before .before in omega (arith, found f .there, f .first-indicator .ensures .short)
 
 loop-again : tie.Need-loop-again Inv-loop μ-loop
 loop-again c =
-    let f = c .before .before .before .before .before .before .before .before .before .before .before .before .before in
-    let b = f .before .before .before .before in
-    let a = b .before in
-    let e = a .before .before .before in (
-      omega (arith, there f, f .first-indicator .ensures .short),
-      room f,
-      run-laid (e .args .s .now) (a .loop .at) (b .buffer-at .result) (b .buffer-at .ensures) (a .loop .inv .0) (f .before .window .result)
-          (f .before .window .ensures) (f .first-indicator .result) (f .first-indicator .ensures) (e .args .out .now) (a .loop .out) (a .loop .n)
-          (a .loop .inv .2) (e .pre .1) (goes-on f) (a .loop .inv .1) (c .before .before .before .before .before .before .before .before .before .before .before .repeat .last .0) (c .before .before .before .before .before .read-values .last .1 .1 .1 .0)
-          (c .before .before .before .before .before .before .before .before .before .before .before .repeat .ensures) (c .before .before .before .before .before .read-values .ensures),
+    let f = c .before .before .before .before .before .before .before .before .before .before .before .before .before in (
+      omega (arith, found f .there, f .first-indicator .ensures .short),
+      found f .room,
+      found f .next (c .before .before .before .before .before .before .before .before .before .before .before .repeat .last .0) (c .before .before .before .before .before .read-values .last .1 .1 .1 .0) (c .before .before .before .before .before .before .before .before .before .before .before .repeat .ensures) (c .before .before .before .before .before .read-values .ensures),
     )
 
 pub read-spec : {M : Type 1} → statement M

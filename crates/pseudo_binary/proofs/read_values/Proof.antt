@@ -1,15 +1,13 @@
 -- `pseudo_binary::read_values` meets its contract. The loop's invariant: the characters of the values passed are laid, and those of what is ahead
 -- are still to come. Assumes nothing.
-use mathlib.Core.Path.{_≡_, refl, sym, ap, ap₂, subst, subst⁻¹, _∙_}
-use mathlib.Core.List.{List, [], _∷_, _++_, append-assoc, append-nil}
+use mathlib.Core.Path.{_≡_, ap, subst⁻¹, _∙_}
+use mathlib.Core.List.{List}
 use Prim.Native.Nat.{ℕ, suc, _+_, _-_, _*_, _/_, _%_, _^_, _≤_}
 use native.Mathlib.Omega.{arith}
-use lib.ListN.{length, length-append}
+use lib.ListN.{length}
 use Rattle.codes.specs.Ahead.{ahead}
-use Rattle.codes.specs.Laid.{laid}
 use Rattle.pseudo_binary.specs.Table.{characterOf}
 use Rattle.pseudo_binary.specs.Taken.{characters}
-use Rattle.codes.proofs.Laid.{laid-nil, laid-laid, length-laid, set-laid}
 use Rattle.pseudo_binary.proofs.Starts.{length-ahead}
 use Rattle.pseudo_binary.proofs.Values.{value-ahead}
 use Rattle.pseudo_binary.proofs.Passing.{Coming, coming-all, coming-length, coming-one, coming-none}

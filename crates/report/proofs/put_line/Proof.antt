@@ -1,0 +1,57 @@
+-- `report::put_line` meets its contract.
+-- Assumes nothing.
+use native.Mathlib.Omega.{arith}
+use borrow.Author.Needs.{needs}
+use mathlib.Core.Path.{_∙_}
+use Prim.Native.Nat.{_+_, _<_}
+use lib.ListN.{length, set, length-set}
+use Rattle.report.specs.Line.{line, Fronts}
+use Rattle.report.proofs.Putting.{line-held, spaced-held, line-put}
+use Rattle.report.proofs.put_line.Statement.{statement}
+use Rattle.report.proofs.put_line.Tie as tie
+
+copy-requires : tie.Need-copy-requires
+copy-requires c κs =
+    let s = c .before .before .before .before in
+    omega (arith, line-held (s .args .word .now) (s .args .numbers .now) (s .args .out .now) (s .pre))
+
+put-spaced-requires : tie.Need-put-spaced-requires
+put-spaced-requires c κs =
+    let s = c .before .before .before .before .before .before .before .before in
+    let copied = c .before .before .before .copy in
+    omega (
+      arith,
+      spaced-held (s .args .word .now) (s .args .numbers .now) (s .args .out .now) (s .pre) (copied .last .1 .0) (copied .result) (copied .ensures .0)
+          (copied .ensures .1),
+    )
+
+-- the line stands once its end does
+whole : (c : tie.After-slice-known3)
+    → (c .before .before .put-spaced .result < length (c .before .before .put-spaced .last .1 .0))
+    × Fronts
+    (line (c .before .before .before .before .before .before .before .before .before .before .before .args .word .now)
+    (c .before .before .before .before .before .before .before .before .before .before .before .args .numbers .now))
+    (c .before .before .before .before .before .before .before .before .before .before .before .args .out .now)
+    (set (c .before .before .put-spaced .last .1 .0) (c .before .before .put-spaced .result) 10) (c .before .before .put-spaced .result + 1)
+whole c =
+    let s = c .before .before .before .before .before .before .before .before .before .before .before in
+    let copied = c .before .before .before .before .before .before .copy in
+    let put = c .before .before .put-spaced in
+    line-put (s .args .word .now) (s .args .numbers .now) (s .args .out .now) (s .pre) (copied .last .1 .0) (copied .result) (copied .ensures .0)
+    (copied .ensures .1) (put .last .1 .0) (put .result) (put .ensures)
+
+slice-write-out : tie.Need-slice-write-out
+slice-write-out c = whole c .0
+
+add-result : tie.Need-add-result
+add-result c = omega (arith, whole c .0)
+
+same-length : tie.Need-same-length
+same-length c =
+    simp length-set (c .before .before .put-spaced .kept .1 .0 ∙ c .before .before .before .before .before .before .copy .kept .1 .0)
+
+returns : tie.Need-returns
+returns c = whole c .1
+
+pub put-line-spec : {M : Type 1} → statement M
+put-line-spec = tie.close (tie.spec copy-requires put-spaced-requires slice-write-out add-result same-length returns)

@@ -1,0 +1,69 @@
+-- The line of an answer (01, "Both sides of each edge"): `ok`, format, sync, bits mended, data length and text length, in decimal and parted by single
+-- spaces; or `refused` and the refusal number, without the number that comes with it.
+-- Assumes nothing.
+use mathlib.Core.Bool.{cond}
+use mathlib.Core.List.{List, [], _∷_, _++_}
+use mathlib.Core.Path.{_≡_}
+use Prim.Native.Nat.{ℕ, zero, suc, _+_, _/_, _%_}
+use lib.Dec.{ltb}
+use lib.ListN.{length, drop}
+use Rattle.header.specs.Fields.{oneIf}
+use Rattle.header.specs.Typed.{formatNumber}
+use Rattle.codes.specs.Laid.{laid}
+use Rattle.packet.specs.declared.ReadAnswer.{ReadAnswer}
+use Rattle.packet.specs.declared.ReadAnswer.the-variants.{Accepted, Refused}
+use Rattle.packet.specs.Refusals as refusals
+
+-- the ASCII code of a digit
+abbrev pub digit : ℕ → ℕ
+digit d = 48 + d
+
+-- a number below 10 ^ (places + 1) in decimal: below ten its digit, otherwise what a tenth of it is, and then its last digit
+unfoldable pub decimalIn : ℕ → ℕ → List ℕ
+decimalIn zero n = digit n ∷ []
+decimalIn (suc places) n = cond (ltb n 10) (digit n ∷ []) (decimalIn places (n / 10) ++ (digit (n % 10) ∷ []))
+
+-- 64 bits are at most twenty places
+unfoldable pub decimal : ℕ → List ℕ
+decimal = decimalIn 19
+
+-- each number after a single space
+unfoldable pub spaced : List ℕ → List ℕ
+spaced [] = []
+spaced (n ∷ numbers) = (32 ∷ decimal n) ++ spaced numbers
+
+-- a word, numbers, and the end of the line
+unfoldable pub line : List ℕ → List ℕ → List ℕ
+line word numbers = word ++ (spaced numbers ++ (10 ∷ []))
+
+-- `ok` and `refused` in ASCII
+abbrev pub ok : List ℕ
+ok = 111 ∷ 107 ∷ []
+
+abbrev pub refused : List ℕ
+refused = 114 ∷ 101 ∷ 102 ∷ 117 ∷ 115 ∷ 101 ∷ 100 ∷ []
+
+abbrev pub lineOf : ReadAnswer → List ℕ
+lineOf (Accepted reading) =
+    line ok
+    (formatNumber (reading .format)
+    ∷ oneIf (reading .sync)
+    ∷ reading .mended
+    ∷ reading .«data_length»
+    ∷ reading .«text_length»
+    ∷ [])
+lineOf (Refused refusal) = line refused (refusals.numberOf refusal ∷ [])
+
+-- room enough for every line
+abbrev pub room : ℕ
+room = 128
+
+-- the row stands in the buffer from place n on, up to place r, and nothing else changed
+pub record Puts (row entry exit : List ℕ) (n r : ℕ) : Type 0 where
+  pub place : r ≡ n + length row
+  pub whole : exit ≡ laid entry n row
+
+-- the row stands at the front of the buffer, r bytes, and behind it nothing changed
+pub record Fronts (row entry exit : List ℕ) (r : ℕ) : Type 0 where
+  pub long : r ≡ length row
+  pub whole : exit ≡ row ++ drop r entry

@@ -1,0 +1,78 @@
+// The line that the reading program prints of a packet.
+use header::Header;
+use packet::ReadAnswer;
+ghost use mathlib.Core.Path.{_≡_};
+ghost use mathlib.Core.List.{List, [], _∷_};
+ghost use Prim.Native.Nat.{_+_, _≤_};
+ghost use lib.ListN.{length};
+ghost use Rattle.report.specs.Line.{decimal, spaced, line as lineWith, lineOf, room, Puts, Fronts};
+ghost use Rattle.report.specs.Report.{Reports};
+
+// A number in decimal, from place `at` on; the place behind it.
+fn put_decimal(n: usize, out: &mut [u8], at: usize) -> usize
+    requires { ⌜ at + length (decimal n) ≤ length (now out) ⌝ }
+    ensures { λ r. ⌜ Puts (decimal n) (now (out .entry)) (now (out .exit)) at r ⌝ }
+{
+    if n < 10 {
+        out[at] = 48 + n as u8;
+        return at + 1;
+    }
+    let last = put_decimal(n / 10, out, at);
+    out[last] = 48 + (n % 10) as u8;
+    last + 1
+}
+
+// Numbers in decimal, each after a single space.
+fn put_spaced(numbers: &[usize], out: &mut [u8], at: usize) -> usize
+    requires { ⌜ at + length (spaced (now numbers)) ≤ length (now out) ⌝ }
+    ensures { λ r. ⌜ Puts (spaced (now (numbers .entry))) (now (out .entry)) (now (out .exit)) at r ⌝ }
+{
+    let mut end = at;
+    let mut i: usize = 0;
+    while i < numbers.len() {
+        out[end] = b' ';
+        end = put_decimal(numbers[i], out, end + 1);
+        i += 1;
+    }
+    end
+}
+
+// A word, numbers, and the end of the line, at the front of `out`; how many bytes that is.
+pub fn put_line(word: &[u8], numbers: &[usize], out: &mut [u8]) -> usize
+    requires { ⌜ length (lineWith (now word) (now numbers)) ≤ length (now out) ⌝ }
+    ensures { λ r. ⌜ Fronts (lineWith (now (word .entry)) (now (numbers .entry))) (now (out .entry)) (now (out .exit)) r ⌝ }
+{
+    let at = bytes::copy(word, out);
+    let end = put_spaced(numbers, out, at);
+    out[end] = b'\n';
+    end + 1
+}
+
+// The line of an answer, at the front of `out`.
+pub fn line(answer: ReadAnswer, out: &mut [u8]) -> usize
+    requires { ⌜ room ≤ length (now out) ⌝ }
+    ensures { λ r. ⌜ Fronts (lineOf answer) (now (out .entry)) (now (out .exit)) r ⌝ }
+{
+    match answer {
+        ReadAnswer::Accepted(reading) => {
+            let format = reading.format;
+            let numbers = [
+                Header::number(format) as usize,
+                header::one_if(reading.sync) as usize,
+                reading.mended as usize,
+                reading.data_length,
+                reading.text_length,
+            ];
+            put_line(b"ok", &numbers, out)
+        }
+        ReadAnswer::Refused(refusal) => put_line(b"refused", &[refusal.number() as usize], out),
+    }
+}
+
+// Reads the packet at the front of a slice into a text buffer, and puts the line of the answer at the front of `out`.
+pub fn report(packet: &[u8], text: &mut [u8], out: &mut [u8]) -> usize
+    requires { ⌜ room ≤ length (now out) ⌝ }
+    ensures { λ r. ⌜ Reports (now (packet .entry)) (now (text .entry)) (now (text .exit)) (now (out .entry)) (now (out .exit)) r ⌝ }
+{
+    line(packet::read(packet, text), out)
+}

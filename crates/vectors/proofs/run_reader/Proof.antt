@@ -1,0 +1,54 @@
+-- `vectors::run_reader` is safe and ends: the line is a part of its buffer.
+-- Assumes nothing.
+use mathlib.Core.Path.{sym}
+use borrow.Author.Needs.{needs}
+use lib.Seq.{length-take-le}
+use Rattle.report.proofs.Putting.{front-within}
+use Rattle.vectors.proofs.run_reader.Statement.{statement}
+use Rattle.vectors.proofs.run_reader.Tie as tie
+
+read-requires : tie.Need-read-requires
+read-requires c κs = search needs
+
+slice-aggregate-line : tie.Need-slice-aggregate-line
+slice-aggregate-line c = search needs
+
+line-requires : tie.Need-line-requires
+line-requires c κs = search needs
+
+array-share-prefix-line : tie.Need-array-share-prefix-line
+array-share-prefix-line c = front-within (c .before .line2 .ensures)
+
+slice-aggregate-write-all : tie.Need-slice-aggregate-write-all
+slice-aggregate-write-all c =
+    sym (length-take-le _ (c .before .before .line2 .last .1 .0) (front-within (c .before .before .line2 .ensures)))
+
+write-all-requires : tie.Need-write-all-requires
+write-all-requires c κs = search needs
+
+read-with-requires : tie.Need-read-with-requires
+read-with-requires c κs = search needs
+
+print-buffer-requires : tie.Need-print-buffer-requires
+print-buffer-requires c κs = search needs
+
+same-length : tie.Need-same-length
+same-length c = search needs
+
+returns : tie.Need-returns
+returns c = search needs
+
+pub run-reader-spec : {M : Type 1} → statement M
+run-reader-spec =
+    tie.close
+    (tie.spec
+    read-requires
+    slice-aggregate-line
+    line-requires
+    array-share-prefix-line
+    slice-aggregate-write-all
+    write-all-requires
+    read-with-requires
+    print-buffer-requires
+    same-length
+    returns)

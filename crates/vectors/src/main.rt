@@ -1,0 +1,143 @@
+// Runs packets through the reader and texts through the writer. Standard input is a row of cases: `r` or `w`, the writer's format and sync bit, the
+// length of the lent buffer and of the packet or text (three bytes each, high byte first), and the packet or text. For each it prints two lines: the
+// answer's line; and the number that comes with a refusal, or the bytes used, then the lent buffer's Adler-32, and its first 512 bytes.
+use libc::STDIN_FILENO;
+use libc::STDOUT_FILENO;
+use packet::ReadAnswer;
+use packet::WriteAnswer;
+ghost use mathlib.Core.Path.{_≡_};
+ghost use lib.ListN.{length};
+
+// The longest text of a packet has 85,328 characters.
+const LARGEST: usize = 85504;
+
+fn buffer() -> [u8; LARGEST]
+    ensures { λ r. ⌜ 85504 ≡ length r ⌝ }
+{
+    [0; LARGEST]
+}
+
+// The lent buffer before each case: no two neighbours alike.
+fn fill(buffer: &mut [u8]) {
+    let mut i: usize = 0;
+    while i < buffer.len() {
+        buffer[i] = (i % 251 + 5) as u8;
+        i += 1;
+    }
+}
+
+fn adler32(s: &[u8]) -> u32 {
+    let mut low: u32 = 1;
+    let mut high: u32 = 0;
+    let mut i: usize = 0;
+    while i < s.len() {
+        low = (low + s[i] as u32) % 65521;
+        high = (high + low) % 65521;
+        i += 1;
+    }
+    high * 65536 + low
+}
+
+fn print_front(s: &[u8]) {
+    let mut i: usize = 0;
+    while i < 512 {
+        if i < s.len() {
+            io::print_hex(STDOUT_FILENO, s[i] as u64, 2);
+        }
+        i += 1;
+    }
+}
+
+fn print_buffer(with: usize, buffer: &[u8]) {
+    io::print_decimal(STDOUT_FILENO, with as u64);
+    io::write_all(STDOUT_FILENO, b" ");
+    io::print_hex(STDOUT_FILENO, adler32(buffer) as u64, 8);
+    io::write_all(STDOUT_FILENO, b" ");
+    print_front(buffer);
+    io::write_all(STDOUT_FILENO, b"\n");
+}
+
+// The bytes used, or the number that comes with the refusal.
+fn read_with(answer: ReadAnswer) -> usize {
+    match answer {
+        ReadAnswer::Accepted(reading) => reading.used,
+        ReadAnswer::Refused(refusal) => refusal.value(),
+    }
+}
+
+fn run_reader(packet: &[u8], text: &mut [u8]) {
+    let mut line = [0u8; 128];
+    let answer = packet::read(packet, text);
+    let n = report::line(answer, &mut line);
+    io::write_all(STDOUT_FILENO, &line[..n]);
+    print_buffer(read_with(answer), text);
+}
+
+fn print_line(word: &[u8], number: usize) {
+    io::write_all(STDOUT_FILENO, word);
+    io::write_all(STDOUT_FILENO, b" ");
+    io::print_decimal(STDOUT_FILENO, number as u64);
+    io::write_all(STDOUT_FILENO, b"\n");
+}
+
+fn run_writer(format: u8, sync: bool, text: &[u8], packet: &mut [u8]) {
+    let answer = packet::write(format, sync, text, packet);
+    match answer {
+        WriteAnswer::Written(length) => {
+            print_line(b"written", length);
+            print_buffer(length, packet);
+        }
+        WriteAnswer::Refused(refusal) => {
+            print_line(b"refused", refusal.number() as usize);
+            print_buffer(refusal.value(), packet);
+        }
+    }
+}
+
+fn number(high: u8, middle: u8, low: u8) -> usize {
+    (high as usize) * 65536 + (middle as usize) * 256 + (low as usize)
+}
+
+// The packet or text of a case, and the call.
+fn run_case(kind: u8, format: u8, sync: bool, given: &mut [u8], lent: &mut [u8]) {
+    io::read_full(STDIN_FILENO, given);
+    fill(lent);
+    if kind == b'r' {
+        run_reader(given, lent);
+    } else {
+        run_writer(format, sync, given, lent);
+    }
+}
+
+// Runs the next case; whether there was one.
+fn run_next() -> bool {
+    let mut head = [0u8; 9];
+    if io::read_full(STDIN_FILENO, &mut head) < 9 {
+        return false;
+    }
+    let room = number(head[3], head[4], head[5]);
+    let length = number(head[6], head[7], head[8]);
+    if LARGEST < room {
+        return false;
+    }
+    if LARGEST < length {
+        return false;
+    }
+    let mut given = buffer();
+    let mut lent = buffer();
+    run_case(
+        head[0],
+        head[1],
+        head[2] == 1,
+        &mut given[..length],
+        &mut lent[..room],
+    );
+    true
+}
+
+fn main() {
+    let mut turns = u32::MAX;
+    while turns > 0 && run_next() {
+        turns -= 1;
+    }
+}

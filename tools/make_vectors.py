@@ -1,0 +1,431 @@
+#!/usr/bin/env python3
+"""Writes the cases of crates/vectors (stdin) and what the program must print for them (stdout).
+
+Written from the documents alone: 01 (what is to be made) and source document 001. For the published packets of 001's section 5 (tools/section5.txt) the
+expectation is the published packet and the message beside it; for the edges P1 to P15 it is the line of 01's table; for all others it is worked out
+here, in the plainest way: bits are strings of 0 and 1, a header is mended by trying every pattern of at most two bits.
+
+    python3 tools/make_vectors.py
+"""
+import itertools
+import pathlib
+import random
+import re
+import zlib
+
+ROOT = pathlib.Path(__file__).resolve().parent.parent
+OPEN, PSEUDO, ASCII = 0, 1, 4
+LONGEST = 4000
+
+
+# ---- the header and the checksum
+
+def ones(n):
+    return bin(n).count("1")
+
+
+def check_bits(information):
+    """The remainder of the information times 2^10 by x^10+x^9+x^8+x^6+x^5+x^3+1."""
+    generator = 0b11101101001
+    rest = information << 10
+    for power in range(20, -1, -1):
+        if rest >> (power + 10) & 1:
+            rest ^= generator << power
+    return rest
+
+
+def header(kind, extended, sync, spare, length):
+    low = kind << 5 | extended << 2 | sync << 1 | spare
+    flag = low | (0x80 if ones(low) % 2 == 0 else 0)
+    return flag << 24 | length << 10 | check_bits(low << 14 | length)
+
+
+def is_valid(word):
+    flag = word >> 24
+    return ones(flag) % 2 == 1 and check_bits((flag & 0x7F) << 14 | word >> 10 & 0x3FFF) == word & 0x3FF
+
+
+def mend(word):
+    """The valid header at most two bits away, and how many; or None."""
+    for count in range(3):
+        for places in itertools.combinations(range(32), count):
+            other = word
+            for place in places:
+                other ^= 1 << place
+            if is_valid(other):
+                return other, count
+    return None
+
+
+def checksum(data):
+    register = 0xFFFF
+    for byte in data:
+        register ^= byte << 8
+        for _ in range(8):
+            register = (register << 1 ^ 0xD175) & 0xFFFF if register & 0x8000 else register << 1
+    return bytes([register & 0xFF, register >> 8])
+
+
+def packet(word, data):
+    return word.to_bytes(4, "big") + data + checksum(data)
+
+
+def packet_of(format, data, sync=0):
+    return packet(header(2, format, sync, 0, len(data)), data)
+
+
+# ---- the three kinds of data
+
+class Malformed(Exception):
+    """At which bit."""
+
+
+def bits_of(data):
+    return "".join(f"{byte:08b}" for byte in data)
+
+
+def bytes_of(bits):
+    bits += "1" * (-len(bits) % 8)
+    return bytes(int(bits[i:i + 8], 2) for i in range(0, len(bits), 8))
+
+
+def is_end(rest):
+    return len(rest) <= 7 and "0" not in rest
+
+
+def take(bits, at, width, start):
+    if len(bits) - at < width:
+        raise Malformed(start)
+    return bits[at:at + width]
+
+
+def read_pseudo(data):
+    bits, at, text = bits_of(data), 0, bytearray()
+    while not is_end(bits[at:at + 8]) or len(bits) - at > 7:
+        if bits[at] == "1":
+            count = int(take(bits, at, 8, at)[1:], 2) + 1
+            at += 8
+            for _ in range(count):
+                text.append(64 + int(take(bits, at, 6, at), 2))
+                at += 6
+        else:
+            code = take(bits, at, 6, at)
+            text += (b" " if code[1] == "0" else b"/") * (int(code[2:], 2) + 1)
+            at += 6
+    return bytes(text)
+
+
+ENDS = {"00": b"\t", "01": b"\r", "10": b"\n", "11": b"\r\n"}
+
+
+def read_ascii(data):
+    bits, at, text = bits_of(data), 0, bytearray()
+    while not is_end(bits[at:at + 8]) or len(bits) - at > 7:
+        if bits[at] == "0":
+            text.append(32 + int(take(bits, at, 6, at), 2))
+            at += 6
+        elif take(bits, at, 7, at) != "1" * 7:
+            text.append(int(bits[at:at + 7], 2))
+            at += 7
+        else:
+            text += ENDS[take(bits, at, 9, at)[7:]]
+            at += 9
+    return bytes(text)
+
+
+READ = {OPEN: bytes, PSEUDO: read_pseudo, ASCII: read_ascii}
+
+
+def pseudo_kind(character):
+    if 64 <= character <= 127:
+        return "value"
+    return {0x20: "space", 0x2F: "slash"}.get(character)
+
+
+def write_pseudo(text):
+    bits = ""
+    for kind, run in itertools.groupby(text, pseudo_kind):
+        run = list(run)
+        fullest = 128 if kind == "value" else 16
+        for start in range(0, len(run), fullest):
+            part = run[start:start + fullest]
+            if kind == "value":
+                bits += f"1{len(part) - 1:07b}" + "".join(f"{c - 64:06b}" for c in part)
+            else:
+                bits += ("00" if kind == "space" else "01") + f"{len(part) - 1:04b}"
+    return bytes_of(bits)
+
+
+def ascii_code(character):
+    if 32 <= character <= 63:
+        return f"{character - 32:06b}"
+    if 64 <= character <= 126:
+        return f"{character:07b}"
+    return {0x09: "111111100", 0x0D: "111111101", 0x0A: "111111110"}.get(character)
+
+
+def write_ascii(text):
+    return bytes_of("".join("1" * 9 if part == b"\r\n" else ascii_code(part[0]) for part in re.findall(rb"\r\n|[\0-\xff]", text)))
+
+
+WRITE = {OPEN: bytes, PSEUDO: write_pseudo, ASCII: write_ascii}
+CODE = {OPEN: lambda character: True, PSEUDO: pseudo_kind, ASCII: ascii_code}
+
+
+# ---- the reader and the writer: (answer, the number beside it, what is written into the buffer)
+
+def read(received, room):
+    if len(received) < 4:
+        return "refused 1", 0, b""
+    mended = mend(int.from_bytes(received[:4], "big"))
+    if mended is None:
+        return "refused 2", 0, b""
+    word, count = mended
+    flag, length = word >> 24, word >> 10 & 0x3FFF
+    format, sync = flag >> 2 & 7, flag >> 1 & 1
+    if flag & 1 or flag >> 5 & 3 != 2 or format not in READ:
+        return "refused 3", 0, b""
+    if length == 0 or length > LONGEST:
+        return "refused 4", 0, b""
+    if len(received) < length + 6:
+        return "refused 5", 0, b""
+    data = received[4:4 + length]
+    if received[4 + length:6 + length] != checksum(data):
+        return "refused 6", 0, b""
+    try:
+        text = READ[format](data)
+    except Malformed as place:
+        return "refused 7", place.args[0], b""
+    if room < len(text):
+        return "refused 8", len(text), b""
+    return f"ok {format} {sync} {count} {length} {len(text)}", length + 6, text
+
+
+def write(format, sync, text, room):
+    if format not in WRITE:
+        return "refused 12", 0, b""
+    if not text:
+        return "refused 10", 0, b""
+    for index, character in enumerate(text):
+        if not CODE[format](character):
+            return "refused 9", index, b""
+    data = WRITE[format](text)
+    if len(data) > LONGEST:
+        return "refused 11", 0, b""
+    if room < len(data) + 6:
+        return "refused 8", len(data) + 6, b""
+    return f"written {len(data) + 6}", len(data) + 6, packet_of(format, data, sync)
+
+
+# ---- the cases
+
+STDIN, STDOUT = bytearray(), []
+COUNT = 0
+
+
+def case(kind, format, sync, room, given, answer):
+    """One case: what is handed over, and what must be printed."""
+    global COUNT, STDIN
+    COUNT += 1
+    line, beside, put = answer
+    assert len(put) <= room, (line, room)
+    STDIN += kind + bytes([format, sync]) + room.to_bytes(3, "big") + len(given).to_bytes(3, "big") + given
+    lent = put + bytes(i % 251 + 5 for i in range(len(put), room))
+    STDOUT.append(f"{line}\n{beside} {zlib.adler32(lent):08x} {lent[:512].hex()}\n")
+
+
+def reads(received, room, answer=None):
+    case(b"r", 0, 0, room, received, answer or read(received, room))
+
+
+def writes(format, text, room, sync=0, answer=None):
+    case(b"w", format, sync, room, text, answer or write(format, sync, text, room))
+
+
+def flipped(received, places):
+    word = int.from_bytes(received[:4], "big")
+    for place in places:
+        word ^= 1 << 31 - place
+    return word.to_bytes(4, "big") + received[4:]
+
+
+def published():
+    """001's section 5: the packets, and the messages beside them."""
+    for section in (ROOT / "tools/section5.txt").read_text().split("\n## ")[1:]:
+        name = section.split()[0]
+        sent = bytes.fromhex("".join(re.findall(r"^packet (\w+)", section, re.M)))
+        message = bytes.fromhex("".join(re.findall(r"^text (\w+)", section, re.M)))
+        if name in ("5.3", "5.4"):  # Numeric and SHEF: refused
+            reads(sent, 400, ("refused 3", 0, b""))
+            continue
+        format = {"5.1": OPEN, "5.2.1": PSEUDO, "5.2.2": PSEUDO, "5.5": ASCII}[name]
+        text = bytes(range(256)) if format == OPEN else message
+        if format == PSEUDO:  # house rule: value 63 is character 7F
+            writes(format, text, 200, answer=("refused 9", text.index(0x3F), b""))
+            text = text.replace(b"\x3f", b"\x7f")
+        length, used = len(sent) - 6, len(sent)
+        ok = (f"ok {format} 0 0 {length} {len(text)}", used, text)
+        for more in b"", b"\x00", bytes(range(100)):
+            reads(sent + more, len(text) + 4, ok)
+        reads(sent, len(text), ok)
+        reads(sent, len(text) - 1, ("refused 8", len(text), b""))
+        reads(sent[:-1], len(text), ("refused 5", 0, b""))
+        written = (f"written {used}", used, sent)
+        writes(format, text, used + 3, answer=written)
+        writes(format, text, used, answer=written)
+        writes(format, text, used - 1, answer=("refused 8", used, b""))
+
+
+def edges():
+    """P1 to P15, each as its line of the table says."""
+    def data(format, text, sent, head=None):
+        sent = bytes.fromhex(sent)
+        whole = packet_of(format, sent)
+        if head:
+            assert whole[:4] == bytes.fromhex(head)
+        reads(whole, len(text) + 2, (f"ok {format} 0 0 {len(sent)} {len(text)}", len(whole), text))
+        writes(format, text, len(whole) + 2, answer=(f"written {len(whole)}", len(whole), whole))
+
+    def malformed(format, sent, place):
+        reads(packet_of(format, bytes.fromhex(sent)), 300, ("refused 7", place, b""))
+
+    assert header(2, 1, 0, 0, 107).to_bytes(4, "big").hex() == "c401ae85"
+    reads(bytes.fromhex("C401AE85"), 8, ("refused 5", 0, b""))  # P1
+    data(OPEN, b"\x37", "37", "400004DD")  # P2
+    data(OPEN, bytes(4000), "00" * 4000, "403E80D1")  # P3
+    data(ASCII, b"A", "83", "D0000430")  # P4, P12
+    reads(bytes.fromhex("C10004DD") + b"\x37" + checksum(b"\x37"), 3, ("ok 0 0 2 1 1", 7, b"\x37"))  # P5
+    reads(bytes.fromhex("400004DA"), 3, ("refused 2", 0, b""))  # P6
+    reads(bytes(4), 3, ("refused 3", 0, b""))  # P7
+    data(PSEUDO, b"AB", "81042F")  # P8
+    data(PSEUDO, b"/" * 16, "7F")  # P9
+    data(PSEUDO, b"/" * 17, "7D0F")
+    data(PSEUDO, b"////    ////    ", "4C34C3")  # P10
+    malformed(PSEUDO, "FF", 8)  # P11
+    data(ASCII, b"AB", "830B")  # P12
+    data(ASCII, b"A\r\n", "83FF")  # P13
+    data(ASCII, b"\r\n", "FFFF")  # P14
+    malformed(ASCII, "FF", 0)  # P15
+
+
+def headers():
+    """Headers 0 to 3 bits off."""
+    for format, sent, sync in (OPEN, b"\x37", 0), (PSEUDO, bytes.fromhex("81042F"), 1), (ASCII, b"\x83\x0b", 0):
+        whole = packet_of(format, sent, sync)
+        text = READ[format](sent)
+        for places in [()] + list(itertools.combinations(range(32), 1)) + (list(itertools.combinations(range(32), 2)) if format == PSEUDO else []):
+            reads(flipped(whole, places), len(text), (f"ok {format} {sync} {len(places)} {len(sent)} {len(text)}", len(whole), text))
+        for place in range(32):
+            for second, third in (7, 13), (1, 2), (3, 20):
+                reads(flipped(whole, (place, (place + second) % 32, (place + third) % 32)), len(text))
+    generator = random.Random(1)
+    for _ in range(64):
+        reads(generator.getrandbits(64).to_bytes(8, "big"), 4)
+
+
+def reader_refusals():
+    for length in range(4):
+        reads(bytes.fromhex("400004DD")[:length], 4)
+    for kind, extended, spare in itertools.product(range(4), range(8), range(2)):
+        whole = packet(header(kind, extended, 0, spare, 1), b"\x83")
+        reads(whole, 4)
+        reads(flipped(whole, (3, 29)), 4)
+    for format in OPEN, PSEUDO, ASCII:
+        for length in 0, 1, 3999, 4000, 4001, 8192, 16383:
+            for places in (), (12,), (0, 21):
+                reads(flipped(packet(header(2, format, 0, 0, length), b"?"), places), 7)
+        whole = packet_of(format, b"\x7f\x7f")
+        for length in range(4, 8):
+            reads(whole[:length], 40)
+        reads(whole + b"\x00", 40)
+        for place in range(4, 8):  # data or checksum damaged, or turned round
+            for flip in 0x01, 0x80, 0xFF:
+                reads(whole[:place] + bytes([whole[place] ^ flip]) + whole[place + 1:], 40)
+        reads(whole[:6] + whole[7:8] + whole[6:7], 40)
+
+
+def compact_data():
+    """Every data byte alone, and what ends in every way."""
+    generator = random.Random(2)
+    for format in PSEUDO, ASCII:
+        for byte in range(256):
+            reads(packet_of(format, bytes([byte])), 20)
+        for length, times in (2, 80), (3, 60), (5, 40):
+            for _ in range(times):
+                data = bytearray(generator.randbytes(length))
+                if generator.random() < 0.4:
+                    data[-1] |= (1 << generator.randrange(8)) - 1
+                if format == PSEUDO and generator.random() < 0.5:
+                    data[0] = 0x80 | generator.randrange(8)
+                try:
+                    room = len(READ[format](bytes(data)))
+                except Malformed:
+                    room = 64
+                reads(packet_of(format, bytes(data)), max(0, room - generator.choice((0, 0, 0, 1))))
+
+
+def longest():
+    """Both sides of the limits of length and room."""
+    for n in 65536, 65552, 85328:
+        sent = packet_of(PSEUDO, bytes_of("011111" * (n // 16)))
+        for room in 65536, n - 1, n:
+            reads(sent, room)
+    for length in 3999, 4000, 4001:
+        reads(packet_of(OPEN, b"x" * length), 4001)
+    for format, code, each, times in (PSEUDO, "000000", 1, 5333), (ASCII, "010000", 1, 5333), (ASCII, "1000001", 1, 4571), (ASCII, "1" * 9, 2, 3555):
+        for room in each * times, each * times - 1:
+            reads(packet_of(format, bytes_of(code * times)), room)
+    for format, text in (OPEN, b"x"), (ASCII, b"0"), (ASCII, b"A"), (ASCII, b"\r\n"), (PSEUDO, b"A"):
+        most = {b"x": 4000, b"0": 5333, b"A": 4571, b"\r\n": 3555}[text] if format != PSEUDO else 5280
+        for times in most, most + 1:
+            writes(format, text * times, 4006)
+    writes(PSEUDO, b"/" * 85328, 4006)
+    writes(PSEUDO, b" " * 85329, 4006)
+    for room in 0, 4005, 4007:
+        writes(OPEN, b"x" * 4000, room)
+    writes(OPEN, b"x" * 4001, 0)  # 11 comes before 8
+    writes(ASCII, b"0" * 5334 + b"\xff", 0)  # and 9 before 11
+
+
+def writer_refusals():
+    for format in range(10):
+        for text in b"", b"/", b"\x80":
+            for room in 0, 16:
+                writes(format, text, room)
+    writes(255, b"/", 16)
+    for format in PSEUDO, ASCII:
+        for character in range(256):
+            writes(format, bytes([character]), 9, sync=character % 2)
+        for index in 0, 1, 17, 40:
+            text = bytearray(b"A / " * 11)
+            text[index] = 0x80
+            text[43] = 0x1F
+            writes(format, bytes(text), 100)
+
+
+def texts():
+    """Texts written, and the packets read."""
+    generator = random.Random(3)
+    chosen = []
+    for n in 1, 2, 15, 16, 17, 31, 32, 33, 127, 128, 129, 255, 256, 257:
+        chosen += [(PSEUDO, character * n) for character in (b"/", b" ", b"\x7f")]
+        chosen += [(PSEUDO, b"@" * n + b"/" + b"~" * n + b" "), (ASCII, b"\r" * n + b"\n"), (ASCII, b"\r\n" * n), (ASCII, b"\t5" * n), (OPEN, b"\xff" * n)]
+    letters = {OPEN: bytes(range(256)), PSEUDO: bytes(range(64, 128)) + b" / / / / / /" * 4, ASCII: bytes(range(32, 127)) + b"\t\r\n\r\n" * 6}
+    for format in letters:
+        for _ in range(40):
+            text = b"".join(bytes([generator.choice(letters[format])]) * generator.choice((1, 1, 1, 2, 9, 20)) for _ in range(generator.randrange(1, 24)))
+            chosen.append((format, text))
+    for format, text in chosen:
+        sync = generator.randrange(2)
+        whole = packet_of(format, WRITE[format](text), sync)
+        writes(format, text, len(whole) + generator.randrange(-1, 3), sync)
+        reads(whole + generator.randbytes(generator.randrange(3)), len(text) + generator.randrange(-1, 3))
+
+
+for group in published, edges, headers, reader_refusals, compact_data, longest, writer_refusals, texts:
+    before = COUNT
+    group()
+    print(f"{group.__name__}: {COUNT - before} cases")
+print(f"{COUNT} cases, {len(STDIN)} bytes")
+(ROOT / "crates/vectors/stdin").write_bytes(STDIN)
+(ROOT / "crates/vectors/stdout").write_text("".join(STDOUT))
