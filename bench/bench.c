@@ -1,0 +1,195 @@
+/* Times the library, plain C (the independent implementation: bit by bit, double loop, bitwise checksum) and tuned C in one run, one after the other
+ * within each round, and prints the library's time over each of the others': bench [ROUNDS]. */
+#define _POSIX_C_SOURCE 200809L
+#include "independent.h"
+#include "rosopyat.h"
+#include "tuned.h"
+
+#include <stdio.h>
+#include <stdlib.h>
+#include <string.h>
+#include <time.h>
+
+enum { MOST_ROUNDS = 101, IMPLEMENTATIONS = 3, LONG_TEXT = 12000 };
+
+typedef rosopyat_read_answer reader(const uint8_t *, size_t, uint8_t *, size_t);
+typedef rosopyat_write_answer writer(uint8_t, bool, const uint8_t *, size_t, uint8_t *, size_t);
+
+static reader *const readers[IMPLEMENTATIONS] = {rosopyat_read, independent_read, tuned_read};
+static writer *const writers[IMPLEMENTATIONS] = {rosopyat_write, independent_write, tuned_write};
+
+static uint8_t source[LONG_TEXT + 200], packet[ROSOPYAT_MOST_PACKET], output[ROSOPYAT_MOST_TEXT], first_output[ROSOPYAT_MOST_TEXT];
+
+/* Realistic texts, the same in each run. */
+
+static uint32_t state;
+
+static unsigned below(unsigned limit)
+{
+    state = state * 1664525 + 1013904223;
+    return (uint64_t)state * limit >> 32;
+}
+
+static void make_open(void)
+{
+    for (int i = 0; i < LONG_TEXT; i++)
+        source[i] = below(256);
+}
+
+/* Readings of three characters that wander, some of them missing, and a space before each group of twelve. */
+static void make_pseudo_binary(void)
+{
+    size_t length = 0;
+    unsigned reading = 20000;
+    for (int i = 0; length < LONG_TEXT; i++) {
+        if (i % 12 == 0)
+            source[length++] = ' ';
+        reading += below(41) - 20;
+        bool missing = below(16) == 0;
+        for (int k = 12; k >= 0; k -= 6)
+            source[length++] = missing ? '/' : 64 + (reading >> k & 63);
+    }
+}
+
+/* Lines of a time, a word and numbers. */
+static void make_full_ascii(void)
+{
+    static const char *const words[] = {"Stage", "Rain", "Battery", "Air temp", "Flow", "STATUS OK"};
+    size_t length = 0;
+    for (int i = 0; length < LONG_TEXT; i++)
+        length += sprintf((char *)source + length, "%02u:%02u:00 %s %u.%02u,%u,-%u.%u\r\n", i / 6 % 24, i % 6 * 10, words[below(6)], below(90), below(100),
+                          below(1000), below(20), below(10));
+}
+
+/* The longest part of the source whose data is at most `size` bytes. */
+static size_t part_for(unsigned format, size_t size)
+{
+    size_t fits = 1, exceeds = LONG_TEXT;
+    while (exceeds - fits > 1) {
+        size_t middle = fits + (exceeds - fits) / 2;
+        rosopyat_write_answer answer = tuned_write(format, false, source, middle, packet, 0);
+        if (answer.refusal != 8 || answer.number > size + 6)
+            exceeds = middle;
+        else
+            fits = middle;
+    }
+    return fits;
+}
+
+/* One row of the table. */
+
+struct job {
+    bool reads;
+    unsigned format;
+    size_t text_length, packet_length;
+    uint32_t refusal; /* that all must answer */
+};
+
+static uint32_t once(const struct job *job, int who)
+{
+    if (job->reads)
+        return readers[who](packet, job->packet_length, output, sizeof output).refusal;
+    return writers[who](job->format, true, source, job->text_length, output, sizeof output).refusal;
+}
+
+static double seconds(void)
+{
+    struct timespec now;
+    clock_gettime(CLOCK_PROCESS_CPUTIME_ID, &now);
+    return now.tv_sec + now.tv_nsec * 1e-9;
+}
+
+static double time_of(const struct job *job, int who, long repeats)
+{
+    double start = seconds();
+    for (long i = 0; i < repeats; i++)
+        once(job, who);
+    return (seconds() - start) / repeats;
+}
+
+static int ascending(const void *a, const void *b)
+{
+    double x = *(const double *)a, y = *(const double *)b;
+    return (x > y) - (x < y);
+}
+
+static double median(double *values, int count)
+{
+    qsort(values, count, sizeof *values, ascending);
+    return count % 2 ? values[count / 2] : (values[count / 2 - 1] + values[count / 2]) / 2;
+}
+
+static void same_outputs(const struct job *job)
+{
+    for (int who = 0; who < IMPLEMENTATIONS; who++) {
+        memset(output, 0, sizeof output);
+        uint32_t refusal = once(job, who);
+        if (who == 0)
+            memcpy(first_output, output, sizeof output);
+        if (refusal != job->refusal || memcmp(first_output, output, sizeof output) != 0) {
+            printf("the implementations differ\n");
+            exit(1);
+        }
+    }
+}
+
+static void measure(const char *what, const char *format_name, size_t size, const struct job *job, int rounds)
+{
+    const double sample = 0.01;
+    double times[IMPLEMENTATIONS][MOST_ROUNDS], to_plain[MOST_ROUNDS], to_tuned[MOST_ROUNDS];
+    long repeats[IMPLEMENTATIONS];
+    same_outputs(job);
+    for (int who = 0; who < IMPLEMENTATIONS; who++) {
+        repeats[who] = 1;
+        while (time_of(job, who, repeats[who]) * repeats[who] < sample)
+            repeats[who] *= 2;
+    }
+    for (int round = 0; round < rounds; round++) {
+        for (int who = 0; who < IMPLEMENTATIONS; who++)
+            times[who][round] = time_of(job, who, repeats[who]);
+        to_plain[round] = times[0][round] / times[1][round];
+        to_tuned[round] = times[0][round] / times[2][round];
+    }
+    printf("| %s | %s | %zu | %.2f | %.2f | %.2f | %.2f | %.2f |\n", what, format_name, size, median(times[0], rounds) * 1e6, median(times[1], rounds) * 1e6,
+           median(times[2], rounds) * 1e6, median(to_plain, rounds), median(to_tuned, rounds));
+    fflush(stdout);
+}
+
+int main(int count, char **words)
+{
+    static const struct {
+        unsigned format;
+        const char *name;
+        void (*make)(void);
+    } formats[] = {{0, "Open", make_open}, {1, "Pseudo Binary", make_pseudo_binary}, {4, "Full ASCII", make_full_ascii}};
+    static const size_t sizes[] = {100, 1000, 4000};
+    int rounds = count > 1 ? atoi(words[1]) : 15;
+    if (rounds < 1 || rounds > MOST_ROUNDS)
+        rounds = 15;
+
+    tuned_prepare();
+    printf("| | format | data bytes | library, µs | plain C, µs | tuned C, µs | library / plain | library / tuned |\n");
+    printf("|---|---|---|---|---|---|---|---|\n");
+    for (int f = 0; f < 3; f++) {
+        state = 1;
+        formats[f].make();
+        for (int s = 0; s < 3; s++) {
+            struct job job = {true, formats[f].format, part_for(formats[f].format, sizes[s]), 0, 0};
+            job.packet_length = tuned_write(job.format, true, source, job.text_length, packet, sizeof packet).length;
+            measure("read", formats[f].name, job.packet_length - 6, &job, rounds);
+            job.reads = false;
+            measure("write", formats[f].name, job.packet_length - 6, &job, rounds);
+        }
+    }
+    for (int wrong = 1; wrong <= 3; wrong++) {
+        static const char *const names[] = {"read, 1 header bit wrong", "read, 2 header bits wrong", "refuse, 3 header bits wrong"};
+        struct job job = {true, 0, 100, 0, wrong > 2 ? 2 : 0};
+        state = 1;
+        make_open();
+        job.packet_length = tuned_write(0, true, source, 100, packet, sizeof packet).length;
+        for (int i = 0; i < wrong; i++)
+            packet[i] ^= 4;
+        measure(names[wrong - 1], "Open", 100, &job, rounds);
+    }
+    return 0;
+}

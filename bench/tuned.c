@@ -1,0 +1,502 @@
+#include "tuned.h"
+
+#include <string.h>
+
+enum { MOST_FULL_ASCII = 7112, NOT_MENDABLE = 3 };
+
+#define EACH(byte) (0x0101010101010101u * (byte))
+#define likely(c) __builtin_expect(!!(c), 1)
+#define unlikely(c) __builtin_expect(!!(c), 0)
+
+static uint32_t checksum_table[256];
+static uint16_t check_table[4][256];   /* what each header byte leaves as remainder; the top bit of the first is no part of it */
+static uint32_t mending_table[1024];   /* the at most two of 31 bits that leave a remainder */
+static uint8_t mending_count[1024];    /* how many those are, or NOT_MENDABLE */
+static uint8_t ascii_code[256], ascii_width[256];
+
+static uint32_t remainder_of(uint32_t word)
+{
+    for (int i = 30; i >= 10; i--)
+        if (word >> i & 1)
+            word ^= 0x769u << (i - 10);
+    return word;
+}
+
+void tuned_prepare(void)
+{
+    for (unsigned i = 0; i < 256; i++) {
+        unsigned sum = i << 8;
+        for (int k = 0; k < 8; k++)
+            sum = sum & 0x8000 ? sum << 1 ^ 0xd175 : sum << 1;
+        checksum_table[i] = sum << 16;
+        for (int k = 0; k < 4; k++)
+            check_table[k][i] = remainder_of((i << (24 - 8 * k)) & 0x7fffffff);
+        ascii_width[i] = i < 64 ? 6 : 7;
+        ascii_code[i] = i < 64 ? i - 32 : i;
+    }
+    memset(mending_count, NOT_MENDABLE, sizeof mending_count);
+    mending_count[0] = 0;
+    for (int i = 0; i < 31; i++) {
+        uint32_t rest = remainder_of(1u << i);
+        mending_table[rest] = 1u << i;
+        mending_count[rest] = 1;
+        for (int k = 0; k < i; k++) {
+            uint32_t both = rest ^ remainder_of(1u << k);
+            mending_table[both] = 1u << i | 1u << k;
+            mending_count[both] = 2;
+        }
+    }
+}
+
+static inline uint64_t load_64(const uint8_t *from)
+{
+    uint64_t word;
+    memcpy(&word, from, 8);
+    return __builtin_bswap64(word);
+}
+
+static inline void store_64(uint8_t *to, uint64_t word)
+{
+    word = __builtin_bswap64(word);
+    memcpy(to, &word, 8);
+}
+
+static inline void store_32(uint8_t *to, uint32_t word)
+{
+    word = __builtin_bswap32(word);
+    memcpy(to, &word, 4);
+}
+
+static inline uint64_t load_some(const uint8_t *from, size_t count)
+{
+    uint8_t bytes[8] = {0};
+    memcpy(bytes, from, count < 8 ? count : 8);
+    return load_64(bytes);
+}
+
+/* At least 57 bits from a bit on, at the top of a word; zeros behind `readable` bytes. */
+static inline uint64_t window(const uint8_t *data, size_t readable, size_t at)
+{
+    size_t byte = at / 8;
+    uint64_t word = likely(byte + 8 <= readable) ? load_64(data + byte) : load_some(data + byte, readable - byte);
+    return word << at % 8;
+}
+
+static inline uint16_t checksum(const uint8_t *data, size_t length)
+{
+    uint32_t sum = 0xffff0000; /* at the top of the word: no mask is needed */
+    for (size_t i = 0; i < length; i++)
+        sum = sum << 8 ^ checksum_table[sum >> 24 ^ data[i]];
+    return sum >> 16;
+}
+
+static inline unsigned check_bits(uint32_t word)
+{
+    return check_table[0][word >> 24] ^ check_table[1][word >> 16 & 255] ^ check_table[2][word >> 8 & 255] ^ check_table[3][word & 255];
+}
+
+static rosopyat_read_answer refuse_reading(uint32_t refusal, size_t number)
+{
+    return (rosopyat_read_answer){.refusal = refusal, .number = number};
+}
+
+/* Whether at most seven bits are all ones. */
+static inline bool all_ones(uint64_t top, size_t rest)
+{
+    return rest == 0 || ~top >> (64 - rest) == 0;
+}
+
+/* Compact Pseudo Binary: the data has two bytes of checksum behind it, so that two bytes can be read at any bit. */
+
+static bool measure_pseudo_binary(const uint8_t *data, size_t length, size_t *count, size_t *bad)
+{
+    size_t bits = 8 * length, at = 0, characters = 0;
+    for (;;) {
+        size_t rest = bits - at;
+        unsigned pair = data[at / 8] << 8 | data[at / 8 + 1];
+        unsigned indicator = pair >> (8 - at % 8) & 0xff;
+        if (unlikely(rest <= 7)) {
+            if (all_ones((uint64_t)indicator << 56, rest))
+                break;
+            if (rest < 6 || indicator >= 0x80) {
+                *bad = at;
+                return false;
+            }
+        }
+        if (indicator >= 0x80) {
+            size_t run = (indicator & 0x7f) + 1;
+            if (unlikely(rest - 8 < 6 * run)) {
+                *bad = at + 8 + (rest - 8) / 6 * 6;
+                return false;
+            }
+            characters += run;
+            at += 8 + 6 * run;
+        } else {
+            characters += (indicator >> 2 & 15) + 1;
+            at += 6;
+        }
+    }
+    *count = characters;
+    return true;
+}
+
+/* Eight values of six bits, from the low 48 bits to a byte each, and back. */
+static inline uint64_t spread(uint64_t v)
+{
+    v = (v & 0xffffff000000) << 8 | (v & 0xffffff);
+    v = (v & 0x00fff00000fff000) << 4 | (v & 0x00000fff00000fff);
+    return (v & 0x0fc00fc00fc00fc0) << 2 | (v & 0x003f003f003f003f);
+}
+
+static inline uint64_t gather(uint64_t v)
+{
+    v = (v & 0x3f003f003f003f00) >> 2 | (v & 0x003f003f003f003f);
+    v = (v & 0x0fff00000fff0000) >> 4 | (v & 0x00000fff00000fff);
+    return (v & 0x00ffffff00000000) >> 8 | (v & 0xffffff);
+}
+
+static void text_of_pseudo_binary(const uint8_t *data, size_t length, uint8_t *text, size_t count)
+{
+    size_t at = 0, done = 0, readable = length + 2;
+    while (done < count) {
+        unsigned pair = data[at / 8] << 8 | data[at / 8 + 1];
+        unsigned indicator = pair >> (8 - at % 8) & 0xff;
+        if (indicator >= 0x80) {
+            size_t run = (indicator & 0x7f) + 1;
+            at += 8;
+            for (; run >= 8; run -= 8, at += 48, done += 8)
+                store_64(text + done, spread(window(data, readable, at) >> 16) + EACH(64));
+            if (run > 0) {
+                uint64_t last = spread(window(data, readable, at) >> 16) + EACH(64);
+                if (likely(count - done >= 8))
+                    store_64(text + done, last); /* what is too much is written again */
+                else
+                    for (size_t i = 0; i < run; i++)
+                        text[done + i] = last >> (56 - 8 * i);
+                at += 6 * run;
+                done += run;
+            }
+        } else {
+            size_t run = (indicator >> 2 & 15) + 1;
+            uint64_t character = indicator & 0x40 ? EACH('/') : EACH(' ');
+            if (likely(count - done >= 16)) {
+                memcpy(text + done, &character, 8);
+                memcpy(text + done + 8, &character, 8);
+            } else
+                memset(text + done, (int)(character & 0xff), run);
+            at += 6;
+            done += run;
+        }
+    }
+}
+
+/* Compact Full ASCII: taken apart once, into memory of our own, since a refusal may change nothing. */
+
+static bool text_of_full_ascii(const uint8_t *data, size_t length, uint8_t *text, size_t *count, size_t *bad)
+{
+    size_t bits = 8 * length, at = 0, done = 0;
+    while (bits - at >= 64) {
+        uint64_t buffer = load_64(data + at / 8) << at % 8;
+        unsigned taken = 0;
+        for (int i = 0; i < 6; i++) { /* six of at most nine bits */
+            unsigned code = buffer >> 57, seven = buffer >> 63;
+            if (unlikely(code == 0x7f)) {
+                unsigned control = buffer >> 55 & 3;
+                text[done] = "\t\r\n\r"[control];
+                text[done + 1] = '\n';
+                done += control == 3 ? 2 : 1;
+                buffer <<= 9;
+                taken += 9;
+                continue;
+            }
+            text[done++] = seven ? code : (code >> 1) + 32;
+            buffer = seven ? buffer << 7 : buffer << 6;
+            taken += 6 + seven;
+        }
+        at += taken;
+    }
+    for (;;) {
+        size_t rest = bits - at;
+        uint64_t top = rest == 0 ? 0 : window(data, length, at);
+        if (rest <= 7 && all_ones(top, rest))
+            break;
+        unsigned code = top >> 57, width = top >> 63 ? code == 0x7f ? 9 : 7 : 6;
+        if (rest < width) {
+            *bad = at;
+            return false;
+        }
+        if (width == 9) {
+            unsigned control = top >> 55 & 3;
+            text[done++] = "\t\r\n\r"[control];
+            if (control == 3)
+                text[done++] = '\n';
+        } else
+            text[done++] = width == 7 ? code : (code >> 1) + 32;
+        at += width;
+    }
+    *count = done;
+    return true;
+}
+
+rosopyat_read_answer tuned_read(const uint8_t *packet, size_t packet_length, uint8_t *text, size_t text_room)
+{
+    if (packet_length < 4)
+        return refuse_reading(1, 0);
+    uint32_t header;
+    memcpy(&header, packet, 4);
+    header = __builtin_bswap32(header);
+    unsigned rest = check_bits(header), mended = mending_count[rest];
+    header ^= mending_table[rest];
+    if (!__builtin_parity(header >> 24)) {
+        header ^= 0x80000000;
+        mended++;
+    }
+    if (mended > 2)
+        return refuse_reading(2, 0);
+    unsigned flag = header >> 24, format = flag >> 2 & 7;
+    if ((flag & 0x61) != 0x40 || (0x13 >> format & 1) == 0)
+        return refuse_reading(3, 0);
+    size_t length = header >> 10 & 0x3fff;
+    if (length - 1 > 3999)
+        return refuse_reading(4, 0);
+    if (packet_length < length + 6)
+        return refuse_reading(5, 0);
+    const uint8_t *data = packet + 4;
+    if (checksum(data, length) != (data[length] | data[length + 1] << 8))
+        return refuse_reading(6, 0);
+
+    size_t count = length, bad;
+    if (format == 0) {
+        if (text_room < count)
+            return refuse_reading(8, count);
+        memcpy(text, data, count);
+    } else if (format == 1) {
+        if (!measure_pseudo_binary(data, length, &count, &bad))
+            return refuse_reading(7, bad);
+        if (text_room < count)
+            return refuse_reading(8, count);
+        text_of_pseudo_binary(data, length, text, count);
+    } else {
+        uint8_t own[MOST_FULL_ASCII];
+        if (!text_of_full_ascii(data, length, own, &count, &bad))
+            return refuse_reading(7, bad);
+        if (text_room < count)
+            return refuse_reading(8, count);
+        memcpy(text, own, count);
+    }
+    return (rosopyat_read_answer){
+        .format = format, .sync = flag >> 1 & 1, .mended = mended, .data_length = length, .text_length = count, .used = length + 6};
+}
+
+static rosopyat_write_answer refuse_writing(uint32_t refusal, size_t number)
+{
+    return (rosopyat_write_answer){.refusal = refusal, .number = number};
+}
+
+/* Runs of Compact Pseudo Binary: characters of one kind from `from` on, at most `most`. */
+
+static inline bool all_values(uint64_t eight)
+{
+    return (eight & EACH(0xc0)) == EACH(0x40);
+}
+
+static inline size_t run_of_values(const uint8_t *text, size_t length, size_t from, size_t most)
+{
+    size_t end = length - from > most ? from + most : length, at = from;
+    uint64_t eight;
+    while (at + 8 <= end) {
+        memcpy(&eight, text + at, 8);
+        if (!all_values(eight))
+            return at - from + __builtin_ctzll((eight & EACH(0xc0)) ^ EACH(0x40)) / 8;
+        at += 8;
+    }
+    while (at < end && (text[at] & 0xc0) == 0x40)
+        at++;
+    return at - from;
+}
+
+static inline size_t run_of(unsigned character, const uint8_t *text, size_t length, size_t from, size_t most)
+{
+    size_t end = length - from > most ? from + most : length, at = from;
+    while (at < end && text[at] == character)
+        at++;
+    return at - from;
+}
+
+/* The bits that a text takes, or the index of its first character without a code. */
+static bool measure_text_pseudo_binary(const uint8_t *text, size_t length, size_t *bits, size_t *bad)
+{
+    size_t at = 0, sum = 0;
+    while (at < length) {
+        unsigned character = text[at];
+        if ((character & 0xc0) == 0x40) {
+            size_t run = run_of_values(text, length, at, SIZE_MAX);
+            sum += 6 * run + (run + 127) / 128 * 8;
+            at += run;
+        } else if (character == ' ' || character == '/') {
+            size_t run = run_of(character, text, length, at, SIZE_MAX);
+            sum += (run + 15) / 16 * 6;
+            at += run;
+        } else {
+            *bad = at;
+            return false;
+        }
+    }
+    *bits = sum;
+    return true;
+}
+
+struct out {
+    uint8_t *next;
+    uint64_t held; /* the low `have` bits are still to be written; the others do not count */
+    unsigned have; /* fewer than 32 */
+};
+
+static inline void put(struct out *out, uint64_t value, unsigned width)
+{
+    out->held = out->held << width | value;
+    out->have += width;
+    if (out->have >= 32) {
+        out->have -= 32;
+        store_32(out->next, out->held >> out->have);
+        out->next += 4;
+    }
+}
+
+static inline void finish(struct out *out)
+{
+    if (out->have % 8 != 0) {
+        unsigned fill = 8 - out->have % 8;
+        out->held = out->held << fill | ((1u << fill) - 1);
+        out->have += fill;
+    }
+    for (; out->have > 0; out->have -= 8)
+        *out->next++ = out->held >> (out->have - 8);
+}
+
+static void data_of_pseudo_binary(const uint8_t *text, size_t length, uint8_t *data)
+{
+    struct out out = {data, 0, 0};
+    size_t at = 0;
+    while (at < length) {
+        unsigned character = text[at];
+        if ((character & 0xc0) == 0x40) {
+            size_t run = run_of_values(text, length, at, 128), end = at + run;
+            put(&out, 0x80 | (run - 1), 8);
+            for (; at + 8 <= end; at += 8) {
+                uint64_t eight = gather(load_64(text + at));
+                put(&out, eight >> 24, 24);
+                put(&out, eight & 0xffffff, 24);
+            }
+            for (; at < end; at++)
+                put(&out, text[at] & 63, 6);
+        } else {
+            size_t run = run_of(character, text, length, at, 16);
+            put(&out, (character == '/' ? 0x10 : 0) | (run - 1), 6);
+            at += run;
+        }
+    }
+    finish(&out);
+}
+
+/* Eight characters that have a plain code: none below 32, none above 126. */
+static inline bool all_plain(uint64_t eight)
+{
+    uint64_t low = (eight & EACH(0x60)) + EACH(0x60); /* the top bit of each that is 32 or more */
+    return (eight & EACH(0x80)) == 0 && (low & EACH(0x80)) == EACH(0x80) && ((eight + EACH(1)) & EACH(0x80)) == 0;
+}
+
+static bool measure_text_full_ascii(const uint8_t *text, size_t length, size_t *bits, size_t *bad)
+{
+    size_t at = 0, sum = 0;
+    while (at < length) {
+        if (at + 8 <= length) {
+            uint64_t eight;
+            memcpy(&eight, text + at, 8);
+            if (all_plain(eight)) {
+                sum += 48 + ((eight & EACH(0x40)) >> 6) * EACH(1) / ((uint64_t)1 << 56);
+                at += 8;
+                continue;
+            }
+        }
+        size_t end = at + 8 < length ? at + 8 : length;
+        for (; at < end; at++) {
+            unsigned character = text[at];
+            if (character >= 32 && character <= 126)
+                sum += character < 64 ? 6 : 7;
+            else if (character == '\r') {
+                sum += 9;
+                if (at + 1 < length && text[at + 1] == '\n')
+                    at++;
+            } else if (character == '\t' || character == '\n')
+                sum += 9;
+            else {
+                *bad = at;
+                return false;
+            }
+        }
+    }
+    *bits = sum;
+    return true;
+}
+
+static void data_of_full_ascii(const uint8_t *text, size_t length, uint8_t *data)
+{
+    struct out out = {data, 0, 0};
+    size_t at = 0;
+    while (at < length) {
+        if (at + 4 <= length) {
+            uint32_t four;
+            memcpy(&four, text + at, 4);
+            if (likely((((four & 0x60606060) + 0x60606060) & 0x80808080) == 0x80808080)) {
+                unsigned a = four & 255, b = four >> 8 & 255, c = four >> 16 & 255, d = four >> 24;
+                unsigned left = ascii_code[a] << ascii_width[b] | ascii_code[b], right = ascii_code[c] << ascii_width[d] | ascii_code[d];
+                unsigned right_width = ascii_width[c] + ascii_width[d];
+                put(&out, left << right_width | right, ascii_width[a] + ascii_width[b] + right_width);
+                at += 4;
+                continue;
+            }
+        }
+        unsigned character = text[at++];
+        if (likely(character >= 32))
+            put(&out, ascii_code[character], ascii_width[character]);
+        else if (character == '\r' && at < length && text[at] == '\n') {
+            put(&out, 0x1ff, 9);
+            at++;
+        } else
+            put(&out, character == '\t' ? 0x1fc : character == '\r' ? 0x1fd : 0x1fe, 9);
+    }
+    finish(&out);
+}
+
+rosopyat_write_answer tuned_write(uint8_t format, bool sync, const uint8_t *text, size_t text_length, uint8_t *packet, size_t packet_room)
+{
+    if (format > 7 || (0x13 >> format & 1) == 0)
+        return refuse_writing(12, 0);
+    if (text_length == 0)
+        return refuse_writing(10, 0);
+    size_t bits = 8 * text_length, bad;
+    if (format != 0 && !(format == 1 ? measure_text_pseudo_binary : measure_text_full_ascii)(text, text_length, &bits, &bad))
+        return refuse_writing(9, bad);
+    if (bits > 32000)
+        return refuse_writing(11, 0);
+    size_t length = (bits + 7) / 8;
+    if (packet_room < length + 6)
+        return refuse_writing(8, length + 6);
+
+    uint8_t *data = packet + 4;
+    if (format == 0)
+        memcpy(data, text, length);
+    else if (format == 1)
+        data_of_pseudo_binary(text, text_length, data);
+    else
+        data_of_full_ascii(text, text_length, data);
+    uint32_t flag = 0x40u | (uint32_t)format << 2 | (uint32_t)sync << 1;
+    flag |= (uint32_t)!__builtin_parity(flag) << 7;
+    uint32_t header = flag << 24 | (uint32_t)length << 10;
+    store_32(packet, header | check_bits(header));
+    uint16_t sum = checksum(data, length);
+    data[length] = sum;
+    data[length + 1] = sum >> 8;
+    return (rosopyat_write_answer){.length = length + 6};
+}

@@ -1,0 +1,91 @@
+/* Rosopyat: reads and writes single-packet messages of the GOES DCS binary protocol.
+ *
+ * A packet is a flag byte, three bytes of length and check, 1 to 4,000 data bytes and two checksum bytes. The data is one of three formats
+ * (rosopyat_format). Both functions answer a struct: `refusal` is 0 when the call succeeded, and else one of rosopyat_refusal, with `number` saying
+ * more where the refusal says so. Every other member of a refused answer is 0, and no byte of the lent buffer has changed.
+ *
+ * What a caller keeps to:
+ *   - a pointer leads to as many bytes as the length beside it says; where that length is 0 any pointer will do, NULL too;
+ *   - the two buffers of one call do not overlap.
+ *
+ * Nothing is allocated, kept or shared between calls: any number of threads may call at once, on buffers of their own.
+ * Link with librosopyat_c.a (x86-64), which needs memset and nothing else of the C library.
+ */
+#ifndef ROSOPYAT_H
+#define ROSOPYAT_H
+
+#include <stddef.h>
+#include <stdint.h>
+#ifndef __cplusplus
+#include <stdbool.h>
+#endif
+
+#ifdef __cplusplus
+extern "C" {
+#endif
+
+enum {
+    ROSOPYAT_MOST_DATA = 4000,         /* data bytes of a packet */
+    ROSOPYAT_OVERHEAD = 6,             /* header and checksum */
+    ROSOPYAT_MOST_PACKET = 4006,       /* a packet buffer of this size is never too short */
+    ROSOPYAT_MOST_TEXT = 85328         /* a text buffer of this size is never too short (5,333 runs of 16) */
+};
+
+/* The formats, by their number in the flag byte. */
+enum rosopyat_format {
+    ROSOPYAT_OPEN = 0,          /* the data bytes are the text: any bytes */
+    ROSOPYAT_PSEUDO_BINARY = 1, /* compacted: characters 64 to 127, space and slash */
+    ROSOPYAT_FULL_ASCII = 4     /* compacted: characters 32 to 126, HT, CR and LF */
+};
+
+/* Why a call was refused. The tests are made in the order given here for the reader, and in the order 12, 10, 9, 11, 8 for the writer; the first that
+ * matches answers. `number` is 0 unless a meaning stands here. */
+enum rosopyat_refusal {
+    ROSOPYAT_ACCEPTED = 0,
+    /* the reader's */
+    ROSOPYAT_NO_HEADER = 1,        /* fewer than 4 bytes */
+    ROSOPYAT_BAD_HEADER = 2,       /* no valid header within two bits */
+    ROSOPYAT_UNKNOWN_TYPE = 3,     /* the spare bit is 1, or the type is not one of the three formats */
+    ROSOPYAT_BAD_LENGTH = 4,       /* the length is 0 or above 4,000 */
+    ROSOPYAT_CUT_SHORT = 5,        /* fewer bytes than the length and 6 */
+    ROSOPYAT_CHECKSUM_DIFFERS = 6, /* the data is not what was sent */
+    ROSOPYAT_MALFORMED = 7,        /* number: the data bit at which the first unreadable indicator, value or code starts */
+    /* both */
+    ROSOPYAT_NO_ROOM = 8,          /* number: the room that is needed, for the text (reader) or the packet (writer) */
+    /* the writer's */
+    ROSOPYAT_NO_CODE = 9,          /* number: the index of the first character that the format has no code for */
+    ROSOPYAT_NO_TEXT = 10,         /* the text is empty */
+    ROSOPYAT_TOO_LONG = 11,        /* the data would exceed 4,000 bytes */
+    ROSOPYAT_UNKNOWN_FORMAT = 12   /* the format is not 0, 1 or 4 */
+};
+
+typedef struct rosopyat_read_answer {
+    uint32_t refusal;   /* enum rosopyat_refusal */
+    size_t number;      /* what the refusal says, or 0 */
+    uint32_t format;    /* enum rosopyat_format */
+    uint32_t sync;      /* 1: time synchronised since the last transmission */
+    uint32_t mended;    /* header bits that were put right: 0 to 2 */
+    size_t data_length; /* 1 to 4,000 */
+    size_t text_length; /* bytes of `text` that were written */
+    size_t used;        /* bytes of `packet` that belong to the packet: data_length and 6 */
+} rosopyat_read_answer;
+
+typedef struct rosopyat_write_answer {
+    uint32_t refusal; /* enum rosopyat_refusal */
+    size_t number;    /* what the refusal says, or 0 */
+    size_t length;    /* bytes of `packet` that were written */
+} rosopyat_write_answer;
+
+/* Reads the packet that starts at packet[0] and writes its text to text[0..text_length]. Bytes behind the packet are not looked at, and bytes of
+ * `text` behind the text stay as they were. A `text_room` of 0 asks for the text's length (refusal 8). */
+rosopyat_read_answer rosopyat_read(const uint8_t *packet, size_t packet_length, uint8_t *text, size_t text_room);
+
+/* Writes `text` as one packet to packet[0..length], in the fullest runs and the shortest codes. Bytes of `packet` behind it stay as they were.
+ * A `packet_room` of 0 asks for the packet's length (refusal 8). */
+rosopyat_write_answer rosopyat_write(uint8_t format, bool sync, const uint8_t *text, size_t text_length, uint8_t *packet, size_t packet_room);
+
+#ifdef __cplusplus
+}
+#endif
+
+#endif

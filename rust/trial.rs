@@ -1,0 +1,71 @@
+//! Runs the Rust module: every answer and refusal that it has, and a published packet (its file is the argument).
+
+mod rosopyat;
+
+use rosopyat::{read, write, Format, ReadRefusal, WriteRefusal, MOST_DATA, MOST_PACKET, MOST_TEXT};
+
+fn there_and_back(format: Format, sync: bool, text: &[u8]) -> usize {
+    let mut packet = [0; MOST_PACKET];
+    let mut back = vec![0; MOST_TEXT];
+    let packet = write(format, sync, text, &mut packet).unwrap();
+    let reading = read(packet, &mut back).unwrap();
+    assert_eq!((reading.format, reading.sync, reading.mended), (format, sync, 0));
+    assert_eq!((reading.data_length + 6, reading.used), (packet.len(), packet.len()));
+    assert_eq!(reading.text, text);
+    packet.len()
+}
+
+fn read_refusals() {
+    let mut buffer = [0; 64];
+    let mut text = [0; 8];
+    assert_eq!(read(&[], &mut text), Err(ReadRefusal::NoHeader));
+    assert_eq!(read(&[0x40, 0x00, 0x04, 0xda], &mut text), Err(ReadRefusal::BadHeader));
+    assert_eq!(read(&[0; 4], &mut text), Err(ReadRefusal::UnknownType));
+    let packet = write(Format::FullAscii, true, b"A\r\nB", &mut buffer).unwrap().to_vec();
+    assert_eq!(read(&packet[..packet.len() - 1], &mut text), Err(ReadRefusal::CutShort));
+    assert_eq!(read(&packet, &mut text[..3]), Err(ReadRefusal::NoRoom(4)));
+    assert_eq!(read(&packet, &mut []), Err(ReadRefusal::NoRoom(4)));
+    let mut damaged = packet.clone();
+    damaged[4] ^= 1;
+    assert_eq!(read(&damaged, &mut text), Err(ReadRefusal::ChecksumDiffers));
+    // An Open packet of one byte FF, its length turned to 0 (and the check with it), and its type to Full ASCII.
+    let open = write(Format::Open, false, b"\xff", &mut buffer).unwrap().to_vec();
+    assert_eq!(open[..4], [0x40, 0x00, 0x04, 0xdd]);
+    let no_data = [&[0x40, 0x00, 0x03, 0xb4], &open[4..]].concat();
+    assert_eq!(read(&no_data, &mut text), Err(ReadRefusal::BadLength));
+    let malformed = [&[0xd0, 0x00, 0x04, 0x30], &open[4..]].concat();
+    assert_eq!(read(&malformed, &mut text), Err(ReadRefusal::Malformed(0)));
+    assert_eq!(text, [0; 8]);
+
+    let mut mended = open.clone();
+    mended[0] ^= 0x81;
+    mended.push(7);
+    let reading = read(&mended, &mut text).unwrap();
+    assert_eq!((reading.mended, reading.used, reading.text), (2, 7, &b"\xff"[..]));
+}
+
+fn write_refusals() {
+    let mut packet = [0; 64];
+    assert_eq!(write(Format::Open, false, b"", &mut packet), Err(WriteRefusal::NoText));
+    assert_eq!(write(Format::PseudoBinary, false, b"@A!", &mut packet), Err(WriteRefusal::NoCode(2)));
+    assert_eq!(write(Format::FullAscii, false, b"\x7f", &mut packet), Err(WriteRefusal::NoCode(0)));
+    assert_eq!(write(Format::Open, false, &[0; MOST_DATA + 1], &mut packet), Err(WriteRefusal::TooLong));
+    assert_eq!(write(Format::Open, false, b"abc", &mut packet[..8]), Err(WriteRefusal::NoRoom(9)));
+    assert_eq!(packet, [0; 64]);
+}
+
+fn main() {
+    let every: Vec<u8> = (0..=255).collect();
+    assert_eq!(there_and_back(Format::Open, true, &every), 262);
+    assert_eq!(there_and_back(Format::PseudoBinary, false, b"@A~\x7f//// ZZ"), 14);
+    assert_eq!(there_and_back(Format::PseudoBinary, true, &[b'/'; MOST_TEXT]), MOST_PACKET);
+    assert_eq!(there_and_back(Format::FullAscii, false, b"Stage 1.23 m\r\n\t~"), 19);
+    read_refusals();
+    write_refusals();
+
+    let packet = std::fs::read(std::env::args().nth(1).expect("a packet's file")).unwrap();
+    let mut text = [0; 4096];
+    let reading = read(&packet, &mut text).unwrap();
+    assert_eq!((reading.format, reading.data_length, reading.text.len()), (Format::FullAscii, 259, 306));
+    println!("Rust: all as it should be");
+}

@@ -1,0 +1,752 @@
+/* Holds the library to the independent implementation, on cases that are made from a seed.
+ *
+ *     compare [COUNT [SEED [FIRST]]]
+ *
+ * Each case depends on the seed and its own number only, so `compare 1 SEED FIRST` repeats one. A difference in any member of an answer or any byte of a
+ * buffer, a byte changed outside of what the answer allows, a read or write past a buffer's end, or an answer other than the one known from how the
+ * packet was made ends the run with status 1. So does, in a run of MEANT_CASES or more, an outcome that never occurred. */
+#define _GNU_SOURCE
+#include "independent.h"
+#include "maker.h"
+#include "rosopyat.h"
+
+#include <inttypes.h>
+#include <signal.h>
+#include <stdio.h>
+#include <stdlib.h>
+#include <string.h>
+#include <sys/mman.h>
+#include <time.h>
+#include <unistd.h>
+
+enum { MEANT_CASES = 20000, GUARD = 32, REGION = 28 * 4096, LONG_TEXT = 100000, LONG_PACKET = 8192 };
+
+/* Random numbers: one row for each case. */
+
+static uint64_t seed, case_number, state;
+
+static uint64_t random_64(void)
+{
+    uint64_t z = state += 0x9e3779b97f4a7c15;
+    z = (z ^ z >> 30) * 0xbf58476d1ce4e5b9;
+    z = (z ^ z >> 27) * 0x94d049bb133111eb;
+    return z ^ z >> 31;
+}
+
+static unsigned below(unsigned limit)
+{
+    return (random_64() >> 32) * limit >> 32;
+}
+
+static unsigned between(unsigned low, unsigned high)
+{
+    return low + below(high - low + 1);
+}
+
+static bool chance(unsigned percent)
+{
+    return below(100) < percent;
+}
+
+static void random_bytes(uint8_t *to, size_t length)
+{
+    for (; length >= 8; to += 8, length -= 8)
+        memcpy(to, &(uint64_t){random_64()}, 8);
+    memcpy(to, &(uint64_t){random_64()}, length);
+}
+
+/* Outcomes. */
+
+enum outcome {
+    READ_REFUSED, /* and its number, up to 8 */
+    READ_OPEN = READ_REFUSED + 9,
+    READ_PSEUDO_BINARY,
+    READ_FULL_ASCII,
+    MENDED_0,
+    MENDED_1,
+    MENDED_2,
+    READ_SYNC_0,
+    READ_SYNC_1,
+    READ_DATA_1,
+    READ_DATA_4000,
+    READ_LONGEST,
+    READ_ROOM_EXACT,
+    READ_ROOM_ONE_MORE,
+    READ_TRAILING,
+    MADE_AND_READ,
+    MALFORMED_PSEUDO_BINARY,
+    MALFORMED_FULL_ASCII,
+    NO_ROOM_ONE_SHORT,
+    WRITE_REFUSED, /* and its number, 8 to 12 */
+    WRITE_OPEN = WRITE_REFUSED + 13,
+    WRITE_PSEUDO_BINARY,
+    WRITE_FULL_ASCII,
+    WRITE_SYNC_1,
+    WRITE_DATA_4000,
+    WRITE_ROOM_EXACT,
+    WRITTEN_AND_READ,
+    WRITE_ONE_SHORT,
+    OUTCOMES
+};
+
+static const char *const outcome_name[OUTCOMES] = {
+    [READ_REFUSED + 1] = "reader refused 1, fewer than 4 bytes",
+    [READ_REFUSED + 2] = "reader refused 2, no valid header",
+    [READ_REFUSED + 3] = "reader refused 3, type or spare bit",
+    [READ_REFUSED + 4] = "reader refused 4, length",
+    [READ_REFUSED + 5] = "reader refused 5, cut short",
+    [READ_REFUSED + 6] = "reader refused 6, checksum",
+    [READ_REFUSED + 7] = "reader refused 7, malformed",
+    [READ_REFUSED + 8] = "reader refused 8, no room",
+    [READ_OPEN] = "reader accepted Open",
+    [READ_PSEUDO_BINARY] = "reader accepted Compact Pseudo Binary",
+    [READ_FULL_ASCII] = "reader accepted Compact Full ASCII",
+    [MENDED_0] = "  with 0 bits mended",
+    [MENDED_1] = "  with 1 bit mended",
+    [MENDED_2] = "  with 2 bits mended",
+    [READ_SYNC_0] = "  with sync 0",
+    [READ_SYNC_1] = "  with sync 1",
+    [READ_DATA_1] = "  with 1 data byte",
+    [READ_DATA_4000] = "  with 4,000 data bytes",
+    [READ_LONGEST] = "  with 85,328 characters",
+    [READ_ROOM_EXACT] = "  with exactly the room needed",
+    [READ_ROOM_ONE_MORE] = "  with one byte more room",
+    [READ_TRAILING] = "  with bytes behind the packet",
+    [MADE_AND_READ] = "  and read as made",
+    [MALFORMED_PSEUDO_BINARY] = "malformed Compact Pseudo Binary",
+    [MALFORMED_FULL_ASCII] = "malformed Compact Full ASCII",
+    [NO_ROOM_ONE_SHORT] = "text buffer one byte too short",
+    [WRITE_REFUSED + 8] = "writer refused 8, no room",
+    [WRITE_REFUSED + 9] = "writer refused 9, no code",
+    [WRITE_REFUSED + 10] = "writer refused 10, empty",
+    [WRITE_REFUSED + 11] = "writer refused 11, too long",
+    [WRITE_REFUSED + 12] = "writer refused 12, format",
+    [WRITE_OPEN] = "writer accepted Open",
+    [WRITE_PSEUDO_BINARY] = "writer accepted Compact Pseudo Binary",
+    [WRITE_FULL_ASCII] = "writer accepted Compact Full ASCII",
+    [WRITE_SYNC_1] = "  with sync 1",
+    [WRITE_DATA_4000] = "  with 4,000 data bytes",
+    [WRITE_ROOM_EXACT] = "  with exactly the room needed",
+    [WRITTEN_AND_READ] = "  and read back as written",
+    [WRITE_ONE_SHORT] = "packet buffer one byte too short",
+};
+
+static uint64_t outcomes[OUTCOMES];
+
+/* Buffers. Each region ends at a page that may not be touched. A buffer ends there, or GUARD bytes before. The outputs of both sides start as copies of
+ * `untouched`, and are put back to that after each case. */
+
+static uint8_t *input, *input_copy, *library_output, *independent_output, *untouched;
+
+static uint8_t *new_region(void)
+{
+    uint8_t *region = mmap(NULL, REGION + 4096, PROT_READ | PROT_WRITE, MAP_PRIVATE | MAP_ANONYMOUS, -1, 0);
+    if (region == MAP_FAILED || mprotect(region + REGION, 4096, PROT_NONE) != 0) {
+        perror("mmap");
+        exit(2);
+    }
+    return region;
+}
+
+struct place {
+    size_t start, length, end; /* offsets into a region; `end` includes the guard behind */
+};
+
+static struct place new_place(size_t length)
+{
+    struct place place;
+    place.end = REGION;
+    place.length = length;
+    place.start = REGION - length - (chance(50) ? GUARD : 0);
+    return place;
+}
+
+/* Any pointer will do for no bytes. */
+static uint8_t *at_place(uint8_t *region, struct place place)
+{
+    return place.length == 0 && chance(50) ? NULL : region + place.start;
+}
+
+/* Reports. */
+
+static void dump_bytes(const char *name, const uint8_t *bytes, size_t length)
+{
+    printf("%s, %zu bytes:", name, length);
+    for (size_t i = 0; i < length; i++)
+        printf("%s%02X", i % 32 == 0 ? "\n  " : "", bytes[i]);
+    printf("\n");
+}
+
+static void dump_case(void)
+{
+    printf("seed %" PRIu64 " case %" PRIu64 " (repeat it with: compare 1 %" PRIu64 " %" PRIu64 ")\n", seed, case_number, seed, case_number);
+}
+
+static void touched_outside(int signal_number)
+{
+    (void)signal_number;
+    printf("differs: memory outside of a buffer was touched\n");
+    dump_case();
+    fflush(stdout);
+    _exit(1);
+}
+
+static void dump_read_answer(const char *name, rosopyat_read_answer a)
+{
+    printf("%s: refusal %u number %zu format %u sync %u mended %u data_length %zu text_length %zu used %zu\n", name, a.refusal, a.number, a.format, a.sync,
+           a.mended, a.data_length, a.text_length, a.used);
+}
+
+static void dump_write_answer(const char *name, rosopyat_write_answer a)
+{
+    printf("%s: refusal %u number %zu length %zu\n", name, a.refusal, a.number, a.length);
+}
+
+/* Answers what is wrong with both outputs when `written` bytes of each may have changed, or NULL; puts them back. */
+static const char *compare_outputs(struct place place, size_t written)
+{
+    size_t from = place.start - GUARD, behind = place.start + written;
+    if (written > place.length)
+        return "more was written than there is room";
+    if (memcmp(library_output + from, untouched + from, GUARD) != 0)
+        return "bytes before the library's buffer changed";
+    if (memcmp(library_output + behind, untouched + behind, place.end - behind) != 0)
+        return "bytes of the library's buffer changed that should not have";
+    if (memcmp(independent_output + from, untouched + from, GUARD) != 0 || memcmp(independent_output + behind, untouched + behind, place.end - behind) != 0)
+        return "bytes of the independent buffer changed that should not have";
+    if (memcmp(library_output + place.start, independent_output + place.start, written) != 0)
+        return "the bytes written differ";
+    return NULL;
+}
+
+static void put_back(struct place place, size_t written)
+{
+    memcpy(library_output + place.start, untouched + place.start, written);
+    memcpy(independent_output + place.start, untouched + place.start, written);
+}
+
+static const char *compare_input(struct place place)
+{
+    size_t from = place.start - GUARD;
+    return memcmp(input + from, input_copy + from, place.end - from) != 0 ? "the input changed" : NULL;
+}
+
+/* Puts an input in its place, with random bytes around it. */
+static struct place place_input(const uint8_t *bytes, size_t length)
+{
+    struct place place = new_place(length);
+    size_t from = place.start - GUARD;
+    random_bytes(input + from, GUARD);
+    memcpy(input + place.start, bytes, length);
+    random_bytes(input + place.start + length, place.end - place.start - length);
+    memcpy(input_copy + from, input + from, place.end - from);
+    return place;
+}
+
+/* One too short, exact, one longer, much longer, or anything. */
+static size_t some_room(size_t needed)
+{
+    switch (below(8)) {
+    case 0:
+        return needed > 0 ? needed - 1 : 0;
+    case 1:
+        return below(needed + 1);
+    case 2:
+        return needed + 1;
+    case 3:
+        return needed + between(2, 2000);
+    case 4:
+        return chance(10) ? 90000 : needed + 40;
+    case 5:
+        return chance(20) ? 0 : needed;
+    default:
+        return needed;
+    }
+}
+
+/* Making packets. */
+
+struct made {
+    uint8_t packet[LONG_PACKET];
+    size_t length;
+    bool known; /* the outcome is known from the making: this format, sync and text */
+    unsigned format, sync, mended;
+    size_t text_length;
+};
+
+static struct made made;
+static uint32_t types_made; /* a bit for each of the 32 types of a flag */
+static uint8_t made_text[LONG_TEXT];
+
+static void add_text(unsigned character, size_t count)
+{
+    memset(made_text + made.text_length, character, count);
+    made.text_length += count;
+}
+
+static size_t some_length(void)
+{
+    unsigned dice = below(1000);
+    if (dice < 400)
+        return between(1, 8);
+    if (dice < 700)
+        return between(1, 64);
+    if (dice < 900)
+        return between(1, 600);
+    if (dice < 960)
+        return between(3990, 4000);
+    if (dice < 975)
+        return 4000;
+    return between(1, 4000);
+}
+
+static size_t some_run(size_t most)
+{
+    switch (below(4)) {
+    case 0:
+        return most;
+    case 1:
+        return between(1, 3);
+    default:
+        return between(1, most);
+    }
+}
+
+/* Whether another code is put where `rest` bits remain: it must be when they are too many to be fill. */
+static bool one_more(size_t rest)
+{
+    return rest > 7 || (rest >= 6 && chance(50));
+}
+
+/* `longest`: full runs of space and slash only. */
+static void make_pseudo_binary(struct maker_bits *bits, size_t most_bits, bool longest)
+{
+    while (one_more(most_bits - bits->bits)) {
+        size_t rest = most_bits - bits->bits;
+        unsigned kind = longest ? below(2) : below(4);
+        if (kind >= 2 && rest >= 14) {
+            size_t run = some_run(128);
+            if (8 + 6 * run > rest)
+                run = (rest - 8) / 6;
+            maker_put(bits, 0x80 | (run - 1), 8);
+            for (size_t i = 0; i < run; i++) {
+                unsigned value = chance(10) ? 63 : below(64);
+                maker_put(bits, value, 6);
+                add_text(64 + value, 1);
+            }
+        } else {
+            size_t run = longest ? 16 : some_run(16);
+            maker_put(bits, (kind & 1) << 4 | (run - 1), 6);
+            add_text(kind & 1 ? '/' : ' ', run);
+        }
+    }
+}
+
+static void make_full_ascii(struct maker_bits *bits, size_t most_bits)
+{
+    unsigned controls = chance(20) ? 60 : 8;
+    while (one_more(most_bits - bits->bits)) {
+        size_t rest = most_bits - bits->bits;
+        if (rest >= 9 && chance(controls)) {
+            unsigned code = below(4);
+            maker_put(bits, 0x1fc | code, 9);
+            if (code == 3)
+                add_text('\r', 1);
+            add_text("\t\r\n\n"[code], 1);
+        } else if (rest >= 7 && chance(50)) {
+            unsigned character = between(64, 126);
+            maker_put(bits, character, 7);
+            add_text(character, 1);
+        } else {
+            unsigned character = between(32, 63);
+            maker_put(bits, character - 32, 6);
+            add_text(character, 1);
+        }
+    }
+}
+
+/* A last piece that is wrong, or right, or looks like fill: anything in up to 24 bits, with weight on ones. */
+static void make_ending(struct maker_bits *bits)
+{
+    unsigned width = between(1, 24);
+    uint32_t ending = random_64();
+    if (chance(60))
+        ending = ~0u;
+    if (chance(30))
+        ending &= ~(1u << below(width));
+    if (chance(20))
+        ending &= ~0xffu >> below(8);
+    maker_put(bits, ending, width);
+}
+
+static size_t make_data(unsigned format, uint8_t *data)
+{
+    bool longest = format == 1 && chance(2);
+    size_t length = longest ? 4000 : some_length();
+    struct maker_bits bits = {data, 0};
+    if (format == 0) {
+        random_bytes(data, length);
+        memcpy(made_text, data, length);
+        made.text_length = length;
+        return length;
+    }
+    unsigned dice = below(100);
+    if (dice < 10) { /* any bytes */
+        made.known = false;
+        random_bytes(data, length);
+        if (chance(30))
+            memset(data, 0xff, below(length + 1));
+        return length;
+    }
+    if (format == 1)
+        make_pseudo_binary(&bits, 8 * length, longest);
+    else
+        make_full_ascii(&bits, 8 * length);
+    if (dice < 35 && length <= 3990) {
+        made.known = false;
+        make_ending(&bits);
+        while (bits.bits % 8 != 0)
+            maker_put(&bits, chance(80), 1);
+        return bits.bits / 8;
+    }
+    if (dice < 40) { /* a code damaged, or the fill */
+        made.known = false;
+        length = maker_fill(&bits);
+        data[chance(50) ? length - 1 : below(length)] ^= 1u << below(8);
+        return length;
+    }
+    if (dice < 45 && bits.bits > 8) { /* cut to fewer bytes */
+        made.known = false;
+        maker_fill(&bits);
+        return between(1, bits.bits / 8);
+    }
+    return maker_fill(&bits);
+}
+
+static void flip(uint8_t *bytes, size_t bit)
+{
+    bytes[bit / 8] ^= 0x80u >> bit % 8;
+}
+
+static void damage_header(void)
+{
+    unsigned dice = below(100), flips = dice < 40 ? 0 : dice < 60 ? 1 : dice < 80 ? 2 : dice < 90 ? 3 : 4;
+    unsigned done[4];
+    for (unsigned i = 0; i < flips; i++) {
+        bool again;
+        do {
+            done[i] = chance(10) ? 0 : below(32);
+            again = false;
+            for (unsigned k = 0; k < i; k++)
+                again |= done[k] == done[i];
+        } while (again);
+        flip(made.packet, done[i]);
+    }
+    made.mended = flips;
+    if (flips > 2)
+        made.known = false;
+}
+
+static void make_packet(void)
+{
+    static const unsigned formats[] = {0, 1, 1, 1, 4, 4, 4};
+    made.known = true;
+    made.text_length = 0;
+    if (chance(4)) { /* any bytes at all */
+        made.known = false;
+        made.length = below(80);
+        random_bytes(made.packet, made.length);
+        return;
+    }
+    made.format = formats[below(7)];
+    made.sync = below(2);
+    size_t length = make_data(made.format, made.packet + 4);
+    unsigned flag = 0x40 | made.format << 2 | made.sync << 1;
+    made.length = maker_close(made.packet, flag, length);
+    if (chance(10)) { /* a header that says something else */
+        static const unsigned lengths[] = {0, 0, 1, 3999, 4000, 4001, 4002, 0x3fff};
+        made.known = false;
+        if (chance(50))
+            flag = below(128);
+        types_made |= 1u << (flag >> 2);
+        uint32_t header = maker_header(flag, chance(30) ? lengths[below(8)] : chance(30) ? below(0x4000) : length);
+        for (int i = 0; i < 4; i++)
+            made.packet[i] = header >> (24 - 8 * i);
+    }
+    damage_header();
+    if (chance(8)) { /* data or checksum */
+        made.known = false;
+        for (unsigned i = between(1, 3); i > 0; i--)
+            flip(made.packet, 32 + (chance(30) ? 8 * length + below(16) : below(8 * length)));
+    }
+    if (chance(8)) {
+        made.known = false;
+        made.length = chance(30) ? made.length - 1 : chance(30) ? below(8) % made.length : below(made.length);
+    } else if (chance(30)) {
+        size_t more = between(1, 40);
+        random_bytes(made.packet + made.length, more);
+        made.length += more;
+    }
+}
+
+static bool read_as_made(rosopyat_read_answer answer, const uint8_t *text)
+{
+    return answer.format == made.format && answer.sync == made.sync && answer.mended == made.mended && answer.text_length == made.text_length &&
+           memcmp(text, made_text, made.text_length) == 0;
+}
+
+static bool same_read_answer(rosopyat_read_answer a, rosopyat_read_answer b)
+{
+    return a.refusal == b.refusal && a.number == b.number && a.format == b.format && a.sync == b.sync && a.mended == b.mended &&
+           a.data_length == b.data_length && a.text_length == b.text_length && a.used == b.used;
+}
+
+static void count_reading(rosopyat_read_answer answer, size_t room, unsigned format)
+{
+    if (answer.refusal != 0) {
+        outcomes[READ_REFUSED + answer.refusal]++;
+        outcomes[MALFORMED_PSEUDO_BINARY] += answer.refusal == 7 && format == 1;
+        outcomes[MALFORMED_FULL_ASCII] += answer.refusal == 7 && format == 4;
+        outcomes[NO_ROOM_ONE_SHORT] += answer.refusal == 8 && room + 1 == answer.number;
+        return;
+    }
+    outcomes[answer.format == 0 ? READ_OPEN : answer.format == 1 ? READ_PSEUDO_BINARY : READ_FULL_ASCII]++;
+    outcomes[MENDED_0 + answer.mended]++;
+    outcomes[READ_SYNC_0 + answer.sync]++;
+    outcomes[READ_DATA_1] += answer.data_length == 1;
+    outcomes[READ_DATA_4000] += answer.data_length == 4000;
+    outcomes[READ_LONGEST] += answer.text_length == ROSOPYAT_MOST_TEXT;
+    outcomes[READ_ROOM_EXACT] += room == answer.text_length;
+    outcomes[READ_ROOM_ONE_MORE] += room == answer.text_length + 1;
+    outcomes[READ_TRAILING] += made.length > answer.used;
+}
+
+static bool reader_case(void)
+{
+    make_packet();
+    struct place packet = place_input(made.packet, made.length);
+    rosopyat_read_answer needed = independent_read(input + packet.start, packet.length, untouched + REGION, 0);
+    size_t room = some_room(needed.refusal == 8 ? needed.number : below(100));
+    struct place text = new_place(room);
+
+    rosopyat_read_answer ours = rosopyat_read(at_place(input, packet), packet.length, at_place(library_output, text), room);
+    const char *wrong = compare_input(packet);
+    rosopyat_read_answer theirs = independent_read(input + packet.start, packet.length, independent_output + text.start, room);
+    if (!wrong)
+        wrong = compare_input(packet);
+    if (!wrong && !same_read_answer(ours, theirs))
+        wrong = "the answers differ";
+    if (!wrong)
+        wrong = compare_outputs(text, ours.text_length);
+    if (!wrong && made.known) {
+        if (ours.refusal == 8 ? ours.number != made.text_length : ours.refusal != 0 || !read_as_made(ours, library_output + text.start))
+            wrong = "the packet is not read as made";
+        else
+            outcomes[MADE_AND_READ] += ours.refusal == 0;
+    }
+    if (wrong) {
+        printf("differs: reader: %s\n", wrong);
+        dump_case();
+        printf("text room %zu\n", room);
+        dump_read_answer("library    ", ours);
+        dump_read_answer("independent", theirs);
+        dump_bytes("packet", input_copy + packet.start, packet.length);
+        if (ours.text_length > 0 && ours.text_length <= room)
+            dump_bytes("text of the library", library_output + text.start, ours.text_length);
+        if (theirs.text_length > 0 && theirs.text_length <= room)
+            dump_bytes("text of the independent implementation", independent_output + text.start, theirs.text_length);
+        if (made.known)
+            dump_bytes("text as made", made_text, made.text_length);
+        return false;
+    }
+    put_back(text, ours.text_length);
+    count_reading(ours, room, needed.refusal == 7 ? made.format : 0);
+    return true;
+}
+
+/* Texts for the writer. */
+
+static size_t make_pieces(unsigned format, uint8_t *text, size_t least)
+{
+    size_t length = 0;
+    bool few = chance(30), runs = chance(3);
+    while (length < least) {
+        if (format == 0)
+            text[length++] = random_64() >> 56;
+        else if (format == 1) {
+            unsigned kind = runs ? below(2) : below(few ? 40 : 4);
+            if (kind < 2) {
+                size_t run = runs ? between(14, 64) : some_run(chance(5) ? 50 : 17);
+                memset(text + length, kind ? '/' : ' ', run);
+                length += run;
+            } else
+                for (size_t run = some_run(chance(10) ? 300 : 130); run > 0; run--)
+                    text[length++] = between(64, 127);
+        } else if (chance(few ? 3 : 30)) {
+            unsigned code = below(5);
+            if (code >= 3)
+                text[length++] = '\r';
+            text[length++] = "\t\r\n\n\n"[code];
+        } else
+            text[length++] = between(32, 126);
+    }
+    return length;
+}
+
+/* The longest part that still fits a packet, for both sides of that edge. */
+static size_t longest_part(unsigned format, const uint8_t *text, size_t length)
+{
+    size_t fits = 1, exceeds = length + 1;
+    while (exceeds - fits > 1) {
+        size_t middle = fits + (exceeds - fits) / 2;
+        if (independent_write(format, false, text, middle, untouched + REGION, 0).refusal == 11)
+            exceeds = middle;
+        else
+            fits = middle;
+    }
+    return fits;
+}
+
+static size_t make_text(unsigned format, uint8_t *text)
+{
+    unsigned dice = below(100), coded = format == 1 || format == 4 ? format : 0;
+    if (dice < 3)
+        return 0;
+    if (dice < 10) {
+        size_t length = make_pieces(coded, text, coded == 0 ? 4100 : coded == 1 && chance(20) ? 90000 : 8000);
+        size_t fits = longest_part(coded, text, length);
+        size_t part = chance(60) ? fits : chance(70) ? fits + 1 : fits + between(2, 10);
+        return part < length ? part : length;
+    }
+    if (dice < 14)
+        return make_pieces(coded, text, between(1, 20000));
+    size_t length = make_pieces(coded, text, some_length());
+    return chance(50) ? length : between(1, length);
+}
+
+static bool same_write_answer(rosopyat_write_answer a, rosopyat_write_answer b)
+{
+    return a.refusal == b.refusal && a.number == b.number && a.length == b.length;
+}
+
+static void count_writing(rosopyat_write_answer answer, size_t room, unsigned format, bool sync)
+{
+    if (answer.refusal != 0) {
+        outcomes[WRITE_REFUSED + answer.refusal]++;
+        outcomes[WRITE_ONE_SHORT] += answer.refusal == 8 && room + 1 == answer.number;
+        return;
+    }
+    outcomes[format == 0 ? WRITE_OPEN : format == 1 ? WRITE_PSEUDO_BINARY : WRITE_FULL_ASCII]++;
+    outcomes[WRITE_SYNC_1] += sync;
+    outcomes[WRITE_DATA_4000] += answer.length == 4006;
+    outcomes[WRITE_ROOM_EXACT] += room == answer.length;
+}
+
+/* Reads the library's packet back into the other output, which is put back by the caller. */
+static bool reads_back(struct place packet, size_t length, unsigned format, bool sync, const uint8_t *text, size_t text_length)
+{
+    uint8_t *back = independent_output;
+    rosopyat_read_answer answer = rosopyat_read(library_output + packet.start, length, back, REGION);
+    bool same = answer.refusal == 0 && answer.format == format && answer.sync == sync && answer.mended == 0 && answer.data_length + 6 == length &&
+                answer.used == length && answer.text_length == text_length && memcmp(back, text, text_length) == 0;
+    memcpy(back, untouched, answer.text_length);
+    return same;
+}
+
+static bool writer_case(void)
+{
+    static const uint8_t formats[] = {0, 1, 1, 1, 4, 4, 4};
+    uint8_t format = chance(3) ? random_64() >> 56 : chance(3) ? below(8) : formats[below(7)];
+    bool sync = below(2);
+    size_t length = make_text(format, made_text);
+    if (length > 0 && chance(10))
+        for (unsigned i = between(1, 3); i > 0; i--)
+            made_text[chance(20) ? length - 1 : below(length)] = chance(30) ? between(31, 33) : chance(30) ? between(126, 128) : random_64() >> 56;
+    struct place text = place_input(made_text, length);
+    rosopyat_write_answer needed = independent_write(format, sync, input + text.start, length, untouched + REGION, 0);
+    size_t room = some_room(needed.refusal == 8 ? needed.number : below(100));
+    struct place packet = new_place(room);
+
+    rosopyat_write_answer ours = rosopyat_write(format, sync, at_place(input, text), length, at_place(library_output, packet), room);
+    const char *wrong = compare_input(text);
+    rosopyat_write_answer theirs = independent_write(format, sync, input + text.start, length, independent_output + packet.start, room);
+    if (!wrong)
+        wrong = compare_input(text);
+    if (!wrong && !same_write_answer(ours, theirs))
+        wrong = "the answers differ";
+    if (!wrong)
+        wrong = compare_outputs(packet, ours.length);
+    if (wrong) {
+        printf("differs: writer: %s\n", wrong);
+        dump_case();
+        printf("format %u sync %u packet room %zu\n", format, sync, room);
+        dump_write_answer("library    ", ours);
+        dump_write_answer("independent", theirs);
+        dump_bytes("text", input_copy + text.start, length);
+        if (ours.length > 0 && ours.length <= room)
+            dump_bytes("packet of the library", library_output + packet.start, ours.length);
+        if (theirs.length > 0 && theirs.length <= room)
+            dump_bytes("packet of the independent implementation", independent_output + packet.start, theirs.length);
+        return false;
+    }
+    if (ours.refusal == 0) {
+        if (!reads_back(packet, ours.length, format, sync, input + text.start, length)) {
+            printf("differs: writer: the packet does not read back\n");
+            dump_case();
+            dump_bytes("text", input + text.start, length);
+            return false;
+        }
+        outcomes[WRITTEN_AND_READ]++;
+    }
+    put_back(packet, ours.length);
+    count_writing(ours, room, format, sync);
+    return true;
+}
+
+static void prepare(void)
+{
+    struct sigaction action = {0};
+    action.sa_handler = touched_outside;
+    sigaction(SIGSEGV, &action, NULL);
+    sigaction(SIGBUS, &action, NULL);
+    input = new_region();
+    input_copy = new_region();
+    library_output = new_region();
+    independent_output = new_region();
+    untouched = new_region();
+    state = seed;
+    random_bytes(untouched, REGION);
+    memcpy(library_output, untouched, REGION);
+    memcpy(independent_output, untouched, REGION);
+}
+
+static bool print_outcomes(bool all_meant)
+{
+    bool missing = false;
+    for (int i = 0; i < OUTCOMES; i++)
+        if (outcome_name[i]) {
+            bool never = all_meant && outcomes[i] == 0;
+            printf("%10" PRIu64 "  %s%s\n", outcomes[i], outcome_name[i], never ? ": NEVER OCCURRED" : "");
+            missing |= never;
+        }
+    printf("%10d  of the 32 types in a header\n", __builtin_popcount(types_made));
+    return !missing && (!all_meant || types_made == ~0u);
+}
+
+int main(int count, char **words)
+{
+    uint64_t cases = count > 1 ? strtoull(words[1], NULL, 10) : MEANT_CASES;
+    seed = count > 2 ? strtoull(words[2], NULL, 10) : (uint64_t)time(NULL);
+    uint64_t first = count > 3 ? strtoull(words[3], NULL, 10) : 0;
+    printf("seed %" PRIu64 ", %" PRIu64 " cases\n", seed, cases);
+    fflush(stdout);
+    prepare();
+    for (case_number = first; case_number < first + cases; case_number++) {
+        state = (seed + 1) * 0xd1342543de82ef95 + case_number * 0xaf251af3b0f025b5;
+        if (!(chance(60) ? reader_case() : writer_case()))
+            return 1;
+    }
+    bool complete = print_outcomes(cases >= MEANT_CASES);
+    printf("%" PRIu64 " cases, no difference%s\n", cases, complete ? "" : ", but an outcome never occurred");
+    return !complete;
+}

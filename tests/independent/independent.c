@@ -1,0 +1,377 @@
+#include "independent.h"
+
+#include <string.h>
+
+/* Bits of a row of bytes, numbered from the top of the first byte down. */
+
+static unsigned bit_at(const uint8_t *data, size_t at)
+{
+    return data[at / 8] >> (7 - at % 8) & 1;
+}
+
+static unsigned bits_at(const uint8_t *data, size_t at, unsigned width)
+{
+    unsigned value = 0;
+    for (unsigned i = 0; i < width; i++)
+        value = value << 1 | bit_at(data, at + i);
+    return value;
+}
+
+/* Bits are only counted when data is NULL. */
+struct bit_row {
+    uint8_t *data;
+    size_t bits;
+};
+
+static void put_bits(struct bit_row *row, unsigned value, unsigned width)
+{
+    while (width-- > 0) {
+        if (row->data) {
+            unsigned mask = 0x80u >> row->bits % 8;
+            if (value >> width & 1)
+                row->data[row->bits / 8] |= mask;
+            else
+                row->data[row->bits / 8] &= ~mask;
+        }
+        row->bits++;
+    }
+}
+
+/* The header: flag 8 bits, length 14, check 10. The low 31 bits are a multiple of the generator; the flag has an odd number of ones. */
+
+static uint32_t remainder_of(uint32_t word)
+{
+    const uint32_t generator = 0x769; /* x^10 + x^9 + x^8 + x^6 + x^5 + x^3 + 1 */
+    for (int i = 30; i >= 10; i--)
+        if (word >> i & 1)
+            word ^= generator << (i - 10);
+    return word;
+}
+
+static unsigned ones(uint32_t word)
+{
+    unsigned count = 0;
+    for (int i = 0; i < 32; i++)
+        count += word >> i & 1;
+    return count;
+}
+
+static bool valid_header(uint32_t header)
+{
+    uint32_t word = header & 0x7fffffff;
+    return remainder_of(word) == 0 && ones(header >> 24) % 2 == 1;
+}
+
+static bool mend(uint32_t received, uint32_t *header)
+{
+    *header = received;
+    if (valid_header(*header))
+        return true;
+    for (int i = 0; i < 32; i++) {
+        *header = received ^ 1u << i;
+        if (valid_header(*header))
+            return true;
+    }
+    for (int i = 0; i < 32; i++)
+        for (int j = 0; j < i; j++) {
+            *header = received ^ 1u << i ^ 1u << j;
+            if (valid_header(*header))
+                return true;
+        }
+    return false;
+}
+
+static uint16_t checksum(const uint8_t *data, size_t length)
+{
+    unsigned sum = 0xffff;
+    for (size_t i = 0; i < length; i++) {
+        sum ^= (unsigned)data[i] << 8;
+        for (int k = 0; k < 8; k++)
+            sum = sum & 0x8000 ? (sum << 1 ^ 0xd175) & 0xffff : sum << 1;
+    }
+    return sum;
+}
+
+/* Reading. A reader of data counts the characters, and writes them where text is not NULL. It answers false when the data is malformed, with the bit in
+ * *bad at which the first unreadable piece starts. */
+
+static bool at_end(const uint8_t *data, size_t bits, size_t at)
+{
+    if (bits - at > 7)
+        return false;
+    for (; at < bits; at++)
+        if (!bit_at(data, at))
+            return false;
+    return true;
+}
+
+static void put_character(uint8_t *text, size_t *count, unsigned character)
+{
+    if (text)
+        text[*count] = character;
+    ++*count;
+}
+
+static bool read_open(const uint8_t *data, size_t length, uint8_t *text, size_t *count)
+{
+    *count = 0;
+    for (size_t i = 0; i < length; i++)
+        put_character(text, count, data[i]);
+    return true;
+}
+
+static bool read_pseudo_binary(const uint8_t *data, size_t length, uint8_t *text, size_t *count, size_t *bad)
+{
+    size_t bits = 8 * length;
+    size_t at = 0;
+    *count = 0;
+    while (!at_end(data, bits, at)) {
+        *bad = at;
+        if (bit_at(data, at)) {
+            if (bits - at < 8)
+                return false;
+            unsigned run = bits_at(data, at + 1, 7) + 1;
+            at += 8;
+            for (; run > 0; run--) {
+                *bad = at;
+                if (bits - at < 6)
+                    return false;
+                put_character(text, count, 64 + bits_at(data, at, 6));
+                at += 6;
+            }
+        } else {
+            if (bits - at < 6)
+                return false;
+            unsigned run = bits_at(data, at + 2, 4) + 1;
+            for (unsigned i = 0; i < run; i++)
+                put_character(text, count, bit_at(data, at + 1) ? '/' : ' ');
+            at += 6;
+        }
+    }
+    return true;
+}
+
+static bool read_full_ascii(const uint8_t *data, size_t length, uint8_t *text, size_t *count, size_t *bad)
+{
+    size_t bits = 8 * length;
+    size_t at = 0;
+    *count = 0;
+    while (!at_end(data, bits, at)) {
+        *bad = at;
+        if (!bit_at(data, at)) {
+            if (bits - at < 6)
+                return false;
+            put_character(text, count, 32 + bits_at(data, at, 6));
+            at += 6;
+            continue;
+        }
+        if (bits - at < 7)
+            return false;
+        unsigned code = bits_at(data, at, 7);
+        if (code != 0x7f) {
+            put_character(text, count, code);
+            at += 7;
+            continue;
+        }
+        if (bits - at < 9)
+            return false;
+        switch (bits_at(data, at + 7, 2)) {
+        case 0:
+            put_character(text, count, '\t');
+            break;
+        case 1:
+            put_character(text, count, '\r');
+            break;
+        case 2:
+            put_character(text, count, '\n');
+            break;
+        case 3:
+            put_character(text, count, '\r');
+            put_character(text, count, '\n');
+            break;
+        }
+        at += 9;
+    }
+    return true;
+}
+
+static bool read_data(unsigned format, const uint8_t *data, size_t length, uint8_t *text, size_t *count, size_t *bad)
+{
+    if (format == 0)
+        return read_open(data, length, text, count);
+    if (format == 1)
+        return read_pseudo_binary(data, length, text, count, bad);
+    return read_full_ascii(data, length, text, count, bad);
+}
+
+static rosopyat_read_answer refuse_reading(uint32_t refusal, size_t number)
+{
+    rosopyat_read_answer answer = {0};
+    answer.refusal = refusal;
+    answer.number = number;
+    return answer;
+}
+
+rosopyat_read_answer independent_read(const uint8_t *packet, size_t packet_length, uint8_t *text, size_t text_room)
+{
+    if (packet_length < 4)
+        return refuse_reading(1, 0);
+    uint32_t received = (uint32_t)packet[0] << 24 | (uint32_t)packet[1] << 16 | (uint32_t)packet[2] << 8 | packet[3];
+    uint32_t header;
+    if (!mend(received, &header))
+        return refuse_reading(2, 0);
+    unsigned mended = ones(received ^ header);
+
+    unsigned flag = header >> 24;
+    unsigned type = flag >> 5 & 3, format = flag >> 2 & 7;
+    if ((flag & 1) != 0 || type != 2 || (format != 0 && format != 1 && format != 4))
+        return refuse_reading(3, 0);
+    size_t length = header >> 10 & 0x3fff;
+    if (length == 0 || length > 4000)
+        return refuse_reading(4, 0);
+    if (packet_length < length + 6)
+        return refuse_reading(5, 0);
+    const uint8_t *data = packet + 4;
+    if (checksum(data, length) != (data[length] | data[length + 1] << 8))
+        return refuse_reading(6, 0);
+
+    size_t count = 0, bad = 0;
+    if (!read_data(format, data, length, NULL, &count, &bad))
+        return refuse_reading(7, bad);
+    if (text_room < count)
+        return refuse_reading(8, count);
+    read_data(format, data, length, text, &count, &bad);
+
+    rosopyat_read_answer answer = {0};
+    answer.format = format;
+    answer.sync = flag >> 1 & 1;
+    answer.mended = mended;
+    answer.data_length = length;
+    answer.text_length = count;
+    answer.used = length + 6;
+    return answer;
+}
+
+/* Writing. */
+
+static bool has_code(unsigned format, unsigned character)
+{
+    if (format == 1)
+        return (character >= 64 && character <= 127) || character == ' ' || character == '/';
+    if (format == 4)
+        return (character >= 32 && character <= 126) || character == '\t' || character == '\r' || character == '\n';
+    return true;
+}
+
+/* Of space, slash and value: the kind of a character, and how many of it stand together, at most `most`. */
+
+static int kind_of(unsigned character)
+{
+    return character == ' ' ? 0 : character == '/' ? 1 : 2;
+}
+
+static size_t run_length(const uint8_t *text, size_t length, size_t most)
+{
+    size_t run = 0;
+    while (run < length && run < most && kind_of(text[run]) == kind_of(text[0]))
+        run++;
+    return run;
+}
+
+static void write_pseudo_binary(struct bit_row *row, const uint8_t *text, size_t length)
+{
+    size_t i = 0;
+    while (i < length) {
+        int kind = kind_of(text[i]);
+        size_t run = run_length(text + i, length - i, kind == 2 ? 128 : 16);
+        if (kind == 2) {
+            put_bits(row, 1, 1);
+            put_bits(row, run - 1, 7);
+            for (size_t k = 0; k < run; k++)
+                put_bits(row, text[i + k] & 63, 6);
+        } else {
+            put_bits(row, kind, 2);
+            put_bits(row, run - 1, 4);
+        }
+        i += run;
+    }
+}
+
+static void write_full_ascii(struct bit_row *row, const uint8_t *text, size_t length)
+{
+    for (size_t i = 0; i < length; i++) {
+        unsigned character = text[i];
+        if (character == '\t')
+            put_bits(row, 0x7f << 2 | 0, 9);
+        else if (character == '\n')
+            put_bits(row, 0x7f << 2 | 2, 9);
+        else if (character == '\r' && i + 1 < length && text[i + 1] == '\n') {
+            put_bits(row, 0x7f << 2 | 3, 9);
+            i++;
+        } else if (character == '\r')
+            put_bits(row, 0x7f << 2 | 1, 9);
+        else if (character < 64)
+            put_bits(row, character - 32, 6);
+        else
+            put_bits(row, character, 7);
+    }
+}
+
+static void write_data(unsigned format, struct bit_row *row, const uint8_t *text, size_t length)
+{
+    if (format == 1)
+        write_pseudo_binary(row, text, length);
+    else if (format == 4)
+        write_full_ascii(row, text, length);
+    else {
+        for (size_t i = 0; row->data && i < length; i++)
+            row->data[i] = text[i];
+        row->bits += 8 * length;
+    }
+    while (row->bits % 8 != 0)
+        put_bits(row, 1, 1);
+}
+
+static rosopyat_write_answer refuse_writing(uint32_t refusal, size_t number)
+{
+    rosopyat_write_answer answer = {0};
+    answer.refusal = refusal;
+    answer.number = number;
+    return answer;
+}
+
+rosopyat_write_answer independent_write(uint8_t format, bool sync, const uint8_t *text, size_t text_length, uint8_t *packet, size_t packet_room)
+{
+    if (format != 0 && format != 1 && format != 4)
+        return refuse_writing(12, 0);
+    if (text_length == 0)
+        return refuse_writing(10, 0);
+    for (size_t i = 0; i < text_length; i++)
+        if (!has_code(format, text[i]))
+            return refuse_writing(9, i);
+    struct bit_row row = {NULL, 0};
+    write_data(format, &row, text, text_length);
+    size_t length = row.bits / 8;
+    if (length > 4000)
+        return refuse_writing(11, 0);
+    if (packet_room < length + 6)
+        return refuse_writing(8, length + 6);
+
+    row.data = packet + 4;
+    row.bits = 0;
+    write_data(format, &row, text, text_length);
+    uint32_t flag = 0x40u | (uint32_t)format << 2 | (uint32_t)sync << 1;
+    if (ones(flag) % 2 == 0)
+        flag |= 0x80;
+    uint32_t header = flag << 24 | (uint32_t)length << 10;
+    header |= remainder_of(header & 0x7fffffff);
+    for (int i = 0; i < 4; i++)
+        packet[i] = header >> (24 - 8 * i);
+    uint16_t sum = checksum(packet + 4, length);
+    packet[4 + length] = sum & 0xff;
+    packet[5 + length] = sum >> 8;
+
+    rosopyat_write_answer answer = {0};
+    answer.length = length + 6;
+    return answer;
+}
