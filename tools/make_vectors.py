@@ -1,7 +1,7 @@
 #!/usr/bin/env python3
 """Writes the cases of crates/vectors (stdin) and what the program must print for them (stdout).
 
-Written from the documents alone: 01 (what is to be made) and source document 001. For the published packets of 001's section 5 (tools/section5.txt) the
+Written from the documents alone: 01 (what is to be made) and source document 001. For the published packets of 001's section 5 (tests/vectors/section5.txt) the
 expectation is the published packet and the message beside it; for the edges P1 to P15 it is the line of 01's table; for all others it is worked out
 here, in the plainest way: bits are strings of 0 and 1, a header is mended by trying every pattern of at most two bits.
 
@@ -251,7 +251,7 @@ def flipped(received, places):
 
 def published():
     """001's section 5: the packets, and the messages beside them."""
-    for section in (ROOT / "tools/section5.txt").read_text().split("\n## ")[1:]:
+    for section in (ROOT / "tests/vectors/section5.txt").read_text().split("\n## ")[1:]:
         name = section.split()[0]
         sent = bytes.fromhex("".join(re.findall(r"^packet (\w+)", section, re.M)))
         message = bytes.fromhex("".join(re.findall(r"^text (\w+)", section, re.M)))
