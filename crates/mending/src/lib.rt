@@ -34,9 +34,13 @@ fn mend_within(received: u32, limit: u32) -> Mending
     Mending::Hopeless
 }
 
-// The valid header that a received word is read as.
+// The valid header that a received word is read as: one that is nearer is sought first, since fewer wrong bits are the commoner case.
 pub fn mend(received: u32) -> Mending
     ensures { λ r. ⌜ Mends received r ⌝ }
 {
+    let nearer = mend_within(received, Mending::MOST - 1);
+    if let Mending::Mended(header, bits) = nearer {
+        return Mending::Mended(header, bits);
+    }
     mend_within(received, Mending::MOST)
 }
