@@ -1,9 +1,9 @@
 #!/usr/bin/env python3
 """Writes the cases of crates/vectors (stdin) and what the program must print for them (stdout).
 
-Written from the documents alone: 01 (what is to be made) and source document 001. For the published packets of 001's section 5 (tools/section5.txt) the
-expectation is the published packet and the message beside it; for the edges P1 to P15 it is the line of 01's table; for all others it is worked out
-here, in the plainest way: bits are strings of 0 and 1, a header is mended by trying every pattern of at most two bits.
+Written from the documents alone: 01 (what is to be made) and source document 001. For the published packets of 001's section 5
+(tools/section5.txt) the expectation is the published packet and the message beside it; for the edges P1 to P15 it is the line of 01's table; for
+all others it is worked out here, in the plainest way: bits are strings of 0 and 1, a header is mended by trying every pattern of at most two bits.
 
     python3 tools/make_vectors.py
 """
@@ -408,11 +408,13 @@ def texts():
     chosen = []
     for n in 1, 2, 15, 16, 17, 32, 33, 127, 128, 129, 256, 257:
         chosen += [(PSEUDO, character * n) for character in (b"/", b" ", b"\x7f")]
-        chosen += [(PSEUDO, b"@" * n + b"/" + b"~" * n + b" "), (ASCII, b"\r" * n + b"\n"), (ASCII, b"\r\n" * n), (ASCII, b"\t5" * n), (OPEN, b"\xff" * n)]
+        chosen += [(PSEUDO, b"@" * n + b"/" + b"~" * n + b" "), (OPEN, b"\xff" * n)]
+        chosen += [(ASCII, text) for text in (b"\r" * n + b"\n", b"\r\n" * n, b"\t5" * n)]
     letters = {OPEN: bytes(range(256)), PSEUDO: bytes(range(64, 128)) + b" / / / / / /" * 4, ASCII: bytes(range(32, 127)) + b"\t\r\n\r\n" * 6}
     for format in letters:
         for _ in range(40):
-            text = b"".join(bytes([generator.choice(letters[format])]) * generator.choice((1, 1, 1, 2, 9, 20)) for _ in range(generator.randrange(1, 24)))
+            runs = generator.randrange(1, 24)
+            text = b"".join(bytes([generator.choice(letters[format])]) * generator.choice((1, 1, 1, 2, 9, 20)) for _ in range(runs))
             chosen.append((format, text))
     for format, text in chosen:
         sync = generator.randrange(2)
