@@ -1,9 +1,9 @@
 #!/usr/bin/env python3
 """Writes the cases of crates/vectors (stdin) and what the program must print for them (stdout).
 
-Written from the documents alone: 01 (what is to be made) and source document 001. For the published packets of 001's section 5 (tests/vectors/section5.txt) the
-expectation is the published packet and the message beside it; for the edges P1 to P15 it is the line of 01's table; for all others it is worked out
-here, in the plainest way: bits are strings of 0 and 1, a header is mended by trying every pattern of at most two bits.
+Written from the documents alone: 01 (what is to be made) and source document 001. For the published packets of 001's section 5
+(tests/vectors/section5.txt) the expectation is the published packet and the message beside it; for the edges P1 to P15 it is the line of 01's table; for
+all others it is worked out here, in the plainest way: bits are strings of 0 and 1, a header is mended by trying every pattern of at most two bits.
 
     python3 tools/make_vectors.py
 """
@@ -368,23 +368,22 @@ def longest():
     """Both sides of the limits of length and room."""
     for n in 65536, 65552, 85328:
         sent = packet_of(PSEUDO, bytes_of("011111" * (n // 16)))
-        for room in 65536, n - 1, n:
+        for room in sorted({65536, n - 1, n}):
             reads(sent, room)
-    for length in 3999, 4000, 4001:
+    for length in 4000, 4001:
         reads(packet_of(OPEN, b"x" * length), 4001)
-    for format, code, each, times in (PSEUDO, "000000", 1, 5333), (ASCII, "010000", 1, 5333), (ASCII, "1000001", 1, 4571), (ASCII, "1" * 9, 2, 3555):
-        for room in each * times, each * times - 1:
-            reads(packet_of(format, bytes_of(code * times)), room)
-    for format, text in (OPEN, b"x"), (ASCII, b"0"), (ASCII, b"A"), (ASCII, b"\r\n"), (PSEUDO, b"A"):
-        most = {b"x": 4000, b"0": 5333, b"A": 4571, b"\r\n": 3555}[text] if format != PSEUDO else 5280
-        for times in most, most + 1:
-            writes(format, text * times, 4006)
-    writes(PSEUDO, b"/" * 85328, 4006)
-    writes(PSEUDO, b" " * 85329, 4006)
-    for room in 0, 4005, 4007:
-        writes(OPEN, b"x" * 4000, room)
-    writes(OPEN, b"x" * 4001, 0)  # 11 comes before 8
-    writes(ASCII, b"0" * 5334 + b"\xff", 0)  # and 9 before 11
+    for format, unit, most in (OPEN, b"x", 4000), (PSEUDO, b"A", 5277), (ASCII, b"0", 5333), (ASCII, b"A", 4571), (ASCII, b"\r\n", 3555):
+        fullest = packet_of(format, WRITE[format](unit * most))
+        assert len(fullest) == LONGEST + 6
+        for room in len(unit) * most, len(unit) * most - 1:
+            reads(fullest, room)
+        writes(format, unit * most, 4006, answer=("written 4006", 4006, fullest))
+        writes(format, unit * (most + 1), 4006, answer=("refused 11", 0, b""))
+    writes(PSEUDO, b"/" * 85328, 4006, answer=("written 4006", 4006, packet_of(PSEUDO, bytes_of("011111" * 5333))))
+    writes(PSEUDO, b" " * 85329, 4006, answer=("refused 11", 0, b""))
+    writes(OPEN, b"x" * 4000, 4005, answer=("refused 8", 4006, b""))
+    writes(OPEN, b"x" * 4001, 0, answer=("refused 11", 0, b""))  # 11 comes before 8
+    writes(ASCII, b"0" * 5334 + b"\xff", 0, answer=("refused 9", 5334, b""))  # and 9 before 11
 
 
 def writer_refusals():
@@ -407,13 +406,15 @@ def texts():
     """Texts written, and the packets read."""
     generator = random.Random(3)
     chosen = []
-    for n in 1, 2, 15, 16, 17, 31, 32, 33, 127, 128, 129, 255, 256, 257:
+    for n in 1, 2, 15, 16, 17, 32, 33, 127, 128, 129, 256, 257:
         chosen += [(PSEUDO, character * n) for character in (b"/", b" ", b"\x7f")]
-        chosen += [(PSEUDO, b"@" * n + b"/" + b"~" * n + b" "), (ASCII, b"\r" * n + b"\n"), (ASCII, b"\r\n" * n), (ASCII, b"\t5" * n), (OPEN, b"\xff" * n)]
+        chosen += [(PSEUDO, b"@" * n + b"/" + b"~" * n + b" "), (OPEN, b"\xff" * n)]
+        chosen += [(ASCII, text) for text in (b"\r" * n + b"\n", b"\r\n" * n, b"\t5" * n)]
     letters = {OPEN: bytes(range(256)), PSEUDO: bytes(range(64, 128)) + b" / / / / / /" * 4, ASCII: bytes(range(32, 127)) + b"\t\r\n\r\n" * 6}
     for format in letters:
         for _ in range(40):
-            text = b"".join(bytes([generator.choice(letters[format])]) * generator.choice((1, 1, 1, 2, 9, 20)) for _ in range(generator.randrange(1, 24)))
+            runs = generator.randrange(1, 24)
+            text = b"".join(bytes([generator.choice(letters[format])]) * generator.choice((1, 1, 1, 2, 9, 20)) for _ in range(runs))
             chosen.append((format, text))
     for format, text in chosen:
         sync = generator.randrange(2)

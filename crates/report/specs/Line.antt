@@ -1,5 +1,5 @@
--- The line of an answer (01, "Both sides of each edge"): `ok`, format, sync, bits mended, data length and text length, in decimal and parted by single
--- spaces; or `refused` and the refusal number, without the number that comes with it.
+-- The line of an answer (01, "Both sides of each edge"): `ok`, format, sync, bits mended, data length and text length, in decimal and parted by
+-- single spaces; or `refused` and the refusal number, without the number that comes with it.
 -- Assumes nothing.
 use mathlib.Core.Bool.{cond}
 use mathlib.Core.List.{List, [], _∷_, _++_}

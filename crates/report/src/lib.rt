@@ -1,8 +1,6 @@
 // The line that the reading program prints of a packet.
 use header::Header;
 use packet::ReadAnswer;
-ghost use mathlib.Core.Path.{_≡_};
-ghost use mathlib.Core.List.{List, [], _∷_};
 ghost use Prim.Native.Nat.{_+_, _≤_};
 ghost use lib.ListN.{length};
 ghost use Rattle.report.specs.Line.{decimal, spaced, line as lineWith, lineOf, room, Puts, Fronts};

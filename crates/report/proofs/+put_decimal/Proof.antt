@@ -49,12 +49,10 @@ module _ (t : ℕ) where
 
   put-decimal-requires : put-decimal-lts.Need-put-decimal-requires (below t, put-decimal.Post) (at-most t) put-decimal.Post
   put-decimal-requires c κs =
-      let a = c .before .before .before .args in (
-        omega (arith, c .before .before .before .pre .0, c .before .if1 .left),
-        omega (
-          arith,
-          tenth-held (a .n) (c .before .before .before .fits .n .fits) (c .before .if1 .left) (a .out .now) (a .at) (c .before .before .before .pre .1),
-        ),
+      let s = c .before .before .before in
+      let a = s .args in (
+        omega (arith, s .pre .0, c .before .if1 .left),
+        omega (arith, tenth-held (a .n) (s .fits .n .fits) (c .before .if1 .left) (a .out .now) (a .at) (s .pre .1)),
       )
 
   cast-out-2 : put-decimal-lts.Need-cast-out-2 (below t, put-decimal.Post) (at-most t) put-decimal.Post
@@ -66,7 +64,8 @@ module _ (t : ℕ) where
   -- behind what a tenth of the number is, its last digit
   last-digit : (c : put-decimal-lts.After-slice-known2 (below t, put-decimal.Post) (at-most t) put-decimal.Post)
       → (c .before .before .put-decimal .result < length (c .before .before .put-decimal .last .1 .0))
-      × Puts (decimal (c .before .before .before .before .before .before .args .n)) (c .before .before .before .before .before .before .args .out .now)
+      × Puts (decimal (c .before .before .before .before .before .before .args .n))
+      (c .before .before .before .before .before .before .args .out .now)
       (set (c .before .before .put-decimal .last .1 .0) (c .before .before .put-decimal .result)
       (digit (c .before .before .before .before .before .before .args .n % 10))) (c .before .before .before .before .before .before .args .at)
       (c .before .before .put-decimal .result + 1)

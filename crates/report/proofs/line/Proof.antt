@@ -36,7 +36,8 @@ slice-aggregate-put-line-2 : tie.Need-slice-aggregate-put-line-2
 slice-aggregate-put-line-2 c = search needs
 
 put-line-requires : tie.Need-put-line-requires
-put-line-requires c κs = le-trans (line-within _ _) (omega (arith, c .before .before .before .before .before .before .before .before .before .before .pre))
+put-line-requires c κs =
+    le-trans (line-within _ _) (omega (arith, c .before .before .before .before .before .before .before .before .before .before .pre))
 
 enum-known-answer-2 : tie.Need-enum-known-answer-2
 enum-known-answer-2 c = search needs
@@ -65,10 +66,11 @@ returns c =
     let start = read .before .before .before in
     let put = c .before .before .put-line in
     let reading = read .answer .given .0 .0 in
+    let synced = c .before .before .before .before .before .before .before in
     subst (λ (l : List ℕ). Fronts l (start .args .out .now) (put .last .1 .1 .0) (put .result))
     (ap₂
     (λ (format sync : ℕ). line ok (format ∷ sync ∷ reading .mended ∷ reading .«data_length» ∷ reading .«text_length» ∷ []))
-    (c .before .before .before .before .before .before .before .before .number .ensures) (c .before .before .before .before .before .before .before .one-if .ensures)
+    (synced .before .number .ensures) (synced .one-if .ensures)
     ∙ sym (ap lineOf (read .answer .given .1)))
     (put .ensures)
 
@@ -81,7 +83,8 @@ returns-2 c =
     let start = read .before .before .before in
     let put = c .before .before .put-line2 in
     subst (λ (l : List ℕ). Fronts l (start .args .out .now) (put .last .1 .1 .0) (put .result))
-    (ap (λ (number : ℕ). line refused (number ∷ [])) (c .before .before .before .before .before .number2 .ensures) ∙ sym (ap lineOf (read .answer2 .given .1)))
+    (ap (λ (number : ℕ). line refused (number ∷ [])) (c .before .before .before .before .before .number2 .ensures)
+    ∙ sym (ap lineOf (read .answer2 .given .1)))
     (put .ensures)
 
 pub line-spec : {M : Type 1} → statement M
