@@ -1,8 +1,8 @@
 -- Laws of the exclusive or that the kit lacks: it is associative, undoes itself, and is zero only of equal numbers.
 -- Assumes nothing.
-use mathlib.Core.Path.{_≡_, refl, sym, ap, ap₂, _∙_, subst}
-use Prim.Native.Nat.{ℕ, zero, suc, _+_, _*_, _/_, _%_, _^_, _≤_, _<_, zero-le}
-use native.Mathlib.Nat.{mod-lt, zero-lt-suc, zero-mul, one-mul, le-of-eq}
+use mathlib.Core.Path.{_≡_, refl, sym, ap, ap₂, _∙_}
+use Prim.Native.Nat.{ℕ, zero, suc, _+_, _*_, _/_, _%_, _^_, _<_}
+use native.Mathlib.Nat.{mod-lt, zero-lt-suc, zero-mul}
 use native.Mathlib.Omega.{arith}
 use mathlib.Core.Logic.{_⊎_, inl, inr, ⊎-elim}
 use lib.Arith.{bin-ind, digits-div, digits-mod}
@@ -85,11 +85,3 @@ xor-digits (suc zero) zero g hx hy = ap (bitXor (1 * g)) (zero-mul g) ∙ xor-ze
 xor-digits (suc zero) (suc zero) g hx hy = xor-self (1 * g) ∙ sym (zero-mul g)
 xor-digits (suc zero) (suc (suc y)) g hx hy = absurd (let no : ⊥ = omega arith in no)
 xor-digits (suc (suc x)) y g hx hy = absurd (let no : ⊥ = omega arith in no)
-
--- a digit times a number is at most the number
-pub digit-times : (n g : ℕ) → n % 2 * g ≤ g
-digit-times n g = pick (digit-of n)
-  where
-    pick : (n % 2 ≡ 0) ⊎ (n % 2 ≡ 1) → n % 2 * g ≤ g
-    pick (inl e) = subst (λ (x : ℕ). x * g ≤ g) (sym e) (subst (λ (x : ℕ). x ≤ g) (sym (zero-mul g)) zero-le)
-    pick (inr e) = subst (λ (x : ℕ). x * g ≤ g) (sym e) (le-of-eq (one-mul g))

@@ -3,10 +3,7 @@
 use mathlib.Core.Bool.{Bool, true, false, not}
 use mathlib.Core.List.{List, [], _∷_, _++_}
 use mathlib.Core.Path.{_≡_, refl, sym, subst}
-use mathlib.Core.Logic.{_⊎_, inl, inr, ⊎-elim}
 use Prim.Native.Nat.{ℕ, zero, suc, _+_, _*_, _%_, _^_, _<_, _≤_}
-use native.Mathlib.Omega.{arith}
-use native.Mathlib.Nat.{eq-or-lt-of-le, le-of-suc-le-suc}
 use lib.Bits.{bitXor, xor-lt}
 use lib.Count.{onesIn}
 use borrow.Author.Tests.{eqb-false}
@@ -22,6 +19,7 @@ use Rattle.header.specs.Flag.{Odd, flagBits, spareIn, syncIn, extendedIn, messa
 use Rattle.header.specs.Valid.{Valid, flagIn, lengthIn, checkIn, informationIn}
 use Rattle.header.specs.Fields.{fieldsIn, headerOf, lowFlag, bytesOf}
 use Rattle.mending.specs.Mends.{distance, Near}
+use Rattle.mending.proofs.All.{all, all-at}
 use Rattle.mending.proofs.Search.{none-at, none-around}
 use Rattle.codes.specs.Chain.{after, codes}
 use Rattle.codes.specs.Pack.{low, numbers, value, bytes, packed, gap, filled, written}
@@ -56,18 +54,6 @@ valid-test h v =
     both-in (eqb (onesIn 8 (flagIn h) % 2) 1) (eqb (checkIn h) (checkOf (informationIn h)))
     (subst (λ (n : ℕ). T (eqb n 1)) (sym (v .parity)) tt)
     (subst (λ (n : ℕ). T (eqb (checkIn h) n)) (v .checked) (eqb-refl (checkIn h)))
-
--- the test passes at all number below k
-all : (ℕ → Bool) → ℕ → Bool
-all f zero = true
-all f (suc k) = both (f k) (all f k)
-
-all-at : (f : ℕ → Bool) (k : ℕ) → T (all f k) → (i : ℕ) → i < k → T (f i)
-unfolding all
-all-at f zero t i h = absurd (let no : ⊥ = omega arith in no)
-all-at f (suc k) t i h =
-    ⊎-elim (λ e. subst (λ (n : ℕ). T (f n)) (sym e) (both-left (f k) (all f k) t)) (λ lt. all-at f k (both-right (f k) (all f k) t) i lt)
-    (eq-or-lt-of-le (le-of-suc-le-suc h))
 
 -- no valid header within so many bits
 none : ℕ → ℕ → Bool

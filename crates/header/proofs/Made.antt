@@ -45,7 +45,11 @@ evens n = pick (digit-of n)
     pick (inl e) = omega arith
     pick (inr e) = omega arith
 
-parity-odd : (low : ℕ) → low < 2 ^ 7 → Odd (parityFor low * 2 ^ 7 + low)
+pub parity-lt : (low : ℕ) → parityFor low < 2
+unfolding parityFor
+parity-lt low = mod-lt (onesIn 7 low + 1) (zero-lt-suc 1)
+
+pub parity-odd : (low : ℕ) → low < 2 ^ 7 → Odd (parityFor low * 2 ^ 7 + low)
 unfolding Odd parityFor
 parity-odd low h =
     let p : (onesIn 7 low + 1) % 2 < 2 = mod-lt (onesIn 7 low + 1) (zero-lt-suc 1) in
@@ -212,17 +216,21 @@ valid-made h v =
     whole : flagIn h * 2 ^ 24 + lengthIn h * 2 ^ 10 + checkIn h ≡ h
     whole = three h
 
--- the parity bit tells nothing that the others do not: two valid headers that agree in those are the same
-pub valid-low : (v w : ℕ) → Valid v → Valid w → v % 2 ^ 31 ≡ w % 2 ^ 31 → v ≡ w
+-- the parity bit tells nothing that the others do not: two words of right parity that agree in those are the same
+pub one-parity : (v w : ℕ) → v < 2 ^ 32 → w < 2 ^ 32 → Odd (flagIn v) → Odd (flagIn w) → v % 2 ^ 31 ≡ w % 2 ^ 31 → v ≡ w
 unfolding flagIn
-valid-low v w hv hw e =
+one-parity v w hv hw ov ow e =
     sym (split v 24)
     ∙ ap₂ (λ (x y : ℕ). x * 2 ^ 24 + y)
-    (sym (parity-back (v / 2 ^ 24) (flag-in-lt v (hv .bits)) (hv .parity))
+    (sym (parity-back (v / 2 ^ 24) (flag-in-lt v hv) ov)
     ∙ ap (λ (n : ℕ). parityFor n * 2 ^ 7 + n) (sym (field v 7 24) ∙ ap (λ (n : ℕ). n / 2 ^ 24) e ∙ field w 7 24)
-    ∙ parity-back (w / 2 ^ 24) (flag-in-lt w (hw .bits)) (hw .parity))
+    ∙ parity-back (w / 2 ^ 24) (flag-in-lt w hw) ow)
     (sym (mod-mod-pow v 7 24) ∙ ap (λ (n : ℕ). n % 2 ^ 24) e ∙ mod-mod-pow w 7 24)
     ∙ split w 24
+
+-- so two valid headers
+pub valid-low : (v w : ℕ) → Valid v → Valid w → v % 2 ^ 31 ≡ w % 2 ^ 31 → v ≡ w
+valid-low v w hv hw = one-parity v w (hv .bits) (hw .bits) (hv .parity) (hw .parity)
 
 -- ---- four bytes
 

@@ -1,11 +1,11 @@
-// The header of a packet: its fields, its check bits, and whether 32 bits are a valid one (001, 3.1 and 3.2).
+// The header of a packet: its fields, its check bits and its parity (001, 3.1 and 3.2).
 ghost use mathlib.Core.Path.{_≡_};
-ghost use Prim.Native.Nat.{_<_, _^_};
-ghost use Rattle.bits.specs.Says.{Says};
-ghost use Rattle.header.specs.Check.{checkOf};
+ghost use Prim.Native.Nat.{_/_, _%_, _^_, _<_};
+ghost use Rattle.header.specs.Check.{checkOf, remainder};
 ghost use Rattle.header.specs.Fields.{fieldsIn, headerOf, sentFields, Fit, lowFlag, oneIf, wordOf};
+ghost use Rattle.header.specs.Flag.{Odd, parityFor};
 ghost use Rattle.header.specs.Typed.{formatNumber, Names, Types};
-ghost use Rattle.header.specs.Valid.{Valid};
+ghost use Rattle.header.specs.Valid.{flagIn, differenceIn};
 
 // The formats that we read and write.
 pub enum Format {
@@ -130,7 +130,7 @@ impl Header {
     {
         let low = self.low_flag();
         let length = self.length as u32;
-        let flag = (u32::count_ones(low) + 1) % 2 * 128 + low;
+        let flag = parity_for(low) * 128 + low;
         flag * 0x100_0000 + length * 1024 + check_bits(low * 16384 + length)
     }
 }
@@ -142,29 +142,65 @@ pub fn one_if(set: bool) -> u32
     if set { 1 } else { 0 }
 }
 
-// The check bits: the remainder of a long division.
+// The parity bit of a flag: 1 where the seven bits below it have an even number of ones.
+fn parity_for(low: u32) -> u32
+    requires { ⌜ low < 2 ^ 7 ⌝ }
+    ensures { λ r. ⌜ r ≡ parityFor low ⌝ }
+{
+    (u32::count_ones(low) + 1) % 2
+}
+
+// The multiple of the generator whose coefficients from x^10 up are these four bits.
+fn multiple_for(top: u32) -> u32
+    requires { ⌜ top < 16 ⌝ }
+    ensures { λ r. ⌜ (r / 2 ^ 10 ≡ top) × (remainder 4 r ≡ 0) ⌝ }
+{
+    match top {
+        0 => 0,
+        1 => Header::GENERATOR,
+        2 => 0x9bb,
+        3 => 0xed2,
+        4 => 0x1376,
+        5 => 0x141f,
+        6 => 0x1acd,
+        7 => 0x1da4,
+        8 => 0x2185,
+        9 => 0x26ec,
+        10 => 0x283e,
+        11 => 0x2f57,
+        12 => 0x32f3,
+        13 => 0x359a,
+        14 => 0x3b48,
+        _ => 0x3c21,
+    }
+}
+
+// The check bits: the remainder of a long division, four coefficients of the quotient at a time.
 fn check_bits(information: u32) -> u32
     requires { ⌜ information < 2 ^ 21 ⌝ }
     ensures { λ r. ⌜ r ≡ checkOf information ⌝ }
 {
     let mut left: u32 = information << 10;
-    let mut power: u32 = 21;
+    let mut power: u32 = 24;
     while 0 < power {
-        power -= 1;
-        left ^= (left >> (power + 10)) % 2 * (Header::GENERATOR << power);
+        power -= 4;
+        left ^= multiple_for((left >> (power + 10)) % 16) << power;
     }
     left
 }
 
-// Whether 32 bits are a valid header.
-pub fn is_valid(word: u32) -> bool
-    ensures { λ r. ⌜ Says r (Valid word) ⌝ }
+// In which check bits those that the information bits ask for and those that came differ: 0 where they are the same.
+pub fn difference(word: u32) -> u32
+    ensures { λ r. ⌜ r ≡ differenceIn word ⌝ }
 {
-    let flag = word / 0x100_0000;
-    if u32::count_ones(flag) % 2 == 0 {
-        return false;
-    }
-    check_bits(word / 1024 % 0x20_0000) == word % 1024
+    check_bits(word / 1024 % 0x20_0000) ^ (word % 1024)
+}
+
+// The word with the parity bit that its flag asks for, all other bits as they are.
+pub fn with_parity(word: u32) -> u32
+    ensures { λ r. ⌜ (Odd (flagIn r)) × (r % 2 ^ 31 ≡ word % 2 ^ 31) ⌝ }
+{
+    parity_for(word / 0x100_0000 % 128) * 0x8000_0000 + word % 0x8000_0000
 }
 
 // The 32 bits of four bytes, the first byte at the top.

@@ -6,7 +6,7 @@ use mathlib.Core.Bool.{Bool, true, not}
 use mathlib.Core.List.{List, [], _∷_}
 use mathlib.Core.Logic.{_⊎_, inl, inr}
 use Prim.Native.Nat.{ℕ, zero, suc, _+_, _*_, _/_, _%_, _^_, _≤_, _<_}
-use native.Mathlib.Nat.{zero-lt-suc, mod-lt, mod-eq-of-lt, pow-suc, one-mul, zero-mul, zero-add, add-comm}
+use native.Mathlib.Nat.{mod-lt, one-mul, zero-mul, zero-add, add-comm}
 use native.Mathlib.Decide.{decLe}
 use native.Mathlib.Numerals.{add-one}
 use native.Mathlib.Omega.{arith}
@@ -20,19 +20,16 @@ use Rattle.bits.proofs.Said.{both, both-left, both-right}
 use Rattle.bits.proofs.Xor.{digit, xor-undo, xor-zero}
 use Rattle.bits.proofs.Ones.{ones-split, ones-low, no-ones}
 use Rattle.header.specs.Check.{remainder, checkOf}
-use Rattle.header.specs.Valid.{Valid, checkIn, informationIn}
+use Rattle.header.specs.Valid.{Valid, checkIn, informationIn, differenceIn}
 use Rattle.header.proofs.Division.{remainder-sum, longer}
 use Rattle.header.proofs.Made.{valid-low, information-in}
 use Rattle.mending.specs.Mends.{distance}
-
--- what 31 bits leave: nothing, where they are the information and the check of a header
-left : ℕ → ℕ
-left = remainder 21
+use Rattle.mending.specs.Repair.{left}
 
 -- ---- the walk
 
 -- what each single bit below 2^k leaves, the highest first
-columns : ℕ → List ℕ
+unfoldable pub columns : ℕ → List ℕ
 columns zero = []
 columns (suc k) = left (2 ^ k) ∷ columns k
 
@@ -54,7 +51,7 @@ four-alone = tt
 
 -- ---- what the walk says of numbers
 
-left-nothing : left 0 ≡ 0
+pub left-nothing : left 0 ≡ 0
 unfolding left remainder Rattle.header.specs.Check.generator
 left-nothing = refl
 
@@ -69,7 +66,7 @@ record Upper (k e : ℕ) : Type 0 where
   leaves : left e ≡ bitXor (left (2 ^ k)) (left rest)
   ones : onesIn (suc k) e ≡ suc (onesIn k rest)
 
-ones-top : (k e : ℕ) → onesIn (suc k) e ≡ onesIn k e + e / 2 ^ k % 2
+pub ones-top : (k e : ℕ) → onesIn (suc k) e ≡ onesIn k e + e / 2 ^ k % 2
 unfolding onesIn
 ones-top k e =
     ap (λ (n : ℕ). onesIn n e) (sym (add-one k)) ∙ ones-split k 1 e
@@ -146,7 +143,7 @@ alone-law (suc k) w e t h o l = alone-step k (alone-law k) w e t h o l (halves k
 
 -- ---- two valid headers
 
-left-sum : (p q : ℕ) → left (bitXor p q) ≡ bitXor (left p) (left q)
+pub left-sum : (p q : ℕ) → left (bitXor p q) ≡ bitXor (left p) (left q)
 unfolding left
 left-sum = remainder-sum 21
 
@@ -154,19 +151,24 @@ no-steps : (p : ℕ) → remainder 0 p ≡ p
 unfolding remainder
 no-steps p = refl
 
--- the information and the check of a valid header leave nothing
-valid-left : (h : ℕ) → Valid h → left (h % 2 ^ 31) ≡ 0
-unfolding left checkIn checkOf
-valid-left h v =
+-- the 31 bits below the parity leave the difference between the check bits asked for and those that came
+pub left-difference : (h : ℕ) → left (h % 2 ^ 31) ≡ differenceIn h
+unfolding left differenceIn checkIn checkOf
+left-difference h =
     ap (remainder 21)
     (mod-pow-add h 21 10 ∙ sym (xor-shifted (h / 2 ^ 10 % 2 ^ 21) 10 (h % 2 ^ 10) (mod-lt h (pow-pos 10))))
     ∙ remainder-sum 21 (h / 2 ^ 10 % 2 ^ 21 * 2 ^ 10) (h % 2 ^ 10)
     ∙ ap₂ bitXor
-    (ap (λ (n : ℕ). remainder 21 (n * 2 ^ 10)) (sym (information-in h)) ∙ sym (v .checked))
+    (ap (λ (n : ℕ). remainder 21 (n * 2 ^ 10)) (sym (information-in h)))
     (longer 0 21 (h % 2 ^ 10) (mod-lt h (pow-pos 10)) (lit≤ tt) ∙ no-steps (h % 2 ^ 10))
-    ∙ xor-self (h % 2 ^ 10)
 
-low-apart : (v w : ℕ) → Valid v → Valid w → onesIn 31 (bitXor v w) ≤ 4 → v ≡ w
+-- so those of a valid header leave nothing
+pub valid-left : (h : ℕ) → Valid h → left (h % 2 ^ 31) ≡ 0
+unfolding differenceIn
+valid-left h v = left-difference h ∙ ap (bitXor (checkOf (informationIn h))) (v .checked) ∙ xor-self (checkOf (informationIn h))
+
+-- at most four of the 31 bits apart, two valid headers are the same
+pub low-apart : (v w : ℕ) → Valid v → Valid w → onesIn 31 (bitXor v w) ≤ 4 → v ≡ w
 low-apart v w hv hw few = valid-low v w hv hw (xor-zero (v % 2 ^ 31) (w % 2 ^ 31) none)
   where
     parts : bitXor v w % 2 ^ 31 ≡ bitXor (v % 2 ^ 31) (w % 2 ^ 31)

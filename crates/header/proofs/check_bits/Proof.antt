@@ -1,73 +1,107 @@
 -- `header::check_bits` meets its contract: what the steps still to come leave of the number is what all of them leave of the information.
 -- Assumes nothing.
-use mathlib.Core.Path.{_≡_, ap, _∙_, subst}
-use Prim.Native.Nat.{ℕ, suc, _+_, _-_, _*_, _/_, _%_, _^_, _≤_, _<_}
+use mathlib.Core.Path.{_≡_, refl, sym, _∙_, subst}
+use Prim.Native.Nat.{ℕ, _+_, _-_, _*_, _/_, _%_, _^_, _≤_, _<_}
 use native.Mathlib.Omega.{arith}
-use native.Mathlib.Nat.{lt-of-le-of-lt, mod-lt}
-use lib.Bits.{bitXor}
-use lib.Dec.{lit<, lit≤}
-use lib.Pow.{shl-exact, pow-pos}
-use Rattle.bits.proofs.Xor.{digit-times}
-use Rattle.header.specs.Check.{generator, remainder, checkOf}
+use native.Mathlib.Nat.{lt-of-lt-of-le, mod-eq-of-lt}
+use lib.Bits.{bitXor, xor-lt}
+use lib.Dec.{lit≤}
+use lib.Pow.{shl-exact, shl-lt, shr-mod, pow-mono}
+use Rattle.bits.proofs.Xor.{xor-undo}
+use Rattle.header.specs.Check.{remainder, checkOf}
+use Rattle.header.proofs.Division.{longer, taken, taken-lt}
 use Rattle.header.proofs.check_bits.Statement.{statement}
 use Rattle.header.proofs.check_bits.Tie as tie
 
--- the shift that makes the generator times x^k loses nothing, so a turn of the loop is a step of the division
-turn : (k left r : ℕ) → k ≤ 20 → remainder (suc k) left ≡ r
-    → remainder k (bitXor left (left / 2 ^ (k + 10) % 2 * (1897 * 2 ^ k % 2 ^ 32))) ≡ r
-unfolding remainder generator
-turn k left r le e =
-    ap (λ (n : ℕ). remainder k (bitXor left (left / 2 ^ (k + 10) % 2 * n)))
-    (shl-exact 11 k 32 (lit< tt) (let fits : 11 + k ≤ 32 = omega arith in fits))
-    ∙ e
+-- the number is one of 31 bits, none of its coefficients from x^(power + 10) up is left, and the steps below leave r
+abbrev Dividing : ℕ → ℕ → ℕ → Type 0
+Dividing r power left = (left < 2 ^ 31) × ((left < 2 ^ (power + 10)) × (remainder power left ≡ r))
+
+-- more steps than the number has coefficients above x^10 leave the same
+begin : (information power : ℕ) → information < 2 ^ 21 → 21 ≤ power → Dividing (checkOf information) power (information * 2 ^ 10 % 2 ^ 32)
+unfolding checkOf
+begin information power h le =
+    let low : information * 2 ^ 10 < 2 ^ 31 = shl-lt 21 10 h in
+    subst (Dividing (checkOf information) power) (sym (shl-exact 21 10 32 h (lit≤ tt))) (
+      low,
+      (
+        lt-of-lt-of-le low (pow-mono {i = 31} (let up : 31 ≤ power + 10 = omega arith in up)),
+        longer 21 power (information * 2 ^ 10) low le,
+      ),
+    )
+
+-- the shift that makes the multiple times x^k loses nothing, so a turn of the loop is four steps of the division
+turn : (r k left m : ℕ) → k ≤ 20 → (m / 2 ^ 10 ≡ left / 2 ^ (k + 10) % 16) × (remainder 4 m ≡ 0) → Dividing r (k + 4) left
+    → Dividing r k (bitXor left (m * 2 ^ k % 2 ^ 32))
+turn r k left m le multiple state = subst (λ (n : ℕ). Dividing r k (bitXor left n)) (sym exact) (low, (below, left-over))
+  where
+    top : m / 2 ^ 10 ≡ left / 2 ^ (k + 10)
+    top =
+        multiple .0
+        ∙ shr-mod 4 (k + 10) (subst (λ (n : ℕ). left < 2 ^ n) (let e : k + 4 + 10 ≡ 4 + (k + 10) = omega arith in e) (state .1 .0))
+
+    below : bitXor left (m * 2 ^ k) < 2 ^ (k + 10)
+    below = taken-lt k left m top
+
+    low : bitXor left (m * 2 ^ k) < 2 ^ 31
+    low = lt-of-lt-of-le below (pow-mono (let small : k + 10 ≤ 31 = omega arith in small))
+
+    fits : m * 2 ^ k < 2 ^ 31
+    fits = subst (λ (n : ℕ). n < 2 ^ 31) (xor-undo left (m * 2 ^ k)) (xor-lt 31 left (bitXor left (m * 2 ^ k)) (state .0) low)
+
+    exact : m * 2 ^ k % 2 ^ 32 ≡ m * 2 ^ k
+    exact = mod-eq-of-lt (lt-of-lt-of-le fits (lit≤ tt))
+
+    left-over : remainder k (bitXor left (m * 2 ^ k)) ≡ r
+    left-over = sym (taken k 4 left m top (multiple .1)) ∙ state .1 .1
 
 abbrev Inv-loop : tie.InvT-loop
-Inv-loop information left₀ power₀ left power = (power ≤ 21) × (remainder power left ≡ checkOf information)
+Inv-loop information left₀ power₀ left power = (power ≤ 24) × ((power % 4 ≡ 0) × Dividing (checkOf information) power left)
 
 abbrev μ-loop : tie.MeasureT-loop
 μ-loop information left₀ power₀ left power = power
 
 loop-holds : tie.Need-loop-holds Inv-loop μ-loop
-unfolding checkOf
-loop-holds c = (lit≤ tt, ap (remainder 21) (shl-exact 21 10 32 (c .pre) (lit≤ tt)))
+loop-holds c = (lit≤ tt, (refl, begin (c .args .information) _ (c .pre) (lit≤ tt)))
 
 sub-power : tie.Need-sub-power Inv-loop μ-loop
 sub-power c = omega arith
 
-add-left : tie.Need-add-left Inv-loop μ-loop
-add-left c = omega arith
+add-multiple-for : tie.Need-add-multiple-for Inv-loop μ-loop
+add-multiple-for c = omega arith
 
-shr-left : tie.Need-shr-left Inv-loop μ-loop
-shr-left c = omega arith
+shr-multiple-for : tie.Need-shr-multiple-for Inv-loop μ-loop
+shr-multiple-for c = omega arith
+
+multiple-for-requires : tie.Need-multiple-for-requires Inv-loop μ-loop
+multiple-for-requires c κs = omega arith
 
 shl-left : tie.Need-shl-left Inv-loop μ-loop
 shl-left c = omega arith
-
-mul-left : tie.Need-mul-left Inv-loop μ-loop
-mul-left c =
-    record {
-      fits =
-          lt-of-le-of-lt (digit-times (c .before .loop .left / 2 ^ (c .before .loop .power - 1 + 10)) (1897 * 2 ^ (c .before .loop .power - 1) % 2 ^ 32))
-          (mod-lt (1897 * 2 ^ (c .before .loop .power - 1)) (pow-pos 32));
-    }
 
 loop-less : tie.Need-loop-less Inv-loop μ-loop
 loop-less c = omega arith
 
 loop-again : tie.Need-loop-again Inv-loop μ-loop
 loop-again c =
-    let power = c .before .loop .power in
-    let down : power ≡ suc (power - 1) = omega arith in (
+    let power = c .before .before .loop .power in
+    let left = c .before .before .loop .left in
+    let r = checkOf (c .before .before .before .args .information) in
+    let down : power ≡ power - 4 + 4 = omega arith in (
       omega arith,
-      turn (power - 1) (c .before .loop .left) (checkOf (c .before .before .args .information)) (omega arith)
-          (subst (λ (n : ℕ). remainder n (c .before .loop .left) ≡ checkOf (c .before .before .args .information)) down (c .before .loop .inv .1)),
+      (
+        omega arith,
+        turn r (power - 4) left (c .multiple-for .result) (omega arith)
+            (omega (arith, c .multiple-for .ensures .0), c .multiple-for .ensures .1)
+            (subst (λ (n : ℕ). Dividing r n left) down (c .before .before .loop .inv .1 .1)),
+      ),
     )
 
 returns : tie.Need-returns Inv-loop μ-loop
 unfolding remainder
 returns c =
     let none : c .before .loop .power ≡ 0 = omega arith in
-    subst (λ (n : ℕ). remainder n (c .before .loop .left) ≡ checkOf (c .before .before .args .information)) none (c .before .loop .inv .1)
+    subst (λ (n : ℕ). remainder n (c .before .loop .left) ≡ checkOf (c .before .before .args .information)) none (c .before .loop .inv .1 .1 .1 .1)
 
 pub check-bits-spec : {M : Type 1} → statement M
 check-bits-spec =
@@ -77,10 +111,10 @@ check-bits-spec =
     μ-loop
     loop-holds
     sub-power
-    add-left
-    shr-left
+    add-multiple-for
+    shr-multiple-for
+    multiple-for-requires
     shl-left
-    mul-left
     loop-less
     loop-again
     returns)

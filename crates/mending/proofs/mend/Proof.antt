@@ -1,45 +1,72 @@
--- `mending::mend` meets its contract: what is at most one bit away is at most two away.
+-- `mending::mend` meets its contract: with the bits turned over that account for its difference and the parity set, the word is a valid header, and where
+-- that is more than two bits away, none is within two.
 -- Assumes nothing.
-use mathlib.Core.Path.{subst}
+use mathlib.Core.Path.{_≡_}
 use native.Mathlib.Omega.{arith}
 use borrow.Author.Needs.{needs}
-use Rattle.mending.specs.Mends.{MendsWithin}
+use lib.Bits.{bitXor}
+use lib.Count.{ones}
+use Rattle.mending.specs.Mends.{distance}
+use Rattle.mending.proofs.Turned.{difference-lt, counted, Turned, turned-valid, none-nearer, repaired, unrepaired}
 use Rattle.mending.proofs.mend.Statement.{statement}
 use Rattle.mending.proofs.mend.Tie as tie
 
-sub-mend-within : tie.Need-sub-mend-within
-sub-mend-within c = search needs
+difference-requires : tie.Need-difference-requires
+difference-requires c κs = search needs
 
-mend-within-requires : tie.Need-mend-within-requires
-mend-within-requires c κs = search needs
+repair-requires : tie.Need-repair-requires
+repair-requires c κs = omega (arith, c .difference .ensures, difference-lt (c .before .args .received))
 
-enum-known-nearer : tie.Need-enum-known-nearer
-enum-known-nearer c = search needs
-
-returns : tie.Need-returns
-returns c =
-    let near = c .before .nearer .given in
-    let m = c .before .before .before in
-    let within = subst (MendsWithin 1 (m .before .args .received)) (near .1) (m .mend-within .ensures) in
-    (record { valid = within .0 .valid; near = omega (arith, within .0 .near) }, within .1)
+enum-known-mask : tie.Need-enum-known-mask
+enum-known-mask c = search needs
 
 enum-told : tie.Need-enum-told
 enum-told c = search needs
 
-mend-within-requires-2 : tie.Need-mend-within-requires-2
-mend-within-requires-2 c κs = search needs
+returns : tie.Need-returns
+returns c =
+    let r = c .before .before in
+    unrepaired (r .before .before .args .received) (r .before .difference .result) (r .repair .result) (r .before .difference .ensures) (r .repair .ensures)
+    (c .enum-told .given .1)
+
+with-parity-requires : tie.Need-with-parity-requires
+with-parity-requires c κs = search needs
+
+-- what is done to the word
+turned : (c : tie.After-with-parity) → Turned (c .before .before .before .before .before .before .args .received) (c .before .before .mask .given .0 .0) (c .with-parity .result)
+turned c =
+    let m = c .before .before in
+    let r = m .before .before in
+    record {
+      account =
+          repaired (r .before .before .args .received) (r .before .difference .result) (m .mask .given .0 .0) (r .repair .result) (r .before .difference .ensures)
+          (r .repair .ensures) (m .mask .given .1);
+      bits = omega arith;
+      odd = c .with-parity .ensures .0;
+      low = c .with-parity .ensures .1;
+    }
+
+-- and in how many bits
+far : (c : tie.After-with-parity)
+    → ones (bitXor (c .before .before .before .before .before .before .args .received) (c .with-parity .result))
+    ≡ distance (c .before .before .before .before .before .before .args .received) (c .with-parity .result)
+far c = counted (c .before .before .before .before .before .before .args .received) (c .with-parity .result) (omega arith) (omega arith)
 
 returns-2 : tie.Need-returns-2
-returns-2 c = search needs
+returns-2 c = none-nearer (turned (c .before)) (omega (arith, c .if1 .taken, far (c .before)))
+
+returns-3 : tie.Need-returns-3
+returns-3 c = (record { valid = turned-valid (turned (c .before)); near = omega (arith, c .if1 .left, far (c .before)) }, far (c .before))
 
 pub mend-spec : {M : Type 1} → statement M
 mend-spec =
     tie.close
     (tie.spec
-    sub-mend-within
-    mend-within-requires
-    enum-known-nearer
-    returns
+    difference-requires
+    repair-requires
+    enum-known-mask
     enum-told
-    mend-within-requires-2
-    returns-2)
+    returns
+    with-parity-requires
+    returns-2
+    returns-3)

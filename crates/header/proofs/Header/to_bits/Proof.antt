@@ -1,28 +1,25 @@
 -- `header::Header::to_bits` meets its contract.
 -- Assumes nothing.
 use mathlib.Core.Path.{_≡_, ap, _∙_}
-use Prim.Native.Nat.{ℕ, _+_, _*_, _%_, _^_, _<_}
+use Prim.Native.Nat.{ℕ, _+_, _*_, _^_, _<_}
 use native.Mathlib.Omega.{arith}
 use borrow.Author.Needs.{needs}
-use lib.Count.{ones, onesIn, ones-le}
-use Rattle.bits.proofs.Ones.{ones-all}
 use Rattle.header.specs.declared.Header.{Header}
 use Rattle.header.specs.Check.{checkOf}
 use Rattle.header.specs.Flag.{parityFor}
-use Rattle.header.specs.Fields.{Fit, lowFlag, headerOf}
+use Rattle.header.specs.Fields.{lowFlag, headerOf}
 use Rattle.header.proofs.Division.{check-lt}
-use Rattle.header.proofs.Made.{low-flag-lt}
+use Rattle.header.proofs.Made.{low-flag-lt, parity-lt}
 use Rattle.header.proofs.Header.to_bits.Statement.{statement}
 use Rattle.header.proofs.Header.to_bits.Tie as tie
 
-built : (f : Header) (low check : ℕ) → Fit f → low ≡ lowFlag f → check ≡ checkOf (low * 2 ^ 14 + f .length)
-    → ((ones low + 1) % 2 * 2 ^ 7 + low) * 2 ^ 24 + f .length * 2 ^ 10 + check ≡ headerOf f
-unfolding headerOf parityFor
-built f low check fit e ec =
-    let lt : low < 2 ^ 7 = omega (arith, low-flag-lt f fit) in
-    ap (λ (n : ℕ). ((n + 1) % 2 * 2 ^ 7 + low) * 2 ^ 24 + f .length * 2 ^ 10 + check) (ones-all 7 low lt)
-    ∙ ap (λ (n : ℕ). ((onesIn 7 low + 1) % 2 * 2 ^ 7 + low) * 2 ^ 24 + f .length * 2 ^ 10 + n) ec
-    ∙ ap (λ (n : ℕ). ((onesIn 7 n + 1) % 2 * 2 ^ 7 + n) * 2 ^ 24 + f .length * 2 ^ 10 + checkOf (n * 2 ^ 14 + f .length)) e
+built : (f : Header) (low parity check : ℕ) → low ≡ lowFlag f → parity ≡ parityFor low → check ≡ checkOf (low * 2 ^ 14 + f .length)
+    → (parity * 2 ^ 7 + low) * 2 ^ 24 + f .length * 2 ^ 10 + check ≡ headerOf f
+unfolding headerOf
+built f low parity check e ep ec =
+    ap (λ (n : ℕ). (n * 2 ^ 7 + low) * 2 ^ 24 + f .length * 2 ^ 10 + check) ep
+    ∙ ap (λ (n : ℕ). (parityFor low * 2 ^ 7 + low) * 2 ^ 24 + f .length * 2 ^ 10 + n) ec
+    ∙ ap (λ (n : ℕ). (parityFor n * 2 ^ 7 + n) * 2 ^ 24 + f .length * 2 ^ 10 + checkOf (n * 2 ^ 14 + f .length)) e
 
 low-flag-requires : tie.Need-low-flag-requires
 low-flag-requires c κs = search needs
@@ -30,47 +27,51 @@ low-flag-requires c κs = search needs
 cast-length : tie.Need-cast-length
 cast-length c = search needs
 
-add-flag : tie.Need-add-flag
-add-flag c =
-    let low = c .before .low-flag .result in
-    let lt : low < 2 ^ 7 = omega (arith, low-flag-lt (c .before .before .args .self) (c .before .before .pre)) in
-    omega (arith, ones-le 7 low lt)
+parity-for-requires : tie.Need-parity-for-requires
+parity-for-requires c κs = omega (arith, low-flag-lt (c .before .before .args .self) (c .before .before .pre))
+
+-- the seven bits and the one above them
+low-lt : (c : tie.After-parity-for) → c .before .before .low-flag .result < 2 ^ 7
+low-lt c = omega (arith, low-flag-lt (c .before .before .before .args .self) (c .before .before .before .pre))
+
+top-lt : (c : tie.After-parity-for) → c .parity-for .result < 2
+top-lt c = omega (arith, parity-lt (c .before .before .low-flag .result))
 
 mul-flag : tie.Need-mul-flag
-mul-flag c = search needs
+mul-flag c = omega (arith, top-lt c)
 
-add-flag-2 : tie.Need-add-flag-2
-add-flag-2 c = omega (arith, low-flag-lt (c .before .before .args .self) (c .before .before .pre))
+add-flag : tie.Need-add-flag
+add-flag c = omega (arith, low-lt c, top-lt c)
 
 mul-result : tie.Need-mul-result
-mul-result c = omega (arith, low-flag-lt (c .before .before .args .self) (c .before .before .pre))
+mul-result c = omega (arith, low-lt c, top-lt c)
 
 mul-result-2 : tie.Need-mul-result-2
 mul-result-2 c = search needs
 
 add-result : tie.Need-add-result
-add-result c = omega (arith, low-flag-lt (c .before .before .args .self) (c .before .before .pre))
+add-result c = omega (arith, low-lt c, top-lt c)
 
 mul-check-bits : tie.Need-mul-check-bits
-mul-check-bits c = omega (arith, low-flag-lt (c .before .before .args .self) (c .before .before .pre))
+mul-check-bits c = omega (arith, low-lt c)
 
 add-check-bits : tie.Need-add-check-bits
-add-check-bits c = omega (arith, low-flag-lt (c .before .before .args .self) (c .before .before .pre))
+add-check-bits c = omega (arith, low-lt c)
 
 check-bits-requires : tie.Need-check-bits-requires
-check-bits-requires c κs = omega (arith, low-flag-lt (c .before .before .args .self) (c .before .before .pre))
+check-bits-requires c κs = omega (arith, low-lt c, c .before .before .before .pre .length)
 
 add-result-2 : tie.Need-add-result-2
 add-result-2 c =
-    let f = c .before .before .before .args .self in
-    let low = c .before .before .low-flag .result in
-    let lt : low < 2 ^ 7 = omega (arith, low-flag-lt f (c .before .before .before .pre)) in
-    omega (arith, check-lt (low * 2 ^ 14 + f .length) (omega arith))
+    let f = c .before .before .before .before .args .self in
+    let low = c .before .before .before .low-flag .result in
+    let lt : low < 2 ^ 7 = low-lt (c .before) in
+    omega (arith, top-lt (c .before), check-lt (low * 2 ^ 14 + f .length) (omega (arith, c .before .before .before .before .pre .length)))
 
 returns : tie.Need-returns
 returns c =
-    built (c .before .before .before .args .self) (c .before .before .low-flag .result) (c .check-bits .result) (c .before .before .before .pre)
-    (c .before .before .low-flag .ensures) (c .check-bits .ensures)
+    built (c .before .before .before .before .args .self) (c .before .before .before .low-flag .result) (c .before .parity-for .result) (c .check-bits .result)
+    (c .before .before .before .low-flag .ensures) (c .before .parity-for .ensures) (c .check-bits .ensures)
 
 pub to-bits-spec : {M : Type 1} → statement M
 to-bits-spec =
@@ -78,9 +79,9 @@ to-bits-spec =
     (tie.spec
     low-flag-requires
     cast-length
-    add-flag
+    parity-for-requires
     mul-flag
-    add-flag-2
+    add-flag
     mul-result
     mul-result-2
     add-result

@@ -1,0 +1,104 @@
+-- What is done to a received word: bits that account for its difference are turned over, and the parity bit is set. That makes a valid header, and no
+-- other lies within two bits.
+-- Assumes nothing.
+use mathlib.Core.Path.{_≡_, sym, ap, ap₂, _∙_, subst}
+use Prim.Native.Nat.{ℕ, _%_, _^_, _≤_, _<_}
+use native.Mathlib.Nat.{mod-lt, mod-eq-of-lt}
+use native.Mathlib.Omega.{arith}
+use lib.Bits.{bitXor, xor-lt, xor-mod, xor-self, xor-zero-r}
+use lib.Count.{ones, onesIn}
+use lib.Pow.{pow-pos}
+use Rattle.bits.specs.Word.{differences}
+use Rattle.bits.proofs.Ones.{ones-all, ones-low, differences-comm, differences-round}
+use Rattle.bits.proofs.Xor.{xor-undo, xor-zero}
+use Rattle.header.specs.Check.{checkOf}
+use Rattle.header.specs.Flag.{Odd}
+use Rattle.header.specs.Valid.{Valid, flagIn, checkIn, informationIn, differenceIn}
+use Rattle.header.proofs.Division.{remainder-lt}
+use Rattle.mending.specs.declared.Cause.{Cause}
+use Rattle.mending.specs.declared.Cause.the-variants.{Bits, Nothing}
+use Rattle.mending.specs.Mends.{distance, Near}
+use Rattle.mending.specs.Repair.{left, Accounts, Repairs}
+use Rattle.mending.proofs.Apart.{left-sum, left-difference, valid-left, low-apart, ones-top}
+
+pub difference-lt : (h : ℕ) → differenceIn h < 2 ^ 10
+unfolding left
+difference-lt h = subst (λ (n : ℕ). n < 2 ^ 10) (left-difference h) (remainder-lt 21 (h % 2 ^ 31) (mod-lt h (pow-pos 31)))
+
+pub counted : (a b : ℕ) → a < 2 ^ 32 → b < 2 ^ 32 → ones (bitXor a b) ≡ distance a b
+unfolding distance differences
+counted a b ha hb = ones-all 32 (bitXor a b) (xor-lt 32 a b ha hb)
+
+low-near : (received header : ℕ) → differences 31 received header ≤ distance received header
+unfolding distance differences
+low-near received header = omega (arith, ones-top 31 (bitXor received header))
+
+-- ---- a header with bits turned over
+
+pub record Turned (received mask header : ℕ) : Type 0 where
+  pub account : Accounts (differenceIn received) mask
+  pub bits : header < 2 ^ 32
+  pub odd : Odd (flagIn header)
+  pub low : header % 2 ^ 31 ≡ bitXor received mask % 2 ^ 31
+
+module _ {received mask header : ℕ} (t : Turned received mask header) where
+  parts : header % 2 ^ 31 ≡ bitXor (received % 2 ^ 31) mask
+  parts = t .low ∙ xor-mod received mask 31 ∙ ap (bitXor (received % 2 ^ 31)) (mod-eq-of-lt (t .account .bits))
+
+  -- nothing is left
+  checked : differenceIn header ≡ 0
+  checked =
+      sym (left-difference header)
+      ∙ ap left parts
+      ∙ left-sum (received % 2 ^ 31) mask
+      ∙ ap₂ bitXor (left-difference received) (t .account .leaves)
+      ∙ xor-self (differenceIn received)
+
+  pub turned-valid : Valid header
+  unfolding differenceIn
+  turned-valid =
+      record { bits = t .bits; checked = sym (xor-zero (checkOf (informationIn header)) (checkIn header) checked); parity = t .odd }
+
+  few : differences 31 received header ≤ 2
+  unfolding differences
+  few =
+      let turned : bitXor received header % 2 ^ 31 ≡ mask =
+      xor-mod received header 31 ∙ ap (bitXor (received % 2 ^ 31)) parts ∙ xor-undo (received % 2 ^ 31) mask in
+      omega (arith, ones-low 31 (bitXor received header), ap (onesIn 31) turned, t .account .few)
+
+  -- a valid header within two bits is this one
+  near-is : (v : ℕ) → Near 2 received v → header ≡ v
+  unfolding differences
+  near-is v n =
+      low-apart header v turned-valid (n .valid)
+      (omega (arith, differences-round 31 header received v, differences-comm 31 header received, few, low-near received v, n .near))
+
+  pub none-nearer : 2 < distance received header → (v : ℕ) → Near 2 received v → ⊥
+  none-nearer far v n = omega (arith, far, n .near, ap (distance received) (near-is v n))
+
+-- ---- where no bits account for the difference
+
+pub none-within : (received : ℕ) → ((mask : ℕ) → Accounts (differenceIn received) mask → ⊥) → (v : ℕ) → Near 2 received v → ⊥
+unfolding differences
+none-within received none v n =
+    none (bitXor received v % 2 ^ 31)
+    (record {
+      bits = mod-lt (bitXor received v) (pow-pos 31);
+      few = omega (arith, ones-low 31 (bitXor received v), low-near received v, n .near);
+      leaves =
+          ap left (xor-mod received v 31)
+          ∙ left-sum (received % 2 ^ 31) (v % 2 ^ 31)
+          ∙ ap₂ bitXor (left-difference received) (valid-left v (n .valid))
+          ∙ xor-zero-r (differenceIn received);
+    })
+
+-- ---- in the code's terms: what the answer of a repair says
+
+pub repaired : (received difference mask : ℕ) (cause : Cause) → difference ≡ differenceIn received → Repairs difference cause → cause ≡ Bits mask
+    → Accounts (differenceIn received) mask
+repaired received difference mask cause d r e = subst (λ (n : ℕ). Accounts n mask) d (subst (Repairs difference) e r)
+
+pub unrepaired : (received difference : ℕ) (cause : Cause) → difference ≡ differenceIn received → Repairs difference cause → cause ≡ Nothing
+    → (v : ℕ) → Near 2 received v → ⊥
+unrepaired received difference cause d r e =
+    none-within received (subst (λ (n : ℕ). (mask : ℕ) → Accounts n mask → ⊥) d (subst (Repairs difference) e r))
