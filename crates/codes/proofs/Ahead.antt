@@ -75,7 +75,7 @@ ahead-last s held have next h =
     ap (λ (l : List ℕ). low have held ++ bits l) (drop-of-length-le s h) ∙ append-nil (low have held)
 
 -- w bits taken out
-low-drop : (held have w : ℕ) → w ≤ have → drop w (low have held) ≡ low (have - w) held
+pub low-drop : (held have w : ℕ) → w ≤ have → drop w (low have held) ≡ low (have - w) held
 low-drop held have w h =
     ap (λ (n : ℕ). drop w (low n held)) (let e : have ≡ w + (have - w) = omega arith in e)
     ∙ ap (drop w) (low-add w (have - w) held)

@@ -1,9 +1,11 @@
 pub mod Ahead
 pub mod Begin
+pub mod Coded
 pub mod Every
 pub mod Fill
 pub mod Laid
 pub mod Laws
+pub mod Laying
 pub mod Least
 pub mod Low
 pub mod Numbers
@@ -16,3 +18,4 @@ pub mod Search
 pub mod Single
 pub mod Speaks
 pub mod Within
+pub mod Words

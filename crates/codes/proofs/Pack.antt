@@ -8,14 +8,14 @@ use native.Mathlib.Nat.{mod-eq-of-lt}
 use native.Mathlib.Omega.{arith}
 use lib.Dec.{T, ltb, ltb→lt, lit<}
 use lib.ListN.{length, take, drop, replicate, length-append, length-drop, length-replicate, take-append-drop}
-use lib.Seq.{length-take-le}
+use lib.Seq.{drop-nil, length-take-le, drop-append-add}
 use Rattle.bits.specs.Row.{bits, Bytes}
 use Rattle.bits.specs.Word.{bit}
 use Rattle.codes.specs.Chain.{Entry, Tables, after, Row, codes, texts, Built}
 use Rattle.codes.specs.Pack.{Binary, low, value, bytes, packed, gap, filled, written}
 use Rattle.codes.proofs.Every.{every, every-at, and-left, and-right}
 use Rattle.codes.proofs.Fill.{ones-fill}
-use Rattle.codes.proofs.Low.{low-binary, value-low, value-lt, low-value}
+use Rattle.codes.proofs.Low.{length-low, low-binary, value-low, value-lt, low-value}
 
 -- rows of bits
 pub binary-append : (a b : List ℕ) → Binary a → Binary b → Binary (a ++ b)
@@ -45,6 +45,15 @@ pub length-bits : (s : List ℕ) → length (bits s) ≡ length s * 8
 unfolding bits
 length-bits [] = refl
 length-bits (b ∷ s) = omega (arith, length-bits s)
+
+-- a whole number of bytes is dropped
+pub drop-bits : (q : ℕ) (s : List ℕ) → drop (q * 8) (bits s) ≡ bits (drop q s)
+unfolding bits
+drop-bits zero s = refl
+drop-bits (suc q) [] = drop-nil (suc q * 8)
+drop-bits (suc q) (b ∷ s) =
+    ap₂ (λ (n : ℕ) (l : List ℕ). drop n l) (let e : suc q * 8 ≡ length (low 8 b) + q * 8 = omega (arith, length-low 8 b) in e) (bits-cons b s)
+    ∙ drop-append-add (low 8 b) (bits s) (q * 8) ∙ drop-bits q s
 
 pub bits-binary : (s : List ℕ) → Binary (bits s)
 unfolding bits

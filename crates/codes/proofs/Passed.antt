@@ -6,6 +6,7 @@ use Prim.Native.Nat.{ℕ, _+_}
 use native.Mathlib.Omega.{arith}
 use lib.ListN.{length, length-append}
 use Rattle.codes.specs.Chain.{Entry, Tables, In, after, Row, codes, texts, Reads, Stuck}
+use Rattle.codes.specs.Passed.{Passed}
 use Rattle.codes.proofs.Laws.{Laws}
 use Rattle.codes.proofs.Reading.{Answer, text, stuck, Means, answer, always, one-text, never-both}
 
@@ -25,16 +26,31 @@ texts-append [] ds = refl
 texts-append (e ∷ es) ds =
     ap (λ (l : List ℕ). e .says ++ l) (texts-append es ds) ∙ sym (append-assoc (e .says) (texts es) (texts ds))
 
--- from where nothing is announced to state m the bits bs were passed up to `rest`, and so far they say `said`
-pub record Passed (tables : Tables) (bs : List ℕ) (m : ℕ) (rest said : List ℕ) : Type 0 where
-  pub entries : List Entry
-  pub row : Row tables 0 entries m
-  pub says : texts entries ≡ said
-  pub bits : bs ≡ codes entries ++ rest
-
 pub passed-none : (tables : Tables) (bs : List ℕ) → Passed tables bs 0 bs []
 unfolding codes texts
 passed-none tables bs = record { entries = []; row = refl; says = refl; bits = refl }
+
+-- what follows the bits does not matter
+pub passed-front : {tables : Tables} {bs rest said : List ℕ} {m : ℕ} (more : List ℕ) → Passed tables bs m rest said
+    → Passed tables (bs ++ more) m (rest ++ more) said
+passed-front {rest = rest} more p = record {
+  entries = p .entries;
+  row = p .row;
+  says = p .says;
+  bits = ap (λ (l : List ℕ). l ++ more) (p .bits) ∙ append-assoc (codes (p .entries)) rest more;
+}
+
+-- entries passed after others, where nothing is announced between
+pub passed-on : {tables : Tables} {bs rest later said next : List ℕ} {m : ℕ} → Passed tables bs 0 rest said → Passed tables rest m later next
+    → Passed tables bs m later (said ++ next)
+passed-on {tables} {later = later} {m = m} p q = record {
+  entries = p .entries ++ q .entries;
+  row = row-append tables 0 0 m (p .entries) (q .entries) (p .row) (q .row);
+  says = texts-append (p .entries) (q .entries) ∙ ap₂ (λ (a b : List ℕ). a ++ b) (p .says) (q .says);
+  bits = p .bits ∙ ap (λ (l : List ℕ). codes (p .entries) ++ l) (q .bits)
+      ∙ sym (append-assoc (codes (p .entries)) (codes (q .entries)) later)
+      ∙ ap (λ (l : List ℕ). l ++ later) (sym (codes-append (p .entries) (q .entries)));
+}
 
 module _ {tables : Tables} {bs said : List ℕ} {m : ℕ} where
   pub passed-more : (rest later : List ℕ) → Passed tables bs m rest said → (e : Entry) → In e (tables m) → rest ≡ e .code ++ later

@@ -1,6 +1,6 @@
 -- Bits put into a buffer at the lower end, and bytes taken out at the upper.
 -- Assumes nothing.
-use mathlib.Core.Path.{_≡_, refl, sym, ap, ap₂, _∙_}
+use mathlib.Core.Path.{_≡_, refl, sym, ap, ap₂, subst, subst₂, _∙_}
 use mathlib.Core.List.{List, [], _∷_, _++_, append-assoc, append-nil}
 use Prim.Native.Nat.{ℕ, zero, suc, zero-le, _+_, _-_, _*_, _/_, _%_, _^_, _≤_, _<_}
 use native.Mathlib.Nat.{add-zero, mod-eq-of-lt}
@@ -15,12 +15,13 @@ use Rattle.bits.specs.Row.{bits, Bytes}
 use Rattle.codes.specs.Pack.{low, value, packed, gap, filled}
 use Rattle.codes.specs.Ahead.{Window}
 use Rattle.codes.specs.Laid.{laid, Flushed}
+use Rattle.codes.specs.Words.{spilled}
 use Rattle.codes.proofs.Ahead.{take-ones}
 use Rattle.codes.proofs.Laid.{laid-nil, laid-laid, length-laid, set-laid}
 use Rattle.codes.proofs.Low.{length-low, low-binary, low-mod, low-join, low-add, value-low, shl-mod}
 use Rattle.codes.proofs.Pack.{bits-cons, length-bits, packed-bytes, bits-packed, packed-bits, length-packed, filled-binary, filled-whole, length-filled}
 
-pub pushed : (held bits width n : ℕ) → width ≤ 32 → bits < 2 ^ width → n ≤ 32
+pub pushed : (held bits width n : ℕ) → width ≤ 32 → bits < 2 ^ width → n + width ≤ 64
     → low (n + width) (bitOr (held * 2 ^ width % 2 ^ 64) bits) ≡ low n held ++ low width bits
 pushed held bits width n h b k =
     let rest : ℕ = 64 - width in
@@ -86,8 +87,8 @@ pub pending-none : (w out : List ℕ) (m : ℕ) → Pending w out out m m 0 0 (b
 unfolding low
 pending-none w out m = record { count = 0; place = sym (add-zero m); within = zero-le; pending = refl; whole = sym (laid-nil out m) }
 
-pub pending-push : (w entry out : List ℕ) (m n held have held′ width number : ℕ) (rest : List ℕ) → have ≤ 32
-    → ((k : ℕ) → k ≤ 32 → low (k + width) held′ ≡ low k held ++ low width number)
+pub pending-push : (w entry out : List ℕ) (m n held have held′ width number : ℕ) (rest : List ℕ) → have + width ≤ 64
+    → ((k : ℕ) → k + width ≤ 64 → low (k + width) held′ ≡ low k held ++ low width number)
     → Pending w entry out m n held have (low width number ++ rest) → Pending w entry out m n held′ (have + width) rest
 pending-push w entry out m n held have held′ width number rest h e p = record {
   count = p .count;
@@ -124,6 +125,31 @@ module _ (w entry : List ℕ) (m : ℕ) (bytes : Bytes w) (room : m + length w �
             ∙ laid-laid entry m n (take k w) (getD w k 0 ∷ []) (omega arith) (omega (arith, p .place))
             ∙ ap (laid entry m) (sym (take-suc w k 0 there) ∙ ap (λ (i : ℕ). take i w) (sym (add-one k)));
       }
+
+  -- the next k bytes
+  pub pending-room-bytes : (k : ℕ) (out : List ℕ) (n held have : ℕ) (rest : List ℕ) → k * 8 ≤ have → Pending w entry out m n held have rest
+      → n + k ≤ length entry
+  pending-room-bytes k out n held have rest h p =
+      omega (
+        arith,
+        p .place,
+        p .within,
+        ap length (p .pending),
+        length-bits (drop (p .count) w),
+        length-drop (p .count) w,
+        length-append (low have held) rest,
+        length-low have held,
+      )
+
+  pub pending-bytes : (k : ℕ) (out : List ℕ) (n held have : ℕ) (rest : List ℕ) → k * 8 ≤ have → Pending w entry out m n held have rest
+      → Pending w entry (spilled k out n held have) m (n + k) held (have - k * 8) rest
+  unfolding spilled
+  pending-bytes zero out n held have rest h p = subst₂ (λ (i j : ℕ). Pending w entry out m i held j rest) (sym (add-zero n)) (let e : have ≡ have - 0 = omega arith in e) p
+  pending-bytes (suc k) out n held have rest h p =
+      subst₂ (λ (i j : ℕ). Pending w entry (spilled k (set out n (held / 2 ^ (have - 8) % 256)) (n + 1) held (have - 8)) m i held j rest)
+      (let e : n + 1 + k ≡ n + suc k = omega arith in e) (let e : have - 8 - k * 8 ≡ have - suc k * 8 = omega arith in e)
+      (pending-bytes k (set out n (held / 2 ^ (have - 8) % 256)) (n + 1) held (have - 8) rest (omega arith)
+      (pending-byte out n held have rest (omega arith) p))
 
   -- nothing is pending: the bytes are all there
   pub pending-done : (out : List ℕ) (n held : ℕ) → Pending w entry out m n held 0 [] → (out ≡ laid entry m w) × (n ≡ m + length w)

@@ -8,9 +8,10 @@ use native.Mathlib.Omega.{arith}
 use lib.Dec.{T, eqb, eqb→eq}
 use lib.ListN.{length}
 use Rattle.codes.specs.Chain.{Entry, single, In, after, Row, Reads, Stuck}
+use Rattle.codes.specs.Passed.{Passed}
 use Rattle.codes.proofs.Every.{every, every-at}
 use Rattle.codes.proofs.Laws.{Laws}
-use Rattle.codes.proofs.Passed.{Passed, passed-more}
+use Rattle.codes.proofs.Passed.{passed-more}
 use Rattle.codes.proofs.Reading.{reads-more, reads-less, stuck-more, stuck-less}
 
 unfoldable pub mute : Entry → Bool

@@ -3,12 +3,13 @@
 ghost use mathlib.Core.Path.{_≡_};
 ghost use mathlib.Core.List.{_++_};
 ghost use Prim.Native.Nat.{ℕ, _+_, _*_, _/_, _^_, _≤_, _<_};
-ghost use lib.ListN.{length};
+ghost use lib.ListN.{length, getD};
 ghost use Rattle.bits.specs.Says.{Says};
 ghost use Rattle.codes.specs.Ahead.{Refilled, Window};
 ghost use Rattle.codes.specs.Chain.{Fill};
 ghost use Rattle.codes.specs.Laid.{Flushed};
 ghost use Rattle.codes.specs.Pack.{low};
+ghost use Rattle.codes.specs.Words.{eightAt, spilled};
 
 // The bits that are still to be read: the lowest `have` bits of `held`, then those of the bytes from `next` on.
 pub struct Buffer {
@@ -27,7 +28,17 @@ fn wide(b: u8) -> u64
 fn word(a: u8, b: u8, c: u8, d: u8) -> u64
     ensures { λ r. ⌜ (r ≡ (a * 256 + b) * 65536 + (c * 256 + d)) × (r < 4294967296) ⌝ }
 {
-    (wide(a) * 256 + wide(b)) * 65536 + (wide(c) * 256 + wide(d))
+    ((wide(a) * 256 + wide(b)) * 256 + wide(c)) * 256 + wide(d)
+}
+
+// Eight bytes in a row, from place `at` on, as one number.
+pub fn eight(s: &[u8], at: usize) -> u64
+    requires { ⌜ at + 8 ≤ length (now s) ⌝ }
+    ensures { λ r. ⌜ (r ≡ eightAt (now (s .entry)) at) × ((i : ℕ) → getD (now (s .entry)) i 0 < 256) ⌝ }
+{
+    let upper = word(s[at], s[at + 1], s[at + 2], s[at + 3]);
+    let lower = word(s[at + 4], s[at + 5], s[at + 6], s[at + 7]);
+    upper * 4294967296 + lower
 }
 
 // Four bytes more in the buffer, or one where there are not four.
@@ -83,9 +94,21 @@ pub fn at_end(held: u64, have: u64) -> bool
 // `width` bits put in at the lower end.
 pub fn push(held: u64, bits: u64, width: u64) -> u64
     requires { ⌜ (width ≤ 32) × (bits < 2 ^ width) ⌝ }
-    ensures { λ r. ⌜ ((n : ℕ) → n ≤ 32 → low (n + width) r ≡ low n held ++ low width bits) ⌝ }
+    ensures { λ r. ⌜ ((n : ℕ) → n + width ≤ 64 → low (n + width) r ≡ low n held ++ low width bits) ⌝ }
 {
     (held << width) | bits
+}
+
+// The upper four bytes of the lowest `have` bits of `held`, from place n on.
+pub fn spill(out: &mut [u8], n: usize, held: u64, have: u64)
+    requires { ⌜ (32 ≤ have) × (have ≤ 64) × (n + 4 ≤ length (now out)) ⌝ }
+    ensures { λ r. ⌜ now (out .exit) ≡ spilled 4 (now (out .entry)) n held have ⌝ }
+{
+    let four = held >> (have - 32);
+    out[n] = (four / 0x100_0000 % 256) as u8;
+    out[n + 1] = (four / 0x1_0000 % 256) as u8;
+    out[n + 2] = (four / 0x100 % 256) as u8;
+    out[n + 3] = (four % 256) as u8;
 }
 
 // The lowest `have` bits of `held`, then ones up to the byte's end, from place `at` on; the place after them.

@@ -1,6 +1,6 @@
 -- Any nine bits begin a code: which one, by what number they are.
 -- Assumes nothing.
-use mathlib.Core.Path.{_≡_, refl, sym, ap, subst⁻¹, _∙_}
+use mathlib.Core.Path.{_≡_, refl, sym, ap, subst₂, subst⁻¹, _∙_}
 use mathlib.Core.List.{List, [], _++_}
 use Prim.Native.Nat.{ℕ, _+_, _/_, _≤_, _<_}
 use native.Mathlib.Omega.{arith}
@@ -54,6 +54,16 @@ takes-seven w h k =
     takes-own w c 7 (printed-coded c (omega arith) (omega arith))
     (low 2 w, low-add 7 2 w ∙ ap (λ (l : List ℕ). l ++ low 2 w) (sym own-code)) (sym (ap length own-code ∙ length-low 7 c))
     (lit≤ tt) (lit≤ tt)
+
+-- by the seven bits that begin the nine
+pub takes-lower : (w bits : ℕ) → w / 4 ≡ bits → bits < 64 → Takes w (told (6 + bits / 64) (bits / 2 + 32))
+takes-lower w bits e h =
+    subst₂ (λ (k c : ℕ). Takes w (told k c)) (let x : 6 ≡ 6 + bits / 64 = omega arith in x)
+    (let x : w / 8 + 32 ≡ bits / 2 + 32 = omega arith in x) (takes-six w (omega arith))
+
+pub takes-upper : (w bits : ℕ) → w / 4 ≡ bits → 64 ≤ bits → bits < 127 → Takes w (told (6 + bits / 64) bits)
+takes-upper w bits e h k =
+    subst₂ (λ (k c : ℕ). Takes w (told k c)) (let x : 7 ≡ 6 + bits / 64 = omega arith in x) e (takes-seven w (omega arith) (omega arith))
 
 -- seven ones, then two bits
 pub takes-tab : (w : ℕ) → w ≡ 508 → Takes w (told 9 HT)

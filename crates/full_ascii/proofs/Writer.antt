@@ -13,7 +13,8 @@ use Rattle.bits.specs.Row.{Bytes}
 use Rattle.bits.specs.Word.{bit}
 use Rattle.codes.specs.Chain.{Entry, Row, codes, texts, Reads, Built}
 use Rattle.codes.specs.Pack.{Binary, low, written}
-use Rattle.codes.proofs.Every.{and-left, and-right}
+use Rattle.codes.proofs.Coded.{coded-none, coded-cons, coded-rest, coded-append, coded-every}
+use Rattle.codes.proofs.Every.{every, and-left, and-right}
 use Rattle.codes.proofs.Least.{Cost, least}
 use Rattle.codes.proofs.Pack.{row-binary, written-built, written-bytes, length-written, length-bits, built-length}
 use Rattle.codes.proofs.Single.{row-one, row-rest, reads-one}
@@ -38,7 +39,7 @@ module _ (P : List ℕ → List Entry → Type 0) (none : P [] []) (one : (c : �
   either-cut false c d t es ds x h k = one c (d ∷ t) ds k
 
   -- what holds of each way to cut holds of ours
-  ours-has : (t : List ℕ) → P t (ours t)
+  pub ours-has : (t : List ℕ) → P t (ours t)
   unfolding ours
   ours-has [] = none
   ours-has (c ∷ []) = one c [] [] none
@@ -53,7 +54,8 @@ ours-says =
 pub ours-row : (t : List ℕ) → Coded t → Row tables 0 (ours t) 0
 ours-row =
     ours-has (λ (t : List ℕ) (es : List Entry). Coded t → Row tables 0 es 0) (λ h. refl)
-    (λ c t es k h. row-one mutes es (own-in c (h .0)) (k (h .1))) (λ t es k h. row-one mutes es pair-in (k (h .1 .1)))
+    (λ c t es k h. row-one mutes es (own-in c (h 0 (omega arith))) (k (coded-rest coded c t h)))
+    (λ t es k h. row-one mutes es pair-in (k (coded-rest coded LF t (coded-rest coded CR (LF ∷ t) h))))
 
 pub ours-binary : (t : List ℕ) → Coded t → Binary (codes (ours t))
 ours-binary t h = row-binary tables all-bits 0 0 (ours t) (ours-row t h)
@@ -68,20 +70,16 @@ pub ours-bytes : (t : List ℕ) → Coded t → Bytes (written (ours t))
 ours-bytes t h = written-bytes (ours t) (ours-binary t h)
 
 -- every character of a text that was built has a code
-pub coded-append : (a b : List ℕ) → Coded a → Coded b → Coded (a ++ b)
-coded-append [] b h k = k
-coded-append (c ∷ a) b h k = (h .0, coded-append a b (h .1) k)
-
 sayer-coded : (e : Entry) → Sayer e → Coded (e .says)
-unfolding pair special coded
-sayer-coded e (inl s) = subst⁻¹ Coded (ap (λ (d : Entry). d .says) (s .2) ∙ own-says (s .0)) (s .1, tt)
-sayer-coded e (inr x) = subst⁻¹ (λ (d : Entry). Coded (d .says)) x (tt, (tt, tt))
+unfolding pair special coded every
+sayer-coded e (inl s) = subst⁻¹ Coded (ap (λ (d : Entry). d .says) (s .2) ∙ own-says (s .0)) (coded-cons coded (s .0) [] (s .1) (coded-none coded))
+sayer-coded e (inr x) = subst⁻¹ (λ (d : Entry). Coded (d .says)) x (coded-every coded (CR ∷ LF ∷ []) tt)
 
 row-coded : (es : List Entry) → Row tables 0 es 0 → Coded (texts es)
 unfolding texts
-row-coded [] r = tt
+row-coded [] r = coded-none coded
 row-coded (e ∷ es) r =
-    coded-append (e .says) (texts es) (sayer-coded e (entry-of e (r .0))) (row-coded es (row-rest mutes e es r))
+    coded-append coded (e .says) (texts es) (sayer-coded e (entry-of e (r .0))) (row-coded es (row-rest mutes e es r))
 
 pub built-coded : {t : List ℕ} (sent : List ℕ) → Built tables t sent → Coded t
 built-coded sent b = subst Coded (b .says) (row-coded (b .entries) (b .row))
@@ -91,16 +89,16 @@ pub built-nonempty : {t : List ℕ} (sent : List ℕ) → 0 < length sent → Bu
 built-nonempty sent h b = never-silent sounds b (omega (arith, length-bits sent))
 
 -- how many bits the writer takes for a text
-size : List ℕ → ℕ
+unfoldable pub size : List ℕ → ℕ
 size t = length (codes (ours t))
 
 size-pair : (t : List ℕ) → size (CR ∷ LF ∷ t) ≡ length (pair .code) + size t
 unfolding size ours codes pair special low bit
 size-pair t = omega arith
 
-size-feed : (t : List ℕ) → size t ≤ size (LF ∷ t)
+pub size-feed : (t : List ℕ) → size (LF ∷ t) ≡ 9 + size t
 unfolding size ours codes own special low bit
-size-feed [] = omega arith
+size-feed [] = refl
 size-feed (c ∷ t) = omega arith
 
 cut-size : (b : Bool) (c d : ℕ) (t : List ℕ) → (eqb c CR && eqb d LF) ≡ b

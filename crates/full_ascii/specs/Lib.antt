@@ -1,3 +1,4 @@
+pub mod Passing
 pub mod Sending
 pub mod Table
 pub mod Taken

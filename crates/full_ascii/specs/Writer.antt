@@ -4,8 +4,10 @@ use mathlib.Core.Path.{_≡_}
 use mathlib.Core.Bool.{Bool, cond, _&&_, _||_}
 use mathlib.Core.List.{List, [], _∷_}
 use Prim.Native.Nat.{ℕ}
-use lib.Dec.{T, leb, ltb, eqb}
+use lib.Dec.{leb, ltb, eqb}
+use lib.ListN.{length}
 use Rattle.codes.specs.Chain.{Entry}
+use Rattle.codes.specs.Size
 use Rattle.full_ascii.specs.Table.{HT, LF, CR, six, seven, special, pair}
 
 -- the character has a code
@@ -14,8 +16,7 @@ coded c = eqb c HT || (eqb c LF || (eqb c CR || (leb 32 c && leb c 126)))
 
 -- each character of the text has a code
 abbrev pub Coded : List ℕ → Type 0
-Coded [] = Unit {0}
-Coded (c ∷ text) = T (coded c) × Coded text
+Coded text = Size.Coded coded text (length text)
 
 -- the code of a character by itself, where it has one
 unfoldable pub own : ℕ → Entry

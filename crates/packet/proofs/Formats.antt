@@ -1,22 +1,19 @@
 -- What holds of the data of every format: one text or one place, never both and always one; what our writer makes is a building, and none has fewer
 -- bytes; a text that is carried has codes, and is not empty where the data is not.
 -- Assumes nothing.
-use mathlib.Core.Bool.{Bool}
 use mathlib.Core.List.{List, [], _∷_}
 use mathlib.Core.Logic.{_⊎_, inl, inr}
 use mathlib.Core.Path.{_≡_, refl, sym, ap, _∙_, subst}
-use Prim.Native.Nat.{ℕ, zero, suc, _≤_, _<_, zero-le, suc-le-suc}
-use native.Mathlib.Nat.{le-of-suc-le-suc, le-of-eq}
+use Prim.Native.Nat.{ℕ, _≤_, _<_, zero-le, suc-le-suc}
+use native.Mathlib.Nat.{le-of-eq}
 use native.Mathlib.Omega.{arith}
-use lib.Dec.{T}
-use lib.ListN.{length, getD}
+use lib.ListN.{length}
 use Rattle.bits.specs.Row.{bits}
 use Rattle.header.specs.declared.Format.{Format}
 use Rattle.header.specs.declared.Format.the-variants.{Open, PseudoBinary, FullAscii}
 use Rattle.codes.specs.Chain.{Tables, Fill}
 use Rattle.codes.proofs.Reading.{Answer, text as reads-text, stuck as reads-stuck, Means, answer, always, reads-end, one-text, one-place, never-both}
 use Rattle.full_ascii.specs.Table as ascii
-use Rattle.full_ascii.specs.Writer as ascii-writer
 use Rattle.full_ascii.proofs.Table as ascii-table
 use Rattle.full_ascii.proofs.Writer as ascii-built
 use Rattle.pseudo_binary.specs.Table as pseudo
@@ -56,36 +53,17 @@ readable Open sent = inl (sent, refl)
 readable PseudoBinary sent = either pseudo.tables (bits sent) (answer pseudo.tables (length (bits sent)) 0 (bits sent)) (always pseudo-table.laws 0 (bits sent))
 readable FullAscii sent = either ascii.tables (bits sent) (answer ascii.tables (length (bits sent)) 0 (bits sent)) (always ascii-table.laws 0 (bits sent))
 
--- ---- codes for each character, said by the row and by the index
-
-module _ (has : ℕ → Bool) (Has : List ℕ → Type 0) where
-  by-index : ((c : ℕ) (t : List ℕ) → Has (c ∷ t) → T (has c) × Has t) → (t : List ℕ) → Has t → (i : ℕ) → i < length t → T (has (getD t i 0))
-  by-index apart [] h i lt = absurd (let no′ : ⊥ = omega arith in no′)
-  by-index apart (c ∷ t) h zero lt = apart c t h .0
-  by-index apart (c ∷ t) h (suc i) lt = by-index apart t (apart c t h .1) i (le-of-suc-le-suc lt)
-
-  by-row : Has [] → ((c : ℕ) (t : List ℕ) → T (has c) → Has t → Has (c ∷ t)) → (t : List ℕ) → ((i : ℕ) → i < length t → T (has (getD t i 0))) → Has t
-  by-row none more [] h = none
-  by-row none more (c ∷ t) h = more c t (h 0 (suc-le-suc zero-le)) (by-row none more t (λ i lt. h (suc i) (suc-le-suc lt)))
-
 -- a text that is carried has codes
 pub carries-coded : (format : Format) (text sent : List ℕ) → Carries format text sent → Coded format text (length text)
 carries-coded Open text sent p = λ i lt. tt
-carries-coded PseudoBinary text sent p = by-index pseudo.coded pseudo.Coded (λ c t h. h) text (pseudo-built.built-coded sent p)
-carries-coded FullAscii text sent p = by-index ascii-writer.coded ascii-writer.Coded (λ c t h. h) text (ascii-built.built-coded sent p)
-
--- codes for each character, by the row, as the format's own functions ask them
-pub pseudo-coded : (t : List ℕ) → Coded PseudoBinary t (length t) → pseudo.Coded t
-pseudo-coded t h = by-row pseudo.coded pseudo.Coded tt (λ c t x y. (x, y)) t h
-
-pub ascii-coded : (t : List ℕ) → Coded FullAscii t (length t) → ascii-writer.Coded t
-ascii-coded t h = by-row ascii-writer.coded ascii-writer.Coded tt (λ c t x y. (x, y)) t h
+carries-coded PseudoBinary text sent p = pseudo-built.built-coded sent p
+carries-coded FullAscii text sent p = ascii-built.built-coded sent p
 
 -- what our writer makes of a text that has codes carries it
 pub writer-carries : (format : Format) (text : List ℕ) → Coded format text (length text) → Carries format text (dataOf format text)
 writer-carries Open text h = refl
-writer-carries PseudoBinary text h = pseudo-built.ours-built text (pseudo-coded text h)
-writer-carries FullAscii text h = ascii-built.ours-built text (ascii-coded text h)
+writer-carries PseudoBinary text h = pseudo-built.ours-built text h
+writer-carries FullAscii text h = ascii-built.ours-built text h
 
 -- and nothing that carries it has fewer bytes
 pub no-fewer : (format : Format) (text sent : List ℕ) → Carries format text sent → length (dataOf format text) ≤ length sent

@@ -21,7 +21,7 @@ pub alike-replicate : (k : Kind) (c n : ℕ) → of k c ≡ true → Alike k (re
 alike-replicate k c zero e = tt
 alike-replicate k c (suc n) e = (e, alike-replicate k c n e)
 
-value-range : (c : ℕ) → of values c ≡ true → (64 ≤ c) × (c ≤ 127)
+pub value-range : (c : ℕ) → of values c ≡ true → (64 ≤ c) × (c ≤ 127)
 unfolding of
 value-range c x =
     let t : T (leb 64 c && leb c 127) = subst⁻¹ T x tt in

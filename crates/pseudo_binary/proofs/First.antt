@@ -1,27 +1,24 @@
 -- Any nine bits begin an indicator: which one, by what number they are; and that it is the next to be read.
 -- Assumes nothing.
 use mathlib.Core.Path.{_≡_, refl, sym, ap, ap₂, subst, _∙_}
-use mathlib.Core.List.{List, _∷_, _++_, append-assoc}
-use Prim.Native.Nat.{ℕ, suc, _+_, _-_, _*_, _/_, _%_, _≤_, _<_}
+use mathlib.Core.List.{List, _∷_, _++_}
+use Prim.Native.Nat.{ℕ, suc, _+_, _-_, _/_, _%_, _≤_, _<_}
 use native.Mathlib.Numerals.{add-one}
 use native.Mathlib.Omega.{arith}
 use lib.Dec.{lit≤}
-use lib.ListN.{length, drop, replicate, length-append, length-drop}
-use Rattle.bits.specs.Row.{bits}
+use lib.ListN.{length, take, drop, replicate, length-append}
+use lib.Seq.{drop-at}
 use Rattle.bits.specs.Word.{bit}
-use Rattle.codes.specs.Ahead.{ahead, Window}
+use Rattle.codes.specs.Ahead.{Window}
 use Rattle.codes.specs.Chain.{Entry}
-use Rattle.codes.specs.Pack.{low}
-use Rattle.codes.specs.declared.Buffer.{Buffer}
+use Rattle.codes.specs.Pack.{Binary, low, value}
 use Rattle.codes.proofs.Ahead.{window-begins, begins-window}
-use Rattle.codes.proofs.Low.{low-mod, low-add}
-use Rattle.codes.proofs.Pack.{length-bits}
+use Rattle.codes.proofs.Low.{low-mod, low-add, low-value}
 use Rattle.codes.proofs.Reading.{Halts}
 use Rattle.pseudo_binary.specs.Table.{SPACE, SLASH, Kind, values, spaces, slashes, indicator, most, tables}
-use Rattle.pseudo_binary.specs.Taken.{Starts, Takes}
+use Rattle.pseudo_binary.specs.Taken.{Nine, Takes}
 use Rattle.pseudo_binary.specs.declared.Indicator.{Indicator}
 use Rattle.pseudo_binary.proofs.Entries.{indicator-in}
-use Rattle.pseudo_binary.proofs.Starts.{starts-left, starts-all, starts-have, starts-drop}
 use Rattle.pseudo_binary.proofs.Table.{laws}
 
 pub takes-values : (w : ℕ) → w < 512 → 256 ≤ w
@@ -77,29 +74,36 @@ pub takes-slashes : (w : ℕ) → 128 ≤ w → w < 256 → Takes w (record { wi
 unfolding indicator most
 takes-slashes w h k = takes-repeat slashes SLASH w 0 1 (omega arith) (omega arith) refl (λ c. refl)
 
--- at a bit of the data
-module _ (s : List ℕ) (at : ℕ) (b : Buffer) (h : Starts s at b) (inside : at ≤ length s * 8) (w : ℕ) (v : Window (b .held) (b .have) w)
-    (r : Indicator) (k : Takes w r) where
-  -- the indicator of the window is the next to be read, if its bits are there
-  pub next-indicator : r .width ≤ length s * 8 - at → drop at (bits s) ≡ k .entry .code ++ drop (at + r .width) (bits s)
-  unfolding ahead
-  next-indicator there =
-      let size : r .width ≤ b .have = starts-have s at b h inside (r .width) (omega (arith, k .long)) there in
-      sym (h .same)
-      ∙ ap (λ (l : List ℕ). l ++ bits (drop (b .next) s))
-      (window-begins (b .held) (b .have) w (k .entry .code) v (k .begins) (subst (λ (n : ℕ). n ≤ b .have) (k .width) size)
-      ∙ ap (λ (n : ℕ). k .entry .code ++ low (b .have - n) (b .held)) (sym (k .width)))
-      ∙ append-assoc (k .entry .code) (low (b .have - r .width) (b .held)) (bits (drop (b .next) s))
-      ∙ ap (λ (l : List ℕ). k .entry .code ++ l) (starts-drop s at b h inside (r .width) size)
+-- at the front of the bits
+module _ (bs : List ℕ) (binary : Binary bs) (w : ℕ) (v : Nine bs w) where
+  -- a number that is the bits
+  held : ℕ
+  held = value bs
 
-  -- if they are not there, none begins what there is
-  pub no-indicator : length s * 8 - at < r .width → Halts tables 0 (drop at (bits s))
-  no-indicator short e j p =
-      let left : b .have < r .width = omega (arith, starts-left s at b h inside) in
-      let all : low (b .have) (b .held) ≡ drop at (bits s) = starts-all s at b h inside (omega (arith, k .long)) in
-      let size : length (e .code) ≤ length s * 8 - at =
-      omega (arith, ap length (p .1), length-append (e .code) (p .0), length-drop at (bits s), length-bits s) in
-      let same : e ≡ k .entry =
-      laws .alone 0 e (k .entry) j (k .legal) (low 9 w)
-      (begins-window (b .held) (b .have) w (e .code) v (p .0, all ∙ p .1) (omega (arith, k .long))) (k .begins) in
-      omega (arith, k .width, ap (λ (d : Entry). length (d .code)) same)
+  same : low (length bs) held ≡ bs
+  unfolding held
+  same = low-value bs binary
+
+  window : Window held (length bs) w
+  window = record { nine = v .nine ∙ ap (λ (l : List ℕ). take 9 (l ++ replicate 9 1)) (sym same); small = v .small }
+
+  module _ (r : Indicator) (k : Takes w r) where
+    -- the indicator of the nine bits is the next to be read, if its bits are there
+    pub next-indicator : r .width ≤ length bs → bs ≡ k .entry .code ++ drop (r .width) bs
+    next-indicator there =
+        let code : List ℕ = k .entry .code in
+        let rest : List ℕ = low (length bs - length code) held in
+        let split : bs ≡ code ++ rest =
+        sym same ∙ window-begins held (length bs) w code window (k .begins) (subst (λ (n : ℕ). n ≤ length bs) (k .width) there) in
+        split
+        ∙ ap (λ (l : List ℕ). code ++ l)
+        (sym (drop-at code rest (r .width) (sym (k .width))) ∙ ap (drop (r .width)) (sym split))
+
+    -- if they are not there, none begins what there is
+    pub no-indicator : length bs < r .width → Halts tables 0 bs
+    no-indicator short e j p =
+        let size : length (e .code) ≤ length bs = omega (arith, ap length (p .1), length-append (e .code) (p .0)) in
+        let same-entry : e ≡ k .entry =
+        laws .alone 0 e (k .entry) j (k .legal) (low 9 w)
+        (begins-window held (length bs) w (e .code) window (p .0, same ∙ p .1) (omega (arith, k .long))) (k .begins) in
+        omega (arith, k .width, ap (λ (d : Entry). length (d .code)) same-entry)

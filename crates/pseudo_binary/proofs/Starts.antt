@@ -1,31 +1,23 @@
 -- A buffer that starts at a bit of the data, wherever in a byte that is. It holds of every format.
 -- Assumes nothing.
-use mathlib.Core.Path.{_≡_, refl, sym, ap, ap₂, subst, _∙_}
+use mathlib.Core.Path.{_≡_, refl, sym, ap, subst, _∙_}
 use mathlib.Core.Logic.{by-cases}
-use mathlib.Core.List.{List, [], _∷_, _++_, append-assoc}
-use Prim.Native.Nat.{ℕ, zero, suc, _+_, _-_, _*_, _/_, _%_, _^_, _≤_}
-use native.Mathlib.Decide.{decLt}
+use mathlib.Core.List.{List, _++_, append-assoc}
+use Prim.Native.Nat.{ℕ, _+_, _-_, _*_, _/_, _%_, _^_, _≤_, _<_}
+use native.Mathlib.Decide.{decLt, decLe}
+use native.Mathlib.Nat.{mod-lt, zero-lt-suc, zero-add}
 use native.Mathlib.Omega.{arith}
-use lib.ListN.{length, drop, length-append, length-drop}
-use lib.Seq.{drop-nil, drop-at, drop-drop, drop-append-add}
+use lib.ListN.{length, take, drop, getD, replicate, length-append, length-drop}
+use lib.Seq.{take-at, drop-at, drop-drop, take-append-le}
 use Rattle.bits.specs.Row.{bits}
-use Rattle.codes.specs.Ahead.{ahead}
+use Rattle.codes.specs.Ahead.{ahead, Window}
 use Rattle.codes.specs.Chain.{Fill}
 use Rattle.codes.specs.Pack.{low}
 use Rattle.codes.specs.declared.Buffer.{Buffer}
-use Rattle.codes.proofs.Ahead.{ahead-last}
-use Rattle.codes.proofs.Low.{length-low, low-add}
-use Rattle.codes.proofs.Pack.{bits-cons, length-bits}
-use Rattle.pseudo_binary.specs.Taken.{Starts}
-
--- a whole number of bytes is dropped
-drop-bits : (q : ℕ) (s : List ℕ) → drop (q * 8) (bits s) ≡ bits (drop q s)
-unfolding bits
-drop-bits zero s = refl
-drop-bits (suc q) [] = drop-nil (suc q * 8)
-drop-bits (suc q) (b ∷ s) =
-    ap₂ (λ (n : ℕ) (l : List ℕ). drop n l) (let e : suc q * 8 ≡ length (low 8 b) + q * 8 = omega (arith, length-low 8 b) in e) (bits-cons b s)
-    ∙ drop-append-add (low 8 b) (bits s) (q * 8) ∙ drop-bits q s
+use Rattle.codes.proofs.Ahead.{ahead-byte, ahead-last}
+use Rattle.codes.proofs.Low.{length-low, low-mod, low-add}
+use Rattle.codes.proofs.Pack.{length-bits, drop-bits}
+use Rattle.pseudo_binary.specs.Taken.{Starts, Nine}
 
 module _ (s : List ℕ) (held have next : ℕ) where
   -- how much there is
@@ -54,19 +46,52 @@ module _ (s : List ℕ) (held have next : ℕ) where
       (ap (drop w) (ahead-split w h)
       ∙ drop-at (low w (held / 2 ^ (have - w))) (ahead s held (have - w) next) w (length-low w (held / 2 ^ (have - w))))
 
+  -- from a byte to the r-th bit after its start
+  pub ahead-from : (q r : ℕ) → r ≤ have → ahead s held have next ≡ bits (drop q s) → ahead s held (have - r) next ≡ drop (q * 8 + r) (bits s)
+  ahead-from q r h e =
+      ahead-drop r h ∙ ap (drop r) (e ∙ sym (drop-bits q s)) ∙ drop-drop r (q * 8) (bits s)
+
   -- from the byte that bit `at` is in to the bit
   pub ahead-at : (at : ℕ) → at % 8 ≤ have → ahead s held have next ≡ bits (drop (at / 8) s)
       → ahead s held (have - at % 8) next ≡ drop at (bits s)
   ahead-at at h e =
-      ahead-drop (at % 8) h
-      ∙ ap (drop (at % 8)) (e ∙ sym (drop-bits (at / 8) s))
-      ∙ drop-drop (at % 8) (at / 8 * 8) (bits s)
-      ∙ ap (λ (n : ℕ). drop n (bits s)) (let x : at / 8 * 8 + at % 8 ≡ at = omega arith in x)
+      ahead-from (at / 8) (at % 8) h e ∙ ap (λ (n : ℕ). drop n (bits s)) (let x : at / 8 * 8 + at % 8 ≡ at = omega arith in x)
+
+-- the n bits from bit `at` on
+pub ahead-part : (s : List ℕ) (held have next q r at n shift : ℕ) → ahead s held have next ≡ bits (drop q s) → q * 8 + r ≡ at
+    → shift + n + r ≡ have → low n (held / 2 ^ shift) ≡ take n (drop at (bits s))
+ahead-part s held have next q r at n shift e place size =
+    let part : List ℕ = low n (held / 2 ^ (have - r - n)) in
+    let rest : List ℕ = ahead s held (have - r - n) next in
+    ap (λ (j : ℕ). low n (held / 2 ^ j)) (let x : shift ≡ have - r - n = omega arith in x)
+    ∙ sym (take-at part rest n (length-low n (held / 2 ^ (have - r - n))))
+    ∙ ap (take n) (sym (ahead-split s held (have - r) next n (omega arith)) ∙ ahead-from s held have next q r (omega arith) e)
+    ∙ ap (λ (j : ℕ). take n (drop j (bits s))) place
 
 -- an empty buffer
 pub ahead-none : (s : List ℕ) (next : ℕ) → ahead s 0 0 next ≡ bits (drop next s)
 unfolding ahead low
 ahead-none s next = refl
+
+-- one byte in a buffer, and two
+pub ahead-one : (s : List ℕ) (q : ℕ) → q < length s → getD s q 0 < 256 → ahead s (getD s q 0) 8 (q + 1) ≡ bits (drop q s)
+ahead-one s q h k = ap (λ (x : ℕ). ahead s x 8 (q + 1)) (sym (zero-add (getD s q 0))) ∙ ahead-byte s 0 0 q h k ∙ ahead-none s q
+
+pub ahead-two : (s : List ℕ) (q : ℕ) → q + 1 < length s → ((i : ℕ) → getD s i 0 < 256)
+    → ahead s (getD s q 0 * 256 + getD s (q + 1) 0) 16 (q + 2) ≡ bits (drop q s)
+ahead-two s q h bytes =
+    ap (λ (n : ℕ). ahead s (getD s q 0 * 256 + getD s (q + 1) 0) 16 n) (let e : q + 2 ≡ q + 1 + 1 = omega arith in e)
+    ∙ ahead-byte s (getD s q 0) 8 (q + 1) h (bytes (q + 1)) ∙ ahead-one s q (omega arith) (bytes q)
+
+-- the nine bits from bit `at` on, out of the two bytes from the one that it is in
+pub nine-part : (s : List ℕ) (held at : ℕ) → at / 8 + 1 < length s → ahead s held 16 (at / 8 + 2) ≡ bits (drop (at / 8) s)
+    → Nine (drop at (bits s)) (held / 2 ^ (7 - at % 8) % 512)
+nine-part s held at h e = record {
+  nine = low-mod 9 0 (held / 2 ^ (7 - at % 8))
+      ∙ ahead-part s held 16 (at / 8 + 2) (at / 8) (at % 8) at 9 (7 - at % 8) e (omega arith) (omega arith)
+      ∙ sym (take-append-le 9 (drop at (bits s)) (replicate 9 1) (omega (arith, length-drop at (bits s), length-bits s)));
+  small = mod-lt (held / 2 ^ (7 - at % 8)) (zero-lt-suc 511);
+}
 
 module _ (s : List ℕ) (at : ℕ) (b : Buffer) (h : Starts s at b) (inside : at ≤ length s * 8) where
   pub starts-left : b .have + 8 * (length s - b .next) ≡ length s * 8 - at
@@ -88,12 +113,19 @@ module _ (s : List ℕ) (at : ℕ) (b : Buffer) (h : Starts s at b) (inside : at
   starts-no-fill none f =
       none (subst Fill (sym (starts-all (omega (arith, f .few, length-drop at (bits s), length-bits s, starts-left)))) f)
 
-  -- w bits, at most nine, are in the buffer if they follow the bit
-  pub starts-have : (w : ℕ) → w ≤ 9 → w ≤ length s * 8 - at → w ≤ b .have
-  starts-have w few there =
-      by-cases (decLt (b .next) (length s)) (λ l. omega (arith, h .enough l)) (λ l. omega (arith, starts-left))
-
-  -- and then they are passed by taking them out
-  pub starts-drop : (w : ℕ) → w ≤ b .have → ahead s (b .held) (b .have - w) (b .next) ≡ drop (at + w) (bits s)
-  starts-drop w k =
-      ahead-drop s (b .held) (b .have) (b .next) w k ∙ ap (drop w) (h .same) ∙ drop-drop w at (bits s)
+  -- the window is the next nine bits
+  pub starts-nine : (w : ℕ) → Window (b .held) (b .have) w → Nine (drop at (bits s)) w
+  unfolding ahead
+  starts-nine w v =
+      let ones : List ℕ = replicate 9 1 in
+      let held : List ℕ = low (b .have) (b .held) in
+      let left : List ℕ = drop at (bits s) in
+      let same : take 9 (held ++ ones) ≡ take 9 (left ++ ones) =
+      by-cases (decLe 9 (b .have))
+      (λ l.
+      take-append-le 9 held ones (omega (arith, length-low (b .have) (b .held)))
+      ∙ sym (take-append-le 9 held (bits (drop (b .next) s)) (omega (arith, length-low (b .have) (b .held))))
+      ∙ ap (take 9) (h .same)
+      ∙ sym (take-append-le 9 left ones (omega (arith, starts-left, length-drop at (bits s), length-bits s))))
+      (λ l. ap (λ (r : List ℕ). take 9 (r ++ ones)) (starts-all (omega arith))) in
+      record { nine = v .nine ∙ same; small = v .small }

@@ -1,24 +1,23 @@
 -- Announced values: any six bits are one, and where they are too few the reading is stuck at the first that lacks its bits.
 -- Assumes nothing.
-use mathlib.Core.Path.{_≡_, refl, sym, ap, ap₂, subst, subst⁻¹, _∙_}
+use mathlib.Core.Path.{_≡_, refl, sym, ap, subst, subst⁻¹, _∙_}
 use mathlib.Core.Logic.{by-cases}
 use mathlib.Core.List.{List, [], _∷_, _++_, append-assoc, append-nil}
-use Prim.Native.Nat.{ℕ, zero, suc, _+_, _-_, _*_, _/_, _%_, _^_, _≤_, _<_}
+use Prim.Native.Nat.{ℕ, zero, suc, _+_, _*_, _/_, _^_, _≤_, _<_}
 use native.Mathlib.Decide.{decLt}
 use native.Mathlib.Omega.{arith}
 use lib.ListN.{length, take, drop, length-append, length-drop, take-append-drop}
-use lib.Seq.{length-take-le, take-at, drop-at, drop-drop}
-use Rattle.codes.specs.Ahead.{ahead}
+use lib.Seq.{length-take-le, drop-drop}
 use Rattle.codes.specs.Chain.{Entry, In, Begins, Stuck}
 use Rattle.codes.specs.Pack.{Binary, low, value}
-use Rattle.codes.proofs.Low.{length-low, low-value, value-low, value-lt}
+use Rattle.codes.specs.Passed.{Passed}
+use Rattle.codes.proofs.Low.{length-low, low-value, value-lt}
 use Rattle.codes.proofs.Pack.{binary-take, binary-drop}
-use Rattle.codes.proofs.Passed.{Passed, passed-more}
+use Rattle.codes.proofs.Passed.{passed-more}
 use Rattle.codes.proofs.Reading.{stuck-more, stuck-here}
 use Rattle.pseudo_binary.specs.Table.{characterOf, six, tables}
 use Rattle.pseudo_binary.specs.Taken.{characters}
 use Rattle.pseudo_binary.proofs.Entries.{six-in, six-of, after-six}
-use Rattle.pseudo_binary.proofs.Starts.{ahead-split}
 
 pub length-characters : (n : ℕ) (bs : List ℕ) → length (characters n bs) ≡ n
 unfolding characters
@@ -88,17 +87,3 @@ stuck-values (suc m) rest h k =
     (let e : length (six v .code) + length (drop 6 rest) / 6 * 6 ≡ length rest / 6 * 6 = omega (arith, length-low 6 v, length-drop 6 rest) in e)
     (subst⁻¹ (λ (l : List ℕ). Stuck tables (suc m) l (length (six v .code) + length (drop 6 rest) / 6 * 6))
     (first-code rest h (omega arith)) one))
-
--- the next value in a buffer
-pub value-ahead : (s : List ℕ) (held have next n : ℕ) → 6 ≤ have
-    → characters (suc n) (ahead s held have next)
-    ≡ characterOf (held / 2 ^ (have - 6) % 64) ∷ characters n (ahead s held (have - 6) next)
-unfolding characters
-value-ahead s held have next n h =
-    let six-bits : List ℕ = low 6 (held / 2 ^ (have - 6)) in
-    let later : List ℕ = ahead s held (have - 6) next in
-    let e : ahead s held have next ≡ six-bits ++ later = ahead-split s held have next 6 h in
-    ap₂ (λ (a b : List ℕ). characterOf (value a) ∷ characters n b)
-    (ap (take 6) e ∙ take-at six-bits later 6 (length-low 6 (held / 2 ^ (have - 6))))
-    (ap (drop 6) e ∙ drop-at six-bits later 6 (length-low 6 (held / 2 ^ (have - 6))))
-    ∙ ap (λ (v : ℕ). characterOf v ∷ characters n later) (value-low 6 (held / 2 ^ (have - 6)))

@@ -11,7 +11,8 @@ use lib.ListN.{length}
 use Rattle.bits.specs.Row.{Bytes}
 use Rattle.codes.specs.Chain.{Entry, after, Row, codes, texts, Built}
 use Rattle.codes.specs.Pack.{Binary, numbers, written}
-use Rattle.codes.proofs.Every.{every, every-at, and-left, and-right}
+use Rattle.codes.proofs.Coded.{coded-none, coded-rest, coded-append, coded-every}
+use Rattle.codes.proofs.Every.{every, every-at}
 use Rattle.codes.proofs.Pack.{row-binary, written-built, written-bytes, length-bits}
 use Rattle.codes.proofs.Speaks.{never-silent}
 use Rattle.pseudo_binary.specs.Table.{Kind, values, of, coded, Coded, characterOf, indicator, most, indicators, six, tables}
@@ -47,15 +48,18 @@ follows : (k : Kind) (n : ℕ) (t : List ℕ) → Coded t → Follows k n t
 unfolding run oursAfter texts
 follows k zero [] u = counted-none k refl refl
 follows k (suc n) [] u = counted-none k refl refl
-follows k zero (c ∷ t) u = follows-new k c t (u .0) (follows (kind c) (pred (most (kind c))) t (u .1))
-follows k (suc n) (c ∷ t) u = pick (of k c) refl (follows k n t (u .1)) (follows (kind c) (pred (most (kind c))) t (u .1))
+follows k zero (c ∷ t) u =
+    follows-new k c t (u 0 (omega arith)) (follows (kind c) (pred (most (kind c))) t (coded-rest coded c t u))
+follows k (suc n) (c ∷ t) u =
+    let rest : Coded t = coded-rest coded c t u in
+    pick (of k c) refl (follows k n t rest) (follows (kind c) (pred (most (kind c))) t rest)
   where
     pick : (b : Bool) → of k c ≡ b → Follows k n t → Follows (kind c) (pred (most (kind c))) t
         → Counted k (cond b (suc (run k n t)) 0) (c ∷ t) (oursAfter (cond b (suc (run k n t)) 0) (c ∷ t))
     pick true x h g =
         subst⁻¹ (λ (l : Kind). Counted k (suc (run k n t)) (c ∷ t) (besides l c ++ oursAfter (run k n t) t)) (of-kind k c x)
         (counted-one c x h)
-    pick false x h g = follows-new k c t (u .0) g
+    pick false x h g = follows-new k c t (u 0 (omega arith)) g
 
 pub ours-row : (t : List ℕ) → Coded t → Row tables 0 (ours t) 0
 unfolding ours run announced
@@ -119,17 +123,12 @@ unfolding of coded characterOf indicator most indicators six tables numbers ever
 all-spell zero = tt
 all-spell (suc m) = tt
 
-coded-append : (a b : List ℕ) → T (every coded a) → Coded b → Coded (a ++ b)
-unfolding every
-coded-append [] b h k = k
-coded-append (c ∷ a) b h k =
-    (and-left (coded c) (every coded a) h, coded-append a b (and-right (coded c) (every coded a) h) k)
-
 row-coded : (m n : ℕ) (es : List Entry) → Row tables m es n → Coded (texts es)
 unfolding texts spells
-row-coded m n [] r = tt
+row-coded m n [] r = coded-none coded
 row-coded m n (e ∷ es) r =
-    coded-append (e .says) (texts es) (every-at spells (tables m) (all-spell m) e (r .0)) (row-coded (after m e) n es (r .1))
+    coded-append coded (e .says) (texts es) (coded-every coded (e .says) (every-at spells (tables m) (all-spell m) e (r .0)))
+    (row-coded (after m e) n es (r .1))
 
 pub built-coded : {t : List ℕ} (sent : List ℕ) → Built tables t sent → Coded t
 built-coded sent b = subst Coded (b .says) (row-coded 0 0 (b .entries) (b .row))

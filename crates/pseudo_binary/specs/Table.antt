@@ -3,10 +3,11 @@
 use mathlib.Core.Bool.{Bool, _&&_, _||_}
 use mathlib.Core.List.{List, [], _∷_, _++_, map}
 use Prim.Native.Nat.{ℕ, zero, suc, _+_, _%_}
-use lib.Dec.{T, leb, eqb}
-use lib.ListN.{replicate}
+use lib.Dec.{leb, eqb}
+use lib.ListN.{length, replicate}
 use Rattle.codes.specs.Chain.{Entry, Tables}
 use Rattle.codes.specs.Pack.{low, numbers}
+use Rattle.codes.specs.Size
 
 abbrev pub SPACE : ℕ
 SPACE = 32
@@ -32,8 +33,7 @@ coded c = of values c || (of spaces c || of slashes c)
 
 -- each character of the text has a code
 abbrev pub Coded : List ℕ → Type 0
-Coded [] = Unit {0}
-Coded (c ∷ text) = T (coded c) × Coded text
+Coded text = Size.Coded coded text (length text)
 
 -- the value of a character is its low six bits
 unfoldable pub valueOf : ℕ → ℕ

@@ -1,14 +1,14 @@
 -- `full_ascii::first_uncoded` meets its contract. The loop's invariant: each character passed has a code.
 -- Assumes nothing.
-use mathlib.Core.Bool.{false}
-use mathlib.Core.Logic.{⊎-elim}
-use mathlib.Core.Path.{_≡_, subst}
-use Prim.Native.Nat.{ℕ, _+_, _-_, _≤_, _<_}
+use mathlib.Core.Path.{sym, subst, subst⁻¹, _∙_}
+use Prim.Native.Nat.{ℕ, _-_, _≤_}
 use native.Mathlib.Omega.{arith}
 use borrow.Author.Count.{below-more}
 use borrow.Author.Needs.{needs}
+use borrow.Author.Tests.{not-true, not-false}
 use lib.Dec.{T}
 use lib.ListN.{length, getD}
+use Rattle.bits.proofs.Said.{said-yes}
 use Rattle.codes.specs.Size.{Coded}
 use Rattle.full_ascii.specs.Writer.{coded}
 use Rattle.full_ascii.proofs.first_uncoded.Statement.{statement}
@@ -20,23 +20,27 @@ Inv-loop text i₀ i = (i ≤ length text) × Coded coded text i
 abbrev μ-loop : tie.MeasureT-loop
 μ-loop text i₀ i = length text - i
 
+all-coded-requires : tie.Need-all-coded-requires Inv-loop μ-loop
+all-coded-requires c κs = search needs
+
+returns : tie.Need-returns Inv-loop μ-loop
+returns c = said-yes (c .before .all-coded .result) (c .before .all-coded .ensures) (c .if1 .taken)
+
 loop-holds : tie.Need-loop-holds Inv-loop μ-loop
 loop-holds c = (omega arith, λ i h. absurd (let no′ : ⊥ = omega arith in no′))
 
-shared-slice-read-own-code : tie.Need-shared-slice-read-own-code Inv-loop μ-loop
-shared-slice-read-own-code c = omega arith
+shared-slice-read-is-coded : tie.Need-shared-slice-read-is-coded Inv-loop μ-loop
+shared-slice-read-is-coded c = omega arith
 
-own-code-requires : tie.Need-own-code-requires Inv-loop μ-loop
-own-code-requires c κs = search needs
+is-coded-requires : tie.Need-is-coded-requires Inv-loop μ-loop
+is-coded-requires c κs = search needs
 
-returns : tie.Need-returns Inv-loop μ-loop
-returns c =
-    let o = c .before .before in
-    let a = o .before .before .before in
+returns-2 : tie.Need-returns-2 Inv-loop μ-loop
+returns-2 c =
     record {
       there = omega arith;
-      before = a .loop .inv .1;
-      none = λ t. ⊎-elim (λ x. subst T (x .0) t) (λ x. omega (arith, x .1 .short, c .if1 .taken)) (o .own-code .ensures);
+      before = c .before .before .before .before .loop .inv .1;
+      none = λ t. subst T (sym (c .before .is-coded .ensures) ∙ not-true (c .before .is-coded .result) (c .if2 .taken)) t;
     }
 
 add-i : tie.Need-add-i Inv-loop μ-loop
@@ -47,16 +51,15 @@ loop-less c = omega arith
 
 loop-again : tie.Need-loop-again Inv-loop μ-loop
 loop-again c =
-    let o = c .before .before in
-    let a = o .before .before .before in
-    let text = a .before .before .args .text .now in (
+    let a = c .before .before .before .before in
+    let text = a .before .before .before .before .args .text .now in (
       omega arith,
       below-more (λ (k : ℕ). T (coded (getD text k 0))) (a .loop .i) (a .loop .inv .1)
-          (⊎-elim (λ x. absurd (c .if1 .left (x .1))) (λ x. x .0) (o .own-code .ensures)),
+          (subst⁻¹ T (sym (c .before .is-coded .ensures) ∙ not-false (c .before .is-coded .result) (c .if2 .left)) tt),
     )
 
-returns-2 : tie.Need-returns-2 Inv-loop μ-loop
-returns-2 c = λ i h. c .before .loop .inv .1 i (omega arith)
+returns-3 : tie.Need-returns-3 Inv-loop μ-loop
+returns-3 c = λ i h. c .before .loop .inv .1 i (omega arith)
 
 pub first-uncoded-spec : {M : Type 1} → statement M
 first-uncoded-spec =
@@ -64,11 +67,13 @@ first-uncoded-spec =
     (tie.spec
     Inv-loop
     μ-loop
-    loop-holds
-    shared-slice-read-own-code
-    own-code-requires
+    all-coded-requires
     returns
+    loop-holds
+    shared-slice-read-is-coded
+    is-coded-requires
+    returns-2
     add-i
     loop-less
     loop-again
-    returns-2)
+    returns-3)

@@ -1,31 +1,28 @@
 -- `full_ascii::measure_last` meets its contract. The loop's invariant: the codes that were passed leave the lowest `left` bits.
 -- Assumes nothing.
-use mathlib.Core.Path.{ap, subst, subst⁻¹}
+use mathlib.Core.Path.{subst}
 use mathlib.Core.Bool.{Bool}
-use mathlib.Core.List.{List, [], _++_, append-nil}
-use Prim.Native.Nat.{ℕ, _+_, _-_, _≤_}
+use Prim.Native.Nat.{_+_, _-_, _≤_}
 use native.Mathlib.Omega.{arith}
-use lib.ListN.{length}
 use Rattle.bits.specs.Says.{Says}
 use Rattle.codes.specs.Chain.{Fill}
 use Rattle.codes.specs.Pack.{low}
+use Rattle.codes.proofs.Laying.{counting-none, counting-end, counting-stuck}
 use Rattle.codes.proofs.Low.{length-low}
-use Rattle.codes.proofs.Reading.{Halts}
+use Rattle.full_ascii.specs.Passing.{Counted}
 use Rattle.full_ascii.specs.Table.{tables}
-use Rattle.full_ascii.proofs.Steps.{Counted, counted-none, counted-code, counted-end, counted-stuck, no-code}
+use Rattle.full_ascii.proofs.Steps.{counted-code, no-code}
 use Rattle.full_ascii.proofs.measure_last.Statement.{statement}
 use Rattle.full_ascii.proofs.measure_last.Tie as tie
 
 abbrev Inv-loop : tie.InvT-loop
-Inv-loop held have left₀ n₀ left n = (left ≤ have) × (n + left ≤ have) × Counted (low have held) (low left held ++ []) n
+Inv-loop held have left₀ n₀ left n = (left ≤ have) × (n + left ≤ have) × Counted (low have held) (low left held) n
 
 abbrev μ-loop : tie.MeasureT-loop
 μ-loop held have left₀ n₀ left n = left
 
 loop-holds : tie.Need-loop-holds Inv-loop μ-loop
-loop-holds c =
-    let b = low (c .args .have) (c .args .held) in
-    (omega arith, omega arith, subst⁻¹ (λ (l : List ℕ). Counted b l 0) (append-nil b) (counted-none b))
+loop-holds c = (omega arith, omega arith, counting-none tables (low (c .args .have) (c .args .held)))
 
 at-end-requires : tie.Need-at-end-requires Inv-loop μ-loop
 at-end-requires c κs = omega arith
@@ -34,8 +31,8 @@ returns : tie.Need-returns Inv-loop μ-loop
 returns c =
     let a = c .before .before in
     let rest = low (a .loop .left) (a .before .args .held) in
-    counted-end (low (a .before .args .have) (a .before .args .held)) (rest ++ []) (a .loop .n) (a .loop .inv .2)
-    (subst⁻¹ Fill (append-nil rest) (subst (λ (b : Bool). Says b (Fill rest)) (c .if1 .taken) (c .before .at-end .ensures)))
+    counting-end (a .loop .inv .2)
+    (subst (λ (b : Bool). Says b (Fill rest)) (c .if1 .taken) (c .before .at-end .ensures))
 
 window-requires : tie.Need-window-requires Inv-loop μ-loop
 window-requires c κs = omega arith
@@ -52,14 +49,11 @@ returns-2 c =
     let a = f .before .before .before .before in
     let held = a .before .args .held in
     let rest = low (a .loop .left) held in
-    counted-stuck (low (a .before .args .have) held) (rest ++ []) (a .loop .n) (a .before .args .have - a .loop .left) (a .loop .inv .2)
-    (omega (arith, length-low (a .before .args .have) held, ap length (append-nil rest), length-low (a .loop .left) held))
-    (subst⁻¹ (Halts tables 0) (append-nil rest)
+    counting-stuck (a .loop .inv .2) (a .before .args .have - a .loop .left)
+    (omega (arith, length-low (a .before .args .have) held, length-low (a .loop .left) held))
     (no-code held (a .loop .left) (f .before .window .result) (f .first-code .result) (f .before .window .ensures) (f .first-code .ensures)
-    (c .if2 .taken)))
-    (λ x.
-    subst (λ (b : Bool). Says b (Fill rest)) (f .before .before .if1 .left) (f .before .before .before .at-end .ensures)
-    (subst Fill (append-nil rest) x))
+    (c .if2 .taken))
+    (subst (λ (b : Bool). Says b (Fill rest)) (f .before .before .if1 .left) (f .before .before .before .at-end .ensures))
 
 add-n : tie.Need-add-n Inv-loop μ-loop
 add-n c = omega (arith, c .before .before .before .before .first-code .ensures .short, c .before .before .before .before .first-code .ensures .few)
@@ -74,7 +68,7 @@ loop-again c =
     let held = a .before .args .held in (
       omega (arith, f .first-code .ensures .short),
       omega (arith, f .first-code .ensures .short, f .first-code .ensures .few),
-      counted-code (low (a .before .args .have) held) held (a .loop .left) (f .before .window .result) (a .loop .n) (f .first-code .result) []
+      counted-code (low (a .before .args .have) held) held (a .loop .left) (f .before .window .result) (a .loop .n) (f .first-code .result)
           (a .loop .inv .2) (f .before .window .ensures) (f .first-code .ensures) (c .before .before .if2 .left),
     )
 

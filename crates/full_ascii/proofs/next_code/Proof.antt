@@ -1,11 +1,6 @@
 -- `full_ascii::next_code` meets its contract. Assumes nothing.
-use mathlib.Core.Path.{subst}
-use mathlib.Core.Bool.{Bool}
-use mathlib.Core.Logic.{inr}
-use native.Mathlib.Omega.{arith}
 use lib.ListN.{drop}
-use Rattle.bits.specs.Says.{Says}
-use Rattle.full_ascii.specs.Writer.{LineEnd}
+use Rattle.bits.proofs.Said.{said-yes, said-no}
 use Rattle.full_ascii.proofs.Sending.{first-pair, first-own}
 use borrow.Author.Needs.{needs}
 use Rattle.full_ascii.proofs.next_code.Statement.{statement}
@@ -16,23 +11,25 @@ pair-at-requires c κs = search needs
 
 returns : tie.Need-returns
 returns c =
-    let e = c .before .before .before in
-    inr (first-pair (drop (e .args .i) (e .args .text .now))
-    (subst (λ (b : Bool). Says b (LineEnd (drop (e .args .i) (e .args .text .now)))) (c .if1 .taken) (c .before .pair-at .ensures)))
+    let p = c .before in
+    let e = p .before .before in
+    first-pair (drop (e .args .i) (e .args .text .now)) (said-yes (p .pair-at .result) (p .pair-at .ensures) (c .if1 .taken))
 
 shared-slice-read-own-code : tie.Need-shared-slice-read-own-code
 shared-slice-read-own-code c = search needs
 
 own-code-requires : tie.Need-own-code-requires
-own-code-requires c κs = search needs
+own-code-requires c κs =
+    let e = c .before .before .before .before in
+    e .pre .0 (e .args .i) (e .pre .1)
 
 returns-2 : tie.Need-returns-2
 returns-2 c =
     let l = c .before .before in
-    let e = l .before .before .before in
-    first-own (e .args .text .now) (e .args .i) (c .own-code .result) (omega arith)
-    (subst (λ (b : Bool). Says b (LineEnd (drop (e .args .i) (e .args .text .now)))) (l .if1 .left) (l .before .pair-at .ensures))
-    (c .own-code .ensures)
+    let p = l .before in
+    let e = p .before .before in
+    first-own (e .args .text .now) (e .args .i) (c .own-code .result) (e .pre .1)
+    (said-no (p .pair-at .result) (p .pair-at .ensures) (l .if1 .left)) (c .own-code .ensures)
 
 pub next-code-spec : {M : Type 1} → statement M
 next-code-spec =

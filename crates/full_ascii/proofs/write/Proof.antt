@@ -1,6 +1,6 @@
 -- `full_ascii::write` meets its contract. The loop's invariant: the bytes so far are laid, and what is held, our codes of the rest of the text and
 -- the fill are pending. Assumes nothing.
-use mathlib.Core.Path.{_≡_, sym, ap, subst, _∙_}
+use mathlib.Core.Path.{_≡_, sym, ap, subst, subst⁻¹, _∙_}
 use mathlib.Core.List.{List, _++_}
 use Prim.Native.Nat.{ℕ, _+_, _-_, _*_, _≤_, _<_}
 use native.Mathlib.Nat.{zero-add}
@@ -10,21 +10,21 @@ use Rattle.codes.specs.Chain.{Entry, codes}
 use Rattle.codes.specs.Laid.{laid}
 use Rattle.codes.specs.Pack.{written, gap}
 use Rattle.full_ascii.specs.Writer.{ours}
-use Rattle.full_ascii.specs.Sending.{FirstOf}
-use Rattle.codes.proofs.Pending.{Pending, pending-none, pending-push, pending-length, pending-room, pending-byte, flush-room, flushed}
+use Rattle.codes.proofs.Pending.{Pending, pending-none, pending-length, pending-room-bytes, pending-bytes, flush-room, flushed}
 use Rattle.codes.proofs.Pack.{bits-written, length-written, gap-few}
 use Rattle.full_ascii.proofs.Writer.{ours-bytes, ours-binary}
-use Rattle.full_ascii.proofs.Sending.{codes-rest, count-rest, always-first, ours-end}
+use Rattle.full_ascii.proofs.Pushing.{pushed-pending}
+use Rattle.full_ascii.proofs.Sending.{ours-end}
 use Rattle.full_ascii.proofs.write.Statement.{statement}
 use Rattle.full_ascii.proofs.write.Tie as tie
 
 abbrev Inv-loop : tie.InvT-loop
 Inv-loop text out₀ held₀ have₀ i₀ n₀ out held have i n =
-    (i ≤ length text) × (have ≤ 16) × Pending (written (ours text)) out₀ out 0 n held have
+    (i ≤ length text) × (have < 64) × Pending (written (ours text)) out₀ out 0 n held have
     (codes (ours (drop i text)) ++ replicate (gap (length (codes (ours text)))) 1)
 
 abbrev μ-loop : tie.MeasureT-loop
-μ-loop text out₀ held₀ have₀ i₀ n₀ out held have i n = 16 * (length text - i) + have
+μ-loop text out₀ held₀ have₀ i₀ n₀ out held have i n = 29 * (length text - i) + have
 
 loop-holds : tie.Need-loop-holds Inv-loop μ-loop
 loop-holds c =
@@ -51,82 +51,57 @@ same a =
     pending-length (written (ours t)) (e .args .out .now) 0 (ours-bytes t (e .pre .0)) (room a) (a .loop .out) (a .loop .n) (a .loop .held)
     (a .loop .have) (rest t (a .loop .i)) (a .loop .inv .2)
 
-byte-room : (c : tie.Then1 Inv-loop μ-loop) → c .before .before .loop .n < length (c .before .before .before .before .before .args .out .now)
-byte-room c =
+four-room : (c : tie.Then1 Inv-loop μ-loop) → c .before .before .loop .n + 4 ≤ length (c .before .before .before .before .before .args .out .now)
+four-room c =
     let a = c .before .before in
     let e = a .before .before .before in
     let t = e .args .text .now in
-    pending-room (written (ours t)) (e .args .out .now) 0 (ours-bytes t (e .pre .0)) (room a) (a .loop .out) (a .loop .n) (a .loop .held)
+    pending-room-bytes (written (ours t)) (e .args .out .now) 0 (ours-bytes t (e .pre .0)) (room a) 4 (a .loop .out) (a .loop .n) (a .loop .held)
     (a .loop .have) (rest t (a .loop .i)) (c .if1 .taken) (a .loop .inv .2)
 
--- the next code
-found : (f : tie.After-next-code Inv-loop μ-loop)
-    → FirstOf (drop (f .before .before .before .loop .i) (f .before .before .before .before .before .before .args .text .now)) (f .next-code .result)
-found f =
-    let a = f .before .before .before in
-    let e = a .before .before .before in
-    always-first (e .args .text .now) (a .loop .i) (f .next-code .result) (e .pre .0) (f .before .before .loop-test .taken) (f .next-code .ensures)
-
-shr-out : tie.Need-shr-out Inv-loop μ-loop
-shr-out c = omega arith
-
-cast-out : tie.Need-cast-out Inv-loop μ-loop
-cast-out c = omega arith
-
-slice-write-out : tie.Need-slice-write-out Inv-loop μ-loop
-slice-write-out c = omega (arith, byte-room c, same (c .before .before))
+spill-requires : tie.Need-spill-requires Inv-loop μ-loop
+spill-requires c κs = (c .before .if1 .taken, omega arith, omega (arith, four-room (c .before), same (c .before .before .before)))
 
 add-n : tie.Need-add-n Inv-loop μ-loop
-add-n c = omega (arith, byte-room c, c .before .before .before .before .before .good)
+add-n c =
+    let l = c .before .before .before .before in
+    omega (arith, four-room l, l .before .before .before .before .before .good)
 
 loop-less : tie.Need-loop-less Inv-loop μ-loop
-loop-less c = omega (arith, c .if1 .taken)
+loop-less c = omega (arith, c .before .before .before .before .if1 .taken)
 
 loop-again : tie.Need-loop-again Inv-loop μ-loop
 loop-again c =
-    let a = c .before .before in
+    let l = c .before .before .before .before in
+    let a = l .before .before in
     let e = a .before .before .before in
     let t = e .args .text .now in (
+      a .loop .inv .0,
       omega arith,
-      omega arith,
-      pending-byte (written (ours t)) (e .args .out .now) 0 (ours-bytes t (e .pre .0)) (room a) (a .loop .out) (a .loop .n) (a .loop .held)
-          (a .loop .have) (rest t (a .loop .i)) (c .if1 .taken) (a .loop .inv .2),
+      subst⁻¹ (λ (o : List ℕ). Pending (written (ours t)) (e .args .out .now) o 0 (a .loop .n + 4) (a .loop .held) (a .loop .have - 32) (rest t (a .loop .i)))
+          (c .before .before .spill .ensures)
+          (pending-bytes (written (ours t)) (e .args .out .now) 0 (ours-bytes t (e .pre .0)) (room a) 4 (a .loop .out) (a .loop .n) (a .loop .held)
+          (a .loop .have) (rest t (a .loop .i)) (l .if1 .taken) (a .loop .inv .2)),
     )
 
-next-code-requires : tie.Need-next-code-requires Inv-loop μ-loop
-next-code-requires c κs = c .before .loop-test .taken
-
-push-requires : tie.Need-push-requires Inv-loop μ-loop
-push-requires c κs = (omega (arith, found c .sends .long), found c .sends .fits)
-
-add-have : tie.Need-add-have Inv-loop μ-loop
-add-have c = omega (arith, found (c .before .before) .sends .long)
-
-add-i : tie.Need-add-i Inv-loop μ-loop
-add-i c =
-    let f = c .before .before .before in
-    let a = f .before .before .before in
-    let e = a .before .before .before in
-    omega (arith, count-rest (e .args .text .now) (a .loop .i) (f .next-code .result) (found f) (a .loop .inv .0), e .good)
+push-codes-requires : tie.Need-push-codes-requires Inv-loop μ-loop
+push-codes-requires c κs = (c .before .before .before .before .before .pre .0, c .before .loop-test .taken, c .if1 .left)
 
 loop-less-2 : tie.Need-loop-less-2 Inv-loop μ-loop
 loop-less-2 c =
-    let f = c .before .before .before in
-    omega (arith, found f .some, found f .sends .long, f .before .before .loop-test .taken)
+    let p = c .push-codes .ensures in
+    omega (arith, p .later, p .within, p .few)
 
 loop-again-2 : tie.Need-loop-again-2 Inv-loop μ-loop
 loop-again-2 c =
-    let f = c .before .before .before in
-    let a = f .before .before .before in
+    let a = c .before .before .before in
     let e = a .before .before .before in
     let t = e .args .text .now in
-    let r = f .next-code .result in (
-      count-rest t (a .loop .i) r (found f) (a .loop .inv .0),
-      omega (arith, found f .sends .long, f .before .if1 .left),
-      pending-push (written (ours t)) (e .args .out .now) (a .loop .out) 0 (a .loop .n) (a .loop .held) (a .loop .have) (c .before .before .push .result)
-          (r .width) (r .bits) (rest t (a .loop .i + r .count)) (omega arith) (c .before .before .push .ensures)
-          (subst (Pending (written (ours t)) (e .args .out .now) (a .loop .out) 0 (a .loop .n) (a .loop .held) (a .loop .have))
-          (codes-rest t (a .loop .i) r (found f) (replicate (gap (length (codes (ours t)))) 1)) (a .loop .inv .2)),
+    let p = c .push-codes .ensures in (
+      p .within,
+      omega (arith, p .few, c .before .if1 .left),
+      pushed-pending t 28 (record { held = a .loop .held; have = a .loop .have; next = a .loop .i }) (c .push-codes .result) (written (ours t))
+          (e .args .out .now) (a .loop .out) 0 (a .loop .n) (replicate (gap (length (codes (ours t)))) 1) p (a .loop .inv .2),
     )
 
 -- after the loop: what is held and the fill are pending
@@ -183,16 +158,11 @@ write-spec =
     Inv-loop
     μ-loop
     loop-holds
-    shr-out
-    cast-out
-    slice-write-out
+    spill-requires
     add-n
     loop-less
     loop-again
-    next-code-requires
-    push-requires
-    add-have
-    add-i
+    push-codes-requires
     loop-less-2
     loop-again-2
     flush-requires

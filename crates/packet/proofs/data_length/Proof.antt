@@ -6,7 +6,6 @@ use lib.ListN.{length}
 use Rattle.header.specs.declared.Format.{Format}
 use Rattle.codes.specs.Size.{Needs}
 use Rattle.packet.specs.Data.{Coded, dataOf}
-use Rattle.packet.proofs.Formats.{pseudo-coded, ascii-coded}
 use Rattle.packet.proofs.data_length.Statement.{statement}
 use Rattle.packet.proofs.data_length.Tie as tie
 
@@ -23,7 +22,7 @@ data-length-requires : tie.Need-data-length-requires
 data-length-requires c κs =
     let a = c .before .before .before in
     let text = a .args .text .now in
-    pseudo-coded text (subst (λ (k : Format). Coded k text (length text)) (c .enum-told2 .given .1) (a .pre))
+    subst (λ (k : Format). Coded k text (length text)) (c .enum-told2 .given .1) (a .pre)
 
 enum-told-3 : tie.Need-enum-told-3
 enum-told-3 c = search needs
@@ -32,7 +31,7 @@ data-length-requires-2 : tie.Need-data-length-requires-2
 data-length-requires-2 c κs =
     let a = c .before .before .before in
     let text = a .args .text .now in
-    ascii-coded text (subst (λ (k : Format). Coded k text (length text)) (c .enum-told3 .given .1) (a .pre))
+    subst (λ (k : Format). Coded k text (length text)) (c .enum-told3 .given .1) (a .pre)
 
 returns : tie.Need-returns
 returns c =

@@ -15,7 +15,6 @@ use Rattle.full_ascii.specs.Writer as ascii-writer
 use Rattle.pseudo_binary.specs.Sending as pseudo
 use Rattle.packet.specs.Data.{dataOf}
 use Rattle.packet.specs.Steps.{Fits, Packed}
-use Rattle.packet.proofs.Formats.{pseudo-coded, ascii-coded}
 use Rattle.packet.proofs.pack.Statement.{statement}
 use Rattle.packet.proofs.pack.Tie as tie
 
@@ -55,7 +54,7 @@ write-requires c κs =
     let a = c .before .before .before .before .before in
     let text = a .args .text .now in
     let fits = fits-at (a .args .format) text (length (a .args .«data» .now)) (a .pre) PseudoBinary (c .before .enum-told2 .given .1) in
-    (pseudo-coded text (fits .coded), fits .held)
+    (fits .coded, fits .held)
 
 enum-told-3 : tie.Need-enum-told-3
 enum-told-3 c = search needs
@@ -65,7 +64,7 @@ write-requires-2 c κs =
     let a = c .before .before .before .before .before in
     let text = a .args .text .now in
     let fits = fits-at (a .args .format) text (length (a .args .«data» .now)) (a .pre) FullAscii (c .before .enum-told3 .given .1) in
-    (ascii-coded text (fits .coded), omega (arith, fits .held, length-written (ascii-writer.ours text)))
+    (fits .coded, omega (arith, fits .held, length-written (ascii-writer.ours text)))
 
 same-length : tie.Need-same-length
 same-length c = search needs

@@ -1,14 +1,16 @@
 -- `pseudo_binary::data_length` meets its contract. The loop's invariant: the bits so far and those of the rest are those of the whole.
 -- Assumes nothing.
 use mathlib.Core.Path.{_≡_, ap}
-use Prim.Native.Nat.{_+_, _-_, _≤_}
+use mathlib.Core.List.{List}
+use Prim.Native.Nat.{ℕ, _+_, _-_, _≤_}
 use native.Mathlib.Nat.{zero-add}
 use native.Mathlib.Omega.{arith}
-use lib.ListN.{length, drop}
+use lib.ListN.{length, drop, length-drop}
+use lib.Seq.{drop-drop}
 use Rattle.codes.specs.Chain.{codes}
 use Rattle.codes.proofs.Pack.{length-written}
 use Rattle.pseudo_binary.specs.Writer.{ours}
-use Rattle.pseudo_binary.proofs.Sending.{coded-at, first-within, first-bits, ours-end}
+use Rattle.pseudo_binary.proofs.Sending.{ours-end}
 use Rattle.pseudo_binary.proofs.data_length.Statement.{statement}
 use Rattle.pseudo_binary.proofs.data_length.Tie as tie
 
@@ -22,64 +24,57 @@ abbrev μ-loop : tie.MeasureT-loop
 loop-holds : tie.Need-loop-holds Inv-loop μ-loop
 loop-holds c = (omega arith, omega arith, zero-add (length (codes (ours (c .before .args .text .now)))))
 
-next-indicator-requires : tie.Need-next-indicator-requires Inv-loop μ-loop
-next-indicator-requires c κs =
+next-extent-requires : tie.Need-next-extent-requires Inv-loop μ-loop
+next-extent-requires c κs =
     let a = c .before in
     let e = a .before .before in
-    (c .loop-test .taken, coded-at (e .args .text .now) (a .loop .i) (e .pre) (c .loop-test .taken))
+    (c .loop-test .taken, e .pre (a .loop .i) (c .loop-test .taken))
 
-mul-n : tie.Need-mul-n Inv-loop μ-loop
-mul-n c = omega (arith, c .before .next-indicator .ensures .few)
+-- after the indicator the text goes on, and the sum is the same
+within : (f : tie.After-next-extent Inv-loop μ-loop)
+    → f .before .before .loop .i + f .next-extent .result .count ≤ length (f .before .before .before .before .args .text .now)
+within f =
+    let a = f .before .before in
+    omega (arith, f .next-extent .ensures .within, length-drop (a .loop .i) (a .before .before .args .text .now))
+
+sum : (f : tie.After-next-extent Inv-loop μ-loop)
+    → f .before .before .loop .n + f .next-extent .result .bits
+    + length (codes (ours (drop (f .before .before .loop .i + f .next-extent .result .count) (f .before .before .before .before .args .text .now))))
+    ≡ length (codes (ours (f .before .before .before .before .args .text .now)))
+sum f =
+    let a = f .before .before in
+    omega (
+      arith,
+      f .next-extent .ensures .sum,
+      a .loop .inv .2,
+      ap (λ (l : List ℕ). length (codes (ours l))) (drop-drop (f .next-extent .result .count) (a .loop .i) (a .before .before .args .text .now)),
+    )
 
 add-n : tie.Need-add-n Inv-loop μ-loop
-add-n c = omega (arith, c .before .next-indicator .ensures .few, c .before .next-indicator .ensures .long)
-
-add-n-2 : tie.Need-add-n-2 Inv-loop μ-loop
-add-n-2 c = omega (arith, c .before .next-indicator .ensures .few, c .before .next-indicator .ensures .long)
+add-n c = omega (arith, c .before .next-extent .ensures .few)
 
 returns : tie.Need-returns Inv-loop μ-loop
 returns c =
     let f = c .before .before in
-    let a = f .before .before in
-    let t = a .before .before .args .text .now in
-    omega (
-      arith,
-      first-bits t (a .loop .i) (f .next-indicator .result) (f .next-indicator .ensures) (a .loop .inv .0),
-      a .loop .inv .2,
-      length-written (ours t),
-    )
+    omega (arith, sum f, length-written (ours (f .before .before .before .before .args .text .now)))
 
 add-i : tie.Need-add-i Inv-loop μ-loop
 add-i c =
     let f = c .before .before .before in
-    let a = f .before .before in
-    let e = a .before .before in
-    omega (arith, first-within (e .args .text .now) (a .loop .i) (f .next-indicator .result) (f .next-indicator .ensures) (a .loop .inv .0), e .good)
-
-add-i-2 : tie.Need-add-i-2 Inv-loop μ-loop
-add-i-2 c =
-    let f = c .before .before .before in
-    let a = f .before .before in
-    let e = a .before .before in
-    omega (arith, first-within (e .args .text .now) (a .loop .i) (f .next-indicator .result) (f .next-indicator .ensures) (a .loop .inv .0), e .good)
+    omega (arith, within f, f .before .before .before .before .good)
 
 loop-less : tie.Need-loop-less Inv-loop μ-loop
 loop-less c =
     let f = c .before .before .before in
-    omega (arith, f .next-indicator .ensures .some, f .before .loop-test .taken)
+    omega (arith, f .next-extent .ensures .some, f .before .loop-test .taken)
 
 loop-again : tie.Need-loop-again Inv-loop μ-loop
 loop-again c =
     let f = c .before .before .before in
-    let a = f .before .before in
-    let t = a .before .before .args .text .now in (
-      first-within t (a .loop .i) (f .next-indicator .result) (f .next-indicator .ensures) (a .loop .inv .0),
-      omega (arith, c .before .if1 .left),
-      omega (arith, first-bits t (a .loop .i) (f .next-indicator .result) (f .next-indicator .ensures) (a .loop .inv .0), a .loop .inv .2),
-    )
+    (within f, omega (arith, c .before .if1 .left), sum f)
 
-add-t9 : tie.Need-add-t9 Inv-loop μ-loop
-add-t9 c = omega (arith, c .before .loop .inv .1)
+add-t7 : tie.Need-add-t7 Inv-loop μ-loop
+add-t7 c = omega (arith, c .before .loop .inv .1)
 
 returns-2 : tie.Need-returns-2 Inv-loop μ-loop
 unfolding ours
@@ -97,14 +92,11 @@ data-length-spec =
     Inv-loop
     μ-loop
     loop-holds
-    next-indicator-requires
-    mul-n
+    next-extent-requires
     add-n
-    add-n-2
     returns
     add-i
-    add-i-2
     loop-less
     loop-again
-    add-t9
+    add-t7
     returns-2)

@@ -8,6 +8,7 @@ use lib.ListN.{length, getD}
 use borrow.Author.Count.{below-more}
 use borrow.Author.Needs.{needs}
 use borrow.Author.Tests.{not-true, not-false}
+use Rattle.bits.proofs.Said.{said-yes}
 use Rattle.codes.specs.Size.{Coded}
 use Rattle.pseudo_binary.specs.Table.{coded}
 use Rattle.pseudo_binary.proofs.first_uncoded.Statement.{statement}
@@ -19,6 +20,12 @@ Inv-loop text i₀ i = (i ≤ length text) × Coded coded text i
 abbrev μ-loop : tie.MeasureT-loop
 μ-loop text i₀ i = length text - i
 
+all-coded-requires : tie.Need-all-coded-requires Inv-loop μ-loop
+all-coded-requires c κs = search needs
+
+returns : tie.Need-returns Inv-loop μ-loop
+returns c = said-yes (c .before .all-coded .result) (c .before .all-coded .ensures) (c .if1 .taken)
+
 loop-holds : tie.Need-loop-holds Inv-loop μ-loop
 loop-holds c = (omega arith, λ i h. absurd (let no′ : ⊥ = omega arith in no′))
 
@@ -28,12 +35,12 @@ shared-slice-read-is-coded c = omega arith
 is-coded-requires : tie.Need-is-coded-requires Inv-loop μ-loop
 is-coded-requires c κs = search needs
 
-returns : tie.Need-returns Inv-loop μ-loop
-returns c =
+returns-2 : tie.Need-returns-2 Inv-loop μ-loop
+returns-2 c =
     record {
       there = omega arith;
       before = c .before .before .before .before .loop .inv .1;
-      none = λ t. subst T (sym (c .before .is-coded .ensures) ∙ not-true (c .before .is-coded .result) (c .if1 .taken)) t;
+      none = λ t. subst T (sym (c .before .is-coded .ensures) ∙ not-true (c .before .is-coded .result) (c .if2 .taken)) t;
     }
 
 add-i : tie.Need-add-i Inv-loop μ-loop
@@ -45,14 +52,14 @@ loop-less c = omega arith
 loop-again : tie.Need-loop-again Inv-loop μ-loop
 loop-again c =
     let a = c .before .before .before .before in
-    let text = a .before .before .args .text .now in (
+    let text = a .before .before .before .before .args .text .now in (
       omega arith,
       below-more (λ (k : ℕ). T (coded (getD text k 0))) (a .loop .i) (a .loop .inv .1)
-          (subst⁻¹ T (sym (c .before .is-coded .ensures) ∙ not-false (c .before .is-coded .result) (c .if1 .left)) tt),
+          (subst⁻¹ T (sym (c .before .is-coded .ensures) ∙ not-false (c .before .is-coded .result) (c .if2 .left)) tt),
     )
 
-returns-2 : tie.Need-returns-2 Inv-loop μ-loop
-returns-2 c = λ i h. c .before .loop .inv .1 i (omega arith)
+returns-3 : tie.Need-returns-3 Inv-loop μ-loop
+returns-3 c = λ i h. c .before .loop .inv .1 i (omega arith)
 
 pub first-uncoded-spec : {M : Type 1} → statement M
 first-uncoded-spec =
@@ -60,11 +67,13 @@ first-uncoded-spec =
     (tie.spec
     Inv-loop
     μ-loop
+    all-coded-requires
+    returns
     loop-holds
     shared-slice-read-is-coded
     is-coded-requires
-    returns
+    returns-2
     add-i
     loop-less
     loop-again
-    returns-2)
+    returns-3)

@@ -9,24 +9,29 @@ use Rattle.bits.specs.Row.{bits}
 use Rattle.bits.specs.Says.{Says}
 use Rattle.codes.specs.Chain.{Fill}
 use Rattle.codes.specs.Pack.{low}
+use Rattle.codes.specs.Passed.{Counting}
+use Rattle.codes.proofs.Laying.{counting-end}
 use Rattle.pseudo_binary.specs.Table.{tables}
-use Rattle.pseudo_binary.proofs.Passing.{Counting, counting-none, counting-end}
-use Rattle.pseudo_binary.proofs.Starts.{starts-fill}
+use Rattle.pseudo_binary.specs.Taken.{Nine}
+use Rattle.pseudo_binary.proofs.Starts.{starts-fill, starts-no-fill, starts-nine}
 use Rattle.pseudo_binary.proofs.Steps.{counting-run, stuck-indicator, stuck-value}
 use Rattle.pseudo_binary.proofs.measure.Statement.{statement}
 use Rattle.pseudo_binary.proofs.measure.Tie as tie
 
 abbrev Inv-loop : tie.InvT-loop
-Inv-loop s end at₀ n₀ at n = (at ≤ end) × (n ≤ 3 * at) × Counting tables (bits s) (drop at (bits s)) n
+Inv-loop s end at₀ n₀ at n = (at ≤ length s * 8) × (n ≤ 3 * at) × Counting tables (bits s) (drop at (bits s)) n
 
 abbrev μ-loop : tie.MeasureT-loop
-μ-loop s end at₀ n₀ at n = end - at
+μ-loop s end at₀ n₀ at n = length s * 8 - at
 
 mul-end : tie.Need-mul-end Inv-loop μ-loop
 mul-end c = omega (arith, c .before .pre)
 
+measure-most-requires : tie.Need-measure-most-requires Inv-loop μ-loop
+measure-most-requires c κs = c .before .pre
+
 loop-holds : tie.Need-loop-holds Inv-loop μ-loop
-loop-holds c = (omega arith, omega arith, counting-none tables (bits (c .before .args .s .now)))
+loop-holds c = let m = c .measure-most .ensures in (m .0 .0, m .0 .1, m .1)
 
 buffer-at-requires : tie.Need-buffer-at-requires Inv-loop μ-loop
 buffer-at-requires c κs = omega arith
@@ -38,8 +43,8 @@ returns : tie.Need-returns Inv-loop μ-loop
 returns c =
     let b = c .before .before in
     let a = b .before in
-    let s = a .before .before .args .s .now in
-    counting-end (bits s) (drop (a .loop .at) (bits s)) (a .loop .n) (a .loop .inv .2)
+    let s = a .before .before .before .args .s .now in
+    counting-end (a .loop .inv .2)
     (starts-fill s (a .loop .at) (b .buffer-at .result) (b .buffer-at .ensures) (omega (arith, a .loop .inv))
     (subst (λ (t : Bool). Says t (Fill (low (b .buffer-at .result .have) (b .buffer-at .result .held)))) (c .if1 .taken) (c .before .at-end .ensures)))
 
@@ -49,6 +54,16 @@ window-requires c κs = omega (arith, c .before .before .buffer-at .ensures .few
 first-indicator-requires : tie.Need-first-indicator-requires Inv-loop μ-loop
 first-indicator-requires c κs = c .window .ensures .small
 
+-- the window is the next nine bits
+nine : (f : tie.After-first-indicator Inv-loop μ-loop)
+    → Nine (drop (f .before .before .before .before .before .loop .at) (bits (f .before .before .before .before .before .before .before .before .args .s .now)))
+    (f .before .window .result)
+nine f =
+    let b = f .before .before .before .before in
+    let a = b .before in
+    starts-nine (a .before .before .before .args .s .now) (a .loop .at) (b .buffer-at .result) (b .buffer-at .ensures) (omega (arith, a .loop .inv))
+    (f .before .window .result) (f .before .window .ensures)
+
 sub-if2 : tie.Need-sub-if2 Inv-loop μ-loop
 sub-if2 c = omega arith
 
@@ -57,12 +72,13 @@ returns-2 c =
     let f = c .before .before in
     let b = f .before .before .before .before in
     let a = b .before in
-    let s = a .before .before .args .s .now in
-    stuck-indicator s (a .loop .at) (b .buffer-at .result) (b .buffer-at .ensures) (omega (arith, a .loop .inv)) (f .before .window .result)
-    (f .before .window .ensures) (f .first-indicator .result) (f .first-indicator .ensures) (a .loop .inv .2 .said) (a .loop .inv .2 .passed)
-    (omega (arith, c .if2 .taken, a .loop .inv))
+    let s = a .before .before .before .args .s .now in
+    let inside : a .loop .at ≤ length s * 8 = omega (arith, a .loop .inv) in
+    stuck-indicator s (a .loop .at) inside (f .before .window .result) (nine f) (f .first-indicator .result) (f .first-indicator .ensures)
+    (a .loop .inv .2 .said) (a .loop .inv .2 .passed) (omega (arith, c .if2 .taken, a .loop .inv))
+    (starts-no-fill s (a .loop .at) (b .buffer-at .result) (b .buffer-at .ensures) inside
     (subst (λ (t : Bool). Says t (Fill (low (b .buffer-at .result .have) (b .buffer-at .result .held)))) (f .before .before .if1 .left)
-    (f .before .before .before .at-end .ensures))
+    (f .before .before .before .at-end .ensures)))
 
 sub-left : tie.Need-sub-left Inv-loop μ-loop
 sub-left c = omega arith
@@ -73,24 +89,23 @@ sub-left-2 c = omega (arith, c .before .if2 .left)
 mul-if3 : tie.Need-mul-if3 Inv-loop μ-loop
 mul-if3 c = omega (arith, c .before .before .before .before .first-indicator .ensures .many)
 
-sub-t14 : tie.Need-sub-t14 Inv-loop μ-loop
-sub-t14 c = omega arith
+sub-t15 : tie.Need-sub-t15 Inv-loop μ-loop
+sub-t15 c = omega arith
 
 returns-3 : tie.Need-returns-3 Inv-loop μ-loop
 returns-3 c =
     let f = c .before .before .before .before .before in
     let b = f .before .before .before .before in
     let a = b .before in
-    let s = a .before .before .args .s .now in
+    let s = a .before .before .before .args .s .now in
     let i = f .first-indicator .result in
-    stuck-value s (a .loop .at) (b .buffer-at .result) (b .buffer-at .ensures) (omega (arith, a .loop .inv)) (f .before .window .result)
-    (f .before .window .ensures) i (f .first-indicator .ensures) (a .loop .inv .2 .said) (a .loop .inv .2 .passed)
+    stuck-value s (a .loop .at) (omega (arith, a .loop .inv)) (f .before .window .result) (nine f) i (f .first-indicator .ensures) (a .loop .inv .2 .said) (a .loop .inv .2 .passed)
     (length s * 8 - a .loop .at - i .width) (omega (arith, c .before .before .before .if2 .left)) (c .if3 .taken)
 
 -- where the values are there: the bit after them is still within the data
 there : (c : tie.Else3 Inv-loop μ-loop)
     → c .before .before .before .before .before .first-indicator .result .width + c .before .before .before .before .before .first-indicator .result .values * 6
-    ≤ length (c .before .before .before .before .before .before .before .before .before .before .before .before .args .s .now) * 8
+    ≤ length (c .before .before .before .before .before .before .before .before .before .before .before .before .before .args .s .now) * 8
     - c .before .before .before .before .before .before .before .before .before .before .loop .at
 there c = omega (arith, c .if3 .left, c .before .before .before .if2 .left)
 
@@ -121,12 +136,11 @@ loop-again c =
     let f = c .before .before .before .before .before .before .before .before in
     let b = f .before .before .before .before in
     let a = b .before in
-    let s = a .before .before .args .s .now in
+    let s = a .before .before .before .args .s .now in
     let t = f .first-indicator .ensures in (
       omega (arith, there (c .before .before .before), t .short),
       omega (arith, t .few, t .short),
-      counting-run s (a .loop .at) (b .buffer-at .result) (b .buffer-at .ensures) (omega (arith, a .loop .inv)) (f .before .window .result)
-          (f .before .window .ensures) (f .first-indicator .result) t (a .loop .n) (a .loop .inv .2) (there (c .before .before .before)),
+      counting-run s (a .loop .at) (omega (arith, a .loop .inv)) (f .before .window .result) (nine f) (f .first-indicator .result) t (a .loop .n) (a .loop .inv .2) (there (c .before .before .before)),
     )
 
 pub measure-spec : {M : Type 1} → statement M
@@ -136,6 +150,7 @@ measure-spec =
     Inv-loop
     μ-loop
     mul-end
+    measure-most-requires
     loop-holds
     buffer-at-requires
     at-end-requires
@@ -147,7 +162,7 @@ measure-spec =
     sub-left
     sub-left-2
     mul-if3
-    sub-t14
+    sub-t15
     returns-3
     mul-at
     add-at

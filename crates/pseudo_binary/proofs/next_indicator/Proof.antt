@@ -5,7 +5,7 @@ use native.Mathlib.Omega.{arith}
 use lib.ListN.{getD, drop}
 use borrow.Author.Tests.{eq-eqb}
 use Rattle.pseudo_binary.specs.Table.{SPACE, SLASH, values, spaces, slashes, of}
-use Rattle.pseudo_binary.proofs.Sending.{spaces-between, slashes-between, values-between, space-first, slash-first, value-first, run-some, else-value}
+use Rattle.pseudo_binary.proofs.Sending.{spaces-between, slashes-between, space-first, slash-first, value-first, run-some, else-value}
 use Rattle.pseudo_binary.proofs.Writer.{run-le}
 use borrow.Author.Needs.{needs}
 use Rattle.pseudo_binary.proofs.next_indicator.Statement.{statement}
@@ -39,8 +39,8 @@ add-t14 c =
     let e = c .before .before .before .before in
     omega (arith, c .run-of2 .ensures slashes slashes-between, run-le slashes 16 (drop (e .args .i) (e .args .text .now)))
 
-run-of-requires-3 : tie.Need-run-of-requires-3
-run-of-requires-3 c κs = search needs
+values-at-requires : tie.Need-values-at-requires
+values-at-requires c κs = search needs
 
 -- the last arm is that of the values
 is-value : (c : tie.At-match-rest) → of values (getD (c .before .before .before .args .text .now) (c .before .before .before .args .i) 0) ≡ true
@@ -51,13 +51,13 @@ is-value c =
 sub-t16 : tie.Need-sub-t16
 sub-t16 c =
     let e = c .before .before .before .before in
-    run-some (e .args .text .now) (e .args .i) (e .pre .0) values 127 (c .run-of3 .result) (is-value (c .before))
-    (c .run-of3 .ensures values values-between)
+    run-some (e .args .text .now) (e .args .i) (e .pre .0) values 127 (c .values-at .result) (is-value (c .before))
+    (c .values-at .ensures)
 
 add-t17 : tie.Need-add-t17
 add-t17 c =
     let e = c .before .before .before .before in
-    omega (arith, c .run-of3 .ensures values values-between, run-le values 128 (drop (e .args .i) (e .args .text .now)))
+    omega (arith, c .values-at .ensures, run-le values 128 (drop (e .args .i) (e .args .text .now)))
 
 returns : tie.Need-returns
 returns c =
@@ -73,7 +73,7 @@ returns-2 c =
 returns-3 : tie.Need-returns-3
 returns-3 c =
     let e = c .before .before .before .before in
-    value-first (e .args .text .now) (e .args .i) (e .pre .0) (c .run-of3 .result) (is-value (c .before)) (c .run-of3 .ensures values values-between)
+    value-first (e .args .text .now) (e .args .i) (e .pre .0) (c .values-at .result) (is-value (c .before)) (c .values-at .ensures)
 
 pub next-indicator-spec : {M : Type 1} → statement M
 next-indicator-spec =
@@ -85,7 +85,7 @@ next-indicator-spec =
     run-of-requires-2
     sub-t13
     add-t14
-    run-of-requires-3
+    values-at-requires
     sub-t16
     add-t17
     returns

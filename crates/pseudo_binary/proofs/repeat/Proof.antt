@@ -1,45 +1,48 @@
--- `pseudo_binary::repeat` meets its contract. The loop's invariant: the characters up to place `at` are laid, and the others still to come.
+-- `pseudo_binary::repeat` meets its contract. The loop's invariant: the character is laid `done` times.
 -- Assumes nothing.
-use mathlib.Core.Path.{_≡_, ap, subst⁻¹}
-use Prim.Native.Nat.{ℕ, suc, _+_, _-_, _≤_}
+use mathlib.Core.Path.{_≡_, sym, ap, _∙_}
+use Prim.Native.Nat.{ℕ, _-_, _≤_}
 use native.Mathlib.Omega.{arith}
 use lib.ListN.{length, replicate}
-use Rattle.pseudo_binary.proofs.Passing.{Coming, coming-all, coming-length, coming-one, coming-none}
+use Rattle.codes.specs.Laid.{laid}
+use Rattle.codes.proofs.Laid.{laid-nil}
+use Rattle.pseudo_binary.proofs.Repeated.{repeated-length, repeated-more}
+use borrow.Author.Needs.{needs}
 use Rattle.pseudo_binary.proofs.repeat.Statement.{statement}
 use Rattle.pseudo_binary.proofs.repeat.Tie as tie
 
 abbrev Inv-loop : tie.InvT-loop
-Inv-loop out₀ n count character past at₀ out at =
-    (at ≤ past) × Coming (replicate count character) (replicate (past - at) character) out₀ out n at
+Inv-loop out₀ n count character done₀ out done = (done ≤ count) × (out ≡ laid out₀ n (replicate done character))
 
 abbrev μ-loop : tie.MeasureT-loop
-μ-loop out₀ n count character past at₀ out at = past - at
+μ-loop out₀ n count character done₀ out done = count - done
 
-add-past : tie.Need-add-past Inv-loop μ-loop
-add-past c = omega (arith, c .good)
+repeat-few-requires : tie.Need-repeat-few-requires Inv-loop μ-loop
+repeat-few-requires c κs = (c .before .if1 .taken, c .before .before .before .pre)
+
+same-length : tie.Need-same-length Inv-loop μ-loop
+same-length c = search needs
+
+returns : tie.Need-returns Inv-loop μ-loop
+returns c = c .before .before .repeat-few .ensures
 
 loop-holds : tie.Need-loop-holds Inv-loop μ-loop
-loop-holds c =
-    let whole = replicate (c .args .count) (c .args .character) in
-    let all : c .args .n + c .args .count - c .args .n ≡ c .args .count = omega arith in (
-      omega arith,
-      subst⁻¹ (λ (k : ℕ). Coming whole (replicate k (c .args .character)) (c .args .out .now) (c .args .out .now) (c .args .n) (c .args .n)) all
-          (coming-all whole (c .args .out .now) (c .args .n)),
-    )
+loop-holds c = let e = c .before .before in (omega arith, sym (laid-nil (e .args .out .now) (e .args .n)))
+
+add-out : tie.Need-add-out Inv-loop μ-loop
+add-out c = let e = c .before .before .before .before in omega (arith, e .pre, e .good)
 
 -- the buffer keeps its length
-same : (a : tie.At-loop Inv-loop μ-loop) → length (a .loop .out) ≡ length (a .before .args .out .now)
+same : (a : tie.At-loop Inv-loop μ-loop) → length (a .loop .out) ≡ length (a .before .before .before .args .out .now)
 same a =
-    let e = a .before in
-    coming-length (replicate (e .args .count) (e .args .character))
-    (replicate (e .args .n + e .args .count - a .loop .at) (e .args .character)) (e .args .out .now) (a .loop .out) (e .args .n) (a .loop .at)
-    (a .loop .inv .1) (omega (arith, e .pre))
+    let e = a .before .before .before in
+    repeated-length (e .args .out .now) (a .loop .out) (e .args .n) (a .loop .done) (e .args .character) (a .loop .inv .1) (omega (arith, e .pre))
 
 slice-write-out : tie.Need-slice-write-out Inv-loop μ-loop
-slice-write-out c = omega (arith, same (c .before))
+slice-write-out c = omega (arith, same (c .before), c .before .before .before .before .pre)
 
-add-at : tie.Need-add-at Inv-loop μ-loop
-add-at c = omega (arith, c .before .before .good)
+add-done : tie.Need-add-done Inv-loop μ-loop
+add-done c = omega arith
 
 loop-less : tie.Need-loop-less Inv-loop μ-loop
 loop-less c = omega arith
@@ -47,26 +50,22 @@ loop-less c = omega arith
 loop-again : tie.Need-loop-again Inv-loop μ-loop
 loop-again c =
     let a = c .before in
-    let e = a .before in
-    let x = e .args .character in
-    let k : ℕ = e .args .n + e .args .count - (a .loop .at + 1) in
-    let more : e .args .n + e .args .count - a .loop .at ≡ suc k = omega (arith, c .loop-test .taken) in (
+    let e = a .before .before .before in (
       omega arith,
-      coming-one (replicate (e .args .count) x) (replicate (e .args .n + e .args .count - a .loop .at) x) (e .args .out .now) (a .loop .out)
-          (e .args .n) (a .loop .at) (a .loop .inv .1) x (replicate k x) (ap (λ (j : ℕ). replicate j x) more) (omega (arith, e .pre)),
+      repeated-more (e .args .out .now) (a .loop .out) (e .args .n) (a .loop .done) (e .args .character) (a .loop .inv .1)
+          (omega (arith, e .pre, c .loop-test .taken)),
     )
 
-same-length : tie.Need-same-length Inv-loop μ-loop
-same-length c = same (c .before)
+same-length-2 : tie.Need-same-length-2 Inv-loop μ-loop
+same-length-2 c = same (c .before)
 
-returns : tie.Need-returns Inv-loop μ-loop
-returns c =
+returns-2 : tie.Need-returns-2 Inv-loop μ-loop
+returns-2 c =
     let a = c .before in
-    let e = a .before in
-    let x = e .args .character in
-    let end : e .args .n + e .args .count - a .loop .at ≡ 0 = omega (arith, c .loop-test .left) in
-    coming-none (replicate (e .args .count) x) (replicate (e .args .n + e .args .count - a .loop .at) x) (e .args .out .now) (a .loop .out)
-    (e .args .n) (a .loop .at) (a .loop .inv .1) (ap (λ (j : ℕ). replicate j x) end)
+    let e = a .before .before .before in
+    a .loop .inv .1
+    ∙ ap (λ (k : ℕ). laid (e .args .out .now) (e .args .n) (replicate k (e .args .character)))
+    (let x : a .loop .done ≡ e .args .count = omega (arith, c .loop-test .left) in x)
 
 pub repeat-spec : {M : Type 1} → statement M
 repeat-spec =
@@ -74,11 +73,14 @@ repeat-spec =
     (tie.spec
     Inv-loop
     μ-loop
-    add-past
+    repeat-few-requires
+    same-length
+    returns
     loop-holds
+    add-out
     slice-write-out
-    add-at
+    add-done
     loop-less
     loop-again
-    same-length
-    returns)
+    same-length-2
+    returns-2)

@@ -1,0 +1,124 @@
+-- Data that is read up to a bit: what was said so far is counted, or laid into a buffer. It holds of every format.
+-- Assumes nothing.
+use mathlib.Core.Path.{_≡_, refl, sym, ap, subst, _∙_}
+use mathlib.Core.List.{List, [], _++_, append-nil}
+use Prim.Native.Nat.{ℕ, _+_, _-_, _≤_}
+use native.Mathlib.Nat.{add-zero}
+use native.Mathlib.Omega.{arith}
+use lib.ListN.{length, length-append}
+use Rattle.codes.specs.Chain.{Tables, Fill, Reads}
+use Rattle.codes.specs.Laid.{laid, Readable, Placed}
+use Rattle.codes.specs.Measure.{Measures}
+use Rattle.codes.specs.Passed.{Passed, Counting, Laying}
+use Rattle.codes.specs.declared.Measured.the-variants.{Text, Malformed}
+use Rattle.codes.proofs.Laid.{laid-nil, laid-laid, length-laid}
+use Rattle.codes.proofs.Laws.{Laws}
+use Rattle.codes.proofs.Passed.{passed-none, passed-front, passed-on, passed-reads, passed-stuck, passed-text}
+use Rattle.codes.proofs.Reading.{Halts, reads-end, stuck-here}
+
+pub counting-none : (tables : Tables) (bs : List ℕ) → Counting tables bs bs 0
+counting-none tables bs = record { said = []; counts = refl; passed = passed-none tables bs }
+
+module _ {tables : Tables} {bs rest : List ℕ} {n : ℕ} (c : Counting tables bs rest n) where
+  -- k characters more
+  pub counting-more : {later : List ℕ} {k : ℕ} (more : List ℕ) → length more ≡ k → Passed tables bs 0 later (c .said ++ more)
+      → Counting tables bs later (n + k)
+  counting-more more e p = record { said = c .said ++ more; counts = omega (arith, length-append (c .said) more, c .counts); passed = p }
+
+  -- reading after reading
+  pub counting-on : {later : List ℕ} {k : ℕ} → Counting tables rest later k → Counting tables bs later (n + k)
+  counting-on d = counting-more (d .said) (d .counts) (passed-on (c .passed) (d .passed))
+
+  -- what follows the bits does not matter
+  pub counting-front : (more : List ℕ) → Counting tables (bs ++ more) (rest ++ more) n
+  counting-front more = record { said = c .said; counts = c .counts; passed = passed-front more (c .passed) }
+
+  -- the ends of the reading
+  pub counting-end : Fill rest → Measures tables bs (Text n)
+  counting-end f = (
+    c .said,
+    c .counts,
+    subst (Reads tables 0 bs) (append-nil (c .said)) (passed-reads rest [] (c .passed) (reads-end tables f)),
+  )
+
+  pub counting-stuck : (i : ℕ) → i + length rest ≡ length bs → Halts tables 0 rest → (Fill rest → ⊥) → Measures tables bs (Malformed i)
+  counting-stuck i e h f = passed-stuck rest i 0 (c .passed) (omega arith) (stuck-here h (λ x. f))
+
+  -- what the rest comes to, of the whole
+  pub counting-text : (k : ℕ) → Measures tables rest (Text k) → Measures tables bs (Text (n + k))
+  counting-text k t = (
+    c .said ++ t .0,
+    omega (arith, length-append (c .said) (t .0), c .counts, t .1),
+    passed-reads rest (t .0) (c .passed) (t .2),
+  )
+
+  pub counting-malformed : (i j : ℕ) → j + length rest ≡ length bs + i → Measures tables rest (Malformed i) → Measures tables bs (Malformed j)
+  counting-malformed i j e s = passed-stuck rest j i (c .passed) e s
+
+pub laying-none : (tables : Tables) (bs out : List ℕ) (n : ℕ) → Laying tables bs bs out out n n
+laying-none tables bs out n = record { said = []; passed = passed-none tables bs; place = sym (add-zero n); whole = sym (laid-nil out n) }
+
+module _ {tables : Tables} {bs rest entry out : List ℕ} {m n : ℕ} (y : Laying tables bs rest entry out m n) where
+  -- k characters more, laid after what stands there
+  pub laying-more : {later : List ℕ} {k : ℕ} (more : List ℕ) → length more ≡ k → n ≤ length entry → Passed tables bs 0 later (y .said ++ more)
+      → Laying tables bs later entry (laid out n more) m (n + k)
+  laying-more more e h p = record {
+    said = y .said ++ more;
+    passed = p;
+    place = omega (arith, y .place, length-append (y .said) more);
+    whole = ap (λ (l : List ℕ). laid l n more) (y .whole) ∙ laid-laid entry m n (y .said) more (omega (arith, y .place)) (y .place);
+  }
+
+  -- reading after reading
+  pub laying-on : {later exit : List ℕ} {k : ℕ} → n ≤ length entry → Laying tables rest later out exit n k
+      → Laying tables bs later entry exit m k
+  laying-on h z = record {
+    said = y .said ++ z .said;
+    passed = passed-on (y .passed) (z .passed);
+    place = omega (arith, y .place, z .place, length-append (y .said) (z .said));
+    whole = z .whole ∙ ap (λ (l : List ℕ). laid l n (z .said)) (y .whole)
+        ∙ laid-laid entry m n (y .said) (z .said) (omega (arith, y .place)) (y .place);
+  }
+
+  -- what follows the bits does not matter
+  pub laying-front : (more : List ℕ) → Laying tables (bs ++ more) (rest ++ more) entry out m n
+  laying-front more = record { said = y .said; passed = passed-front more (y .passed); place = y .place; whole = y .whole }
+
+  -- a buffer keeps its length
+  pub laying-length : n ≤ length entry → length out ≡ length entry
+  laying-length h = ap length (y .whole) ∙ length-laid entry m (y .said) (omega (arith, y .place))
+
+  -- the end of the reading
+  pub laying-end : Fill rest → Placed tables bs entry out m n
+  laying-end f = record {
+    text = y .said;
+    reads = subst (Reads tables 0 bs) (append-nil (y .said)) (passed-reads rest [] (y .passed) (reads-end tables f));
+    place = y .place;
+    whole = y .whole;
+  }
+
+  -- the text of the rest laid after it
+  pub laying-last : {exit : List ℕ} {r : ℕ} → n ≤ length entry → Placed tables rest out exit n r → Placed tables bs entry exit m r
+  laying-last h p = record {
+    text = y .said ++ p .text;
+    reads = passed-reads rest (p .text) (y .passed) (p .reads);
+    place = omega (arith, p .place, y .place, length-append (y .said) (p .text));
+    whole = p .whole ∙ ap (λ (l : List ℕ). laid l n (p .text)) (y .whole)
+        ∙ laid-laid entry m n (y .said) (p .text) (omega (arith, y .place)) (y .place);
+  }
+
+  -- where the whole can be read: the text goes on after what was said, and there is room for it
+  module _ (laws : Laws tables) {room : ℕ} (f : Readable tables bs room) where
+    pub laying-later : Readable tables rest (m + room - n)
+    laying-later =
+        let p = passed-text laws rest (f .text) (y .passed) (f .reads) in
+        record {
+          text = p .0;
+          reads = p .2;
+          fits = omega (arith, f .fits, ap length (p .1), length-append (y .said) (p .0), y .place);
+        }
+
+    pub laying-within : n ≤ m + room
+    laying-within =
+        let p = passed-text laws rest (f .text) (y .passed) (f .reads) in
+        omega (arith, f .fits, ap length (p .1), length-append (y .said) (p .0), y .place)
