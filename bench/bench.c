@@ -155,6 +155,12 @@ static void measure(const char *what, const char *format_name, size_t size, cons
     fflush(stdout);
 }
 
+static void print_heading(void)
+{
+    printf("| | format | data bytes | library, µs | plain C, µs | tuned C, µs | library / plain | library / tuned |\n");
+    printf("|---|---|---|---|---|---|---|---|\n");
+}
+
 int main(int count, char **words)
 {
     static const struct {
@@ -168,8 +174,7 @@ int main(int count, char **words)
         rounds = 15;
 
     tuned_prepare();
-    printf("| | format | data bytes | library, µs | plain C, µs | tuned C, µs | library / plain | library / tuned |\n");
-    printf("|---|---|---|---|---|---|---|---|\n");
+    print_heading();
     for (int f = 0; f < 3; f++) {
         state = 1;
         formats[f].make();
@@ -181,6 +186,8 @@ int main(int count, char **words)
             measure("write", formats[f].name, job.packet_length - 6, &job, rounds);
         }
     }
+    printf("\nWith wrong header bits. The library searches for the bits to mend, tuned C looks them up in a table of 1,024 entries:\n\n");
+    print_heading();
     for (int wrong = 1; wrong <= 3; wrong++) {
         static const char *const names[] = {"read, 1 header bit wrong", "read, 2 header bits wrong", "refuse, 3 header bits wrong"};
         struct job job = {true, 0, 100, 0, wrong > 2 ? 2 : 0};
