@@ -151,6 +151,11 @@ take-ones n h =
     ∙ ap (take n) (sym (replicate-append-replicate n (9 - n) 1))
     ∙ take-at (replicate n 1) (replicate (9 - n) 1) n (length-replicate n 1)
 
+-- they are one number
+pub window-one : (held have v w : ℕ) → Window held have v → Window held have w → v ≡ w
+window-one held have v w x y =
+    sym (value-low 9 v ∙ mod-eq-of-lt (x .small)) ∙ ap value (x .nine ∙ sym (y .nine)) ∙ (value-low 9 w ∙ mod-eq-of-lt (y .small))
+
 -- the nine bits are ones where the bits that there are are a fill
 pub window-fill : (held have w : ℕ) → Window held have w → have ≤ 7 → w ≡ 511 → Fill (low have held)
 unfolding low bit

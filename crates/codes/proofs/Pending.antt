@@ -99,6 +99,22 @@ pending-push w entry out m n held have held′ width number rest h e p = record 
   whole = p .whole;
 }
 
+-- there is room for a row that is pending
+pub row-room : (w entry out : List ℕ) (m n held have : ℕ) (row rest : List ℕ) → m + length w ≤ length entry
+    → Pending w entry out m n held have (row ++ rest) → n + (have + length row) / 8 ≤ length entry
+row-room w entry out m n held have row rest room p =
+    omega (
+      arith,
+      p .place,
+      p .within,
+      ap length (p .pending),
+      length-bits (drop (p .count) w),
+      length-drop (p .count) w,
+      length-append (low have held) (row ++ rest),
+      length-append row rest,
+      length-low have held,
+    )
+
 module _ (w entry : List ℕ) (m : ℕ) (bytes : Bytes w) (room : m + length w ≤ length entry) where
   pub pending-length : (out : List ℕ) (n held have : ℕ) (rest : List ℕ) → Pending w entry out m n held have rest → length out ≡ length entry
   pending-length out n held have rest p =
@@ -129,17 +145,7 @@ module _ (w entry : List ℕ) (m : ℕ) (bytes : Bytes w) (room : m + length w �
   -- the next k bytes
   pub pending-room-bytes : (k : ℕ) (out : List ℕ) (n held have : ℕ) (rest : List ℕ) → k * 8 ≤ have → Pending w entry out m n held have rest
       → n + k ≤ length entry
-  pending-room-bytes k out n held have rest h p =
-      omega (
-        arith,
-        p .place,
-        p .within,
-        ap length (p .pending),
-        length-bits (drop (p .count) w),
-        length-drop (p .count) w,
-        length-append (low have held) rest,
-        length-low have held,
-      )
+  pending-room-bytes k out n held have rest h p = omega (arith, row-room w entry out m n held have [] rest room p)
 
   pub pending-bytes : (k : ℕ) (out : List ℕ) (n held have : ℕ) (rest : List ℕ) → k * 8 ≤ have → Pending w entry out m n held have rest
       → Pending w entry (spilled k out n held have) m (n + k) held (have - k * 8) rest

@@ -2,15 +2,13 @@
 -- Assumes nothing.
 use mathlib.Core.Path.{_≡_, sym, ap, subst, subst₂, _∙_}
 use mathlib.Core.List.{List, _++_, append-assoc}
-use Prim.Native.Nat.{ℕ, _+_, _-_, _/_, _≤_, _<_}
+use Prim.Native.Nat.{ℕ, _+_, _-_, _≤_, _<_}
 use native.Mathlib.Omega.{arith}
 use lib.ListN.{length, take, drop, length-append, length-drop}
 use lib.Seq.{drop-drop}
-use Rattle.bits.specs.Row.{bits}
 use Rattle.codes.specs.Chain.{codes}
 use Rattle.codes.specs.Pack.{low}
 use Rattle.codes.proofs.Low.{length-low}
-use Rattle.codes.proofs.Pack.{length-bits}
 use Rattle.codes.proofs.Pending.{Pending}
 use Rattle.pseudo_binary.specs.Table.{values}
 use Rattle.pseudo_binary.specs.Writer.{Alike, oursAfter}
@@ -29,22 +27,6 @@ sends-both entry middle exit b r z x y f g = record {
       g .same w front m rest bytes room
       (f .same w front m (y ++ rest) bytes room (subst (Pending w front entry m (b .n) (b .held) (b .have)) (append-assoc x y rest) p));
 }
-
--- there is room for a row that is pending
-pub row-room : (w front out : List ℕ) (m n held have : ℕ) (row rest : List ℕ) → m + length w ≤ length front
-    → Pending w front out m n held have (row ++ rest) → n + (have + length row) / 8 ≤ length front
-row-room w front out m n held have row rest room p =
-    omega (
-      arith,
-      p .place,
-      p .within,
-      ap length (p .pending),
-      length-bits (drop (p .count) w),
-      length-drop (p .count) w,
-      length-append (low have held) (row ++ rest),
-      length-append row rest,
-      length-low have held,
-    )
 
 -- where m values are announced from place i of the text on, this row comes next; after it k values are announced, from place j on
 pub record Proceeds (t : List ℕ) (i m : ℕ) (row : List ℕ) (j k : ℕ) : Type 0 where

@@ -12,13 +12,13 @@ use Rattle.codes.specs.Laid.{laid}
 use Rattle.codes.specs.Pack.{low, written, gap}
 use Rattle.codes.proofs.Low.{length-low}
 use Rattle.codes.proofs.Pack.{bits-written, gap-few}
-use Rattle.codes.proofs.Pending.{Pending, pending-none, pending-length, flush-room, flushed}
+use Rattle.codes.proofs.Pending.{Pending, pending-none, pending-length, flush-room, flushed, row-room}
 use Rattle.pseudo_binary.specs.Sending.{Sends, eightValues}
 use Rattle.pseudo_binary.specs.Table.{values}
 use Rattle.pseudo_binary.specs.Writer.{Alike, oursAfter, ours}
 use Rattle.pseudo_binary.specs.declared.Held.{Held}
 use Rattle.pseudo_binary.proofs.Sending.{ours-end}
-use Rattle.pseudo_binary.proofs.Sends.{row-room, Proceeds, row-next, row-fewer, next-proceeds, eight-length, eight-proceeds}
+use Rattle.pseudo_binary.proofs.Sends.{Proceeds, row-next, row-fewer, next-proceeds, eight-length, eight-proceeds}
 use Rattle.pseudo_binary.proofs.Writer.{ours-bytes, ours-binary}
 use Rattle.pseudo_binary.proofs.write.Statement.{statement}
 use Rattle.pseudo_binary.proofs.write.Tie as tie
