@@ -3,20 +3,17 @@
 use mathlib.Core.Path.{_≡_, refl, sym, ap, ap₂, _∙_, subst}
 use mathlib.Core.Logic.{_⊎_, inl, inr}
 use Prim.Native.Nat.{ℕ, zero, suc, _+_, _-_, _*_, _/_, _%_, _^_, _≤_, _<_, zero-le}
-use native.Mathlib.Nat.{mod-lt, zero-lt-suc, one-mul, mul-comm, zero-add, suc-add, pow-suc, div-one, div-div-eq-div-mul}
+use native.Mathlib.Nat.{mod-lt, one-mul, mul-comm, zero-add, suc-add, pow-suc, div-one, div-div-eq-div-mul}
 use native.Mathlib.Numerals.{add-one}
 use native.Mathlib.Omega.{arith}
 use lib.Arith.{lt-one}
 use lib.Pow.{field, mod-mod-pow}
 use lib.Bits.{bitXor, differ, xor-comm, xor-self, shifted-half, shifted-even, xor-zero-r, xor-lt}
 use lib.Count.{onesIn, ones, ones-step}
-use Rattle.bits.specs.Word.{bit, flip, differences}
-use Rattle.bits.proofs.Xor.{digit-of, xor-odd, xor-half, xor-assoc, xor-undo, xor-zero}
+use Rattle.bits.specs.Word.{bit, differences}
+use Rattle.bits.proofs.Xor.{two-pos, digit-of, xor-odd, xor-half, xor-assoc, xor-undo, xor-zero}
 
 -- ---- halves
-
-two-pos : 0 < 2
-two-pos = zero-lt-suc 1
 
 pow-half : (j : ℕ) → 2 ^ suc j / 2 ≡ 2 ^ j
 pow-half j = ap (λ (n : ℕ). n / 2) (sym (one-mul (2 ^ suc j))) ∙ shifted-half 1 j ∙ one-mul (2 ^ j)
@@ -111,6 +108,12 @@ ones-split zero j n = omega (arith, ap (λ (m : ℕ). onesIn m n) (zero-add j), 
 ones-split (suc k) j n =
     omega (arith, ap (λ (m : ℕ). onesIn m n) (suc-add k j), ones-split k j (n / 2), ap (onesIn j) (shift-half k n))
 
+pub ones-top : (k n : ℕ) → onesIn (suc k) n ≡ onesIn k n + n / 2 ^ k % 2
+unfolding onesIn
+ones-top k n =
+    ap (λ (m : ℕ). onesIn m n) (sym (add-one k)) ∙ ones-split k 1 n
+    ∙ (let same : onesIn k n + (n / 2 ^ k % 2 + 0) ≡ onesIn k n + n / 2 ^ k % 2 = omega arith in same)
+
 pub ones-low : (k n : ℕ) → onesIn k (n % 2 ^ k) ≡ onesIn k n
 unfolding onesIn
 ones-low zero n = refl
@@ -134,6 +137,10 @@ ones-xor (suc k) a b =
     omega (arith, xor-odd a b, differ-le (a % 2) (b % 2), ap (onesIn k) (xor-half a b), ones-xor k (a / 2) (b / 2))
 
 -- ---- the bits in which two numbers differ
+
+-- n with its bit k turned over
+unfoldable pub flip : ℕ → ℕ → ℕ
+flip k n = bitXor n (2 ^ k)
 
 flip-out : (i a b : ℕ) → bitXor (flip i a) b ≡ bitXor (bitXor a b) (2 ^ i)
 unfolding flip

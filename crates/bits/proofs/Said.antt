@@ -1,7 +1,7 @@
--- What an answer of yes or no says, taken apart; and an answer that is a test of two numbers.
+-- What an answer of yes or no says, taken apart; an answer that is a test of two numbers; two tests at once.
 -- Assumes nothing.
 use mathlib.Core.Path.{_≡_, refl, subst}
-use mathlib.Core.Bool.{Bool, true, false}
+use mathlib.Core.Bool.{Bool, true, false, _&&_}
 use Prim.Native.Nat.{ℕ}
 use lib.Dec.{T, eqb}
 use borrow.Author.Tests.{eqb-true, eqb-false}
@@ -27,16 +27,16 @@ said-yes {P} b s e = subst (λ (t : Bool). Says t P) e s
 pub said-no : {P : Type 0} (b : Bool) → Says b P → b ≡ false → P → ⊥
 said-no {P} b s e = subst (λ (t : Bool). Says t P) e s
 
--- ---- two tests in one, for a test that is computed over a whole table
+-- ---- two tests at once, where antt computes them
 
-abbrev pub both : Bool → Bool → Bool
-both true b = b
-both false b = false
+pub and-left : (a b : Bool) → T (a && b) → T a
+and-left true b t = tt
+and-left false b t = t
 
-pub both-left : (a b : Bool) → T (both a b) → T a
-both-left true b t = tt
-both-left false b t = t
+pub and-right : (a b : Bool) → T (a && b) → T b
+and-right true b t = t
+and-right false b t = absurd t
 
-pub both-right : (a b : Bool) → T (both a b) → T b
-both-right true b t = t
-both-right false b t = absurd t
+pub and-both : (a b : Bool) → T a → T b → T (a && b)
+and-both true b s t = t
+and-both false b s t = s

@@ -1,12 +1,15 @@
 -- Laws of the exclusive or that the kit lacks: it is associative, undoes itself, and is zero only of equal numbers.
 -- Assumes nothing.
 use mathlib.Core.Path.{_≡_, refl, sym, ap, ap₂, _∙_}
-use Prim.Native.Nat.{ℕ, zero, suc, _+_, _*_, _/_, _%_, _^_, _<_}
+use Prim.Native.Nat.{ℕ, zero, suc, _+_, _*_, _/_, _%_, _<_}
 use native.Mathlib.Nat.{mod-lt, zero-lt-suc, zero-mul}
 use native.Mathlib.Omega.{arith}
-use mathlib.Core.Logic.{_⊎_, inl, inr, ⊎-elim}
+use mathlib.Core.Logic.{_⊎_, inl, inr}
 use lib.Arith.{bin-ind, digits-div, digits-mod}
-use lib.Bits.{bitXor, differ, xor-step, xor-self, xor-zero-r, xor-comm, xor-lt}
+use lib.Bits.{bitXor, differ, xor-step, xor-self, xor-zero-r, xor-comm}
+
+pub two-pos : 0 < 2
+two-pos = zero-lt-suc 1
 
 -- a binary digit is 0 or 1
 pub digit : (n : ℕ) → n < 2 → (n ≡ 0) ⊎ (n ≡ 1)
@@ -15,7 +18,7 @@ digit (suc zero) h = inr refl
 digit (suc (suc n)) h = absurd (let no : ⊥ = omega arith in no)
 
 pub digit-of : (n : ℕ) → (n % 2 ≡ 0) ⊎ (n % 2 ≡ 1)
-digit-of n = digit (n % 2) (mod-lt n (zero-lt-suc 1))
+digit-of n = digit (n % 2) (mod-lt n two-pos)
 
 differ-assoc : (x y z : ℕ) → x < 2 → y < 2 → z < 2 → differ (differ x y) z ≡ differ x (differ y z)
 differ-assoc zero y z hx hy hz = refl
@@ -31,9 +34,6 @@ differ-lt zero y hx hy = hy
 differ-lt (suc zero) zero hx hy = hx
 differ-lt (suc zero) (suc y) hx hy = omega arith
 differ-lt (suc (suc x)) y hx hy = absurd (let no : ⊥ = omega arith in no)
-
-two-pos : 0 < 2
-two-pos = zero-lt-suc 1
 
 -- the two ends of a number that is put together from a half and a digit
 pub xor-half : (a b : ℕ) → bitXor a b / 2 ≡ bitXor (a / 2) (b / 2)
@@ -61,9 +61,6 @@ xor-assoc a =
 -- what was put in twice is gone
 pub xor-undo : (a b : ℕ) → bitXor a (bitXor a b) ≡ b
 xor-undo a b = sym (xor-assoc a a b) ∙ ap (λ (x : ℕ). bitXor x b) (xor-self a)
-
-pub xor-undo-r : (a b : ℕ) → bitXor (bitXor a b) b ≡ a
-xor-undo-r a b = xor-assoc a b b ∙ ap (bitXor a) (xor-self b) ∙ xor-zero-r a
 
 pub xor-cancel : (a b c : ℕ) → bitXor a b ≡ bitXor a c → b ≡ c
 xor-cancel a b c e = sym (xor-undo a b) ∙ ap (bitXor a) e ∙ xor-undo a c

@@ -8,10 +8,6 @@ use lib.Count.{onesIn}
 unfoldable pub bit : ℕ → ℕ → ℕ
 bit k n = n / 2 ^ k % 2
 
--- n with its bit k turned over
-unfoldable pub flip : ℕ → ℕ → ℕ
-flip k n = bitXor n (2 ^ k)
-
 -- in how many of their low k bits two numbers differ
 unfoldable pub differences : ℕ → ℕ → ℕ → ℕ
 differences k a b = onesIn k (bitXor a b)

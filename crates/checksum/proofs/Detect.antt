@@ -3,6 +3,7 @@
 -- Assumes nothing.
 use mathlib.Core.Path.{_≡_, refl, sym, ap, ap₂, _∙_}
 use mathlib.Core.List.{List, [], _∷_}
+use mathlib.Core.Logic.{_≢_}
 use Prim.Native.Nat.{ℕ, zero, suc, _+_, _*_, _^_, _<_}
 use native.Mathlib.Omega.{arith}
 use lib.Dec.{lit<}
@@ -69,11 +70,11 @@ detects-from (suc place) r (x ∷ a) (y ∷ b) h ha hb hr e =
     ap₂ _∷_ (head h)
     (detects-from place (byteStep r x) a b (tail h) (ha .1) (hb .1) (byte-lt r x) (e ∙ ap (λ (n : ℕ). checksumFrom (byteStep r n) b) (sym (head h))))
 
--- rows of bytes that are alike but at a place and the next, and have one checksum, are one row
-pub detects : {place : ℕ} {a b : List ℕ} → AlikeBut place a b → Bytes a → Bytes b → checksumOf a ≡ checksumOf b → a ≡ b
+-- rows of bytes that are alike but at a place and the next, and are not the same, have different checksums
+pub detects : {place : ℕ} {a b : List ℕ} → AlikeBut place a b → Bytes a → Bytes b → a ≢ b → checksumOf a ≢ checksumOf b
 unfolding checksumOf start
-detects {place} {a} {b} h ha hb e = detects-from place start a b h ha hb (lit< tt) e
+detects {place} {a} {b} h ha hb differ e = differ (detects-from place start a b h ha hb (lit< tt) e)
 
--- the same of the two bytes that a reader compares
-pub sent-detects : {place : ℕ} {a b : List ℕ} → AlikeBut place a b → Bytes a → Bytes b → sent a ≡ sent b → a ≡ b
-sent-detects {a = a} {b = b} h ha hb e = detects h ha hb (sent-tells a b e)
+-- and so have the two bytes that a reader compares
+pub sent-detects : {place : ℕ} {a b : List ℕ} → AlikeBut place a b → Bytes a → Bytes b → a ≢ b → sent a ≢ sent b
+sent-detects {a = a} {b = b} h ha hb differ e = detects h ha hb differ (sent-tells a b e)

@@ -1,20 +1,17 @@
--- The checksum of a row of bytes: it goes on over a row that is put behind, it is below 2^16, and it is sent as two bytes that tell it.
+-- The checksum of a row of bytes: it goes on from byte to byte, and it is sent as two bytes that tell it.
 -- Assumes nothing.
-use mathlib.Core.Path.{_≡_, refl, sym, ap₂, _∙_}
+use mathlib.Core.Path.{_≡_, refl, sym, ap, ap₂, _∙_}
 use mathlib.Core.List.{List, [], _∷_, _++_}
-use Prim.Native.Nat.{ℕ, _+_, _*_, _/_, _%_, _^_, _<_}
+use Prim.Native.Nat.{ℕ, suc, _+_, _*_, _/_, _%_, _^_, _<_}
 use native.Mathlib.Nat.{div-add-mod'}
 use native.Mathlib.Numerals.{add-one}
-use native.Mathlib.Omega.{arith}
-use lib.Dec.{lit<}
-use lib.ListN.{length, getD, drop}
-use lib.Seq.{drop-cons}
+use lib.ListN.{length, getD, take, drop, take-append-drop}
+use lib.Seq.{drop-cons, take-add}
 use lib.Bits.{bitXor}
-use Rattle.bits.specs.Row.{Bytes}
 use Rattle.checksum.proofs.Register.{bit-lt, steps-lt}
-use Rattle.checksum.specs.Checksum.{start, bitStep, bitSteps, byteStep, checksumFrom, checksumOf, sent}
+use Rattle.checksum.specs.Checksum.{bitStep, bitSteps, byteStep, checksumFrom, checksumOf, sent}
 
-pub checksum-append : (r : ℕ) (a b : List ℕ) → checksumFrom r (a ++ b) ≡ checksumFrom (checksumFrom r a) b
+checksum-append : (r : ℕ) (a b : List ℕ) → checksumFrom r (a ++ b) ≡ checksumFrom (checksumFrom r a) b
 unfolding checksumFrom
 checksum-append r [] b = refl
 checksum-append r (x ∷ a) b = checksum-append (byteStep r x) a b
@@ -25,22 +22,25 @@ pub checksum-next : (r : ℕ) (s : List ℕ) (i : ℕ) → i < length s
 unfolding checksumFrom
 checksum-next r s i h = rw (add-one, drop-cons s i 0)
 
+-- the first of some bytes from a place on, and then the others
+pub checksum-first : (n r q : ℕ) (s : List ℕ) (i j : ℕ) → i < length s → j ≡ i + 1 → q ≡ byteStep r (getD s i 0)
+    → checksumFrom q (take n (drop j s)) ≡ checksumFrom r (take (suc n) (drop i s))
+unfolding checksumFrom
+checksum-first n r q s i j h next step =
+    ap₂ (λ (p k : ℕ). checksumFrom p (take n (drop k s))) step next
+    ∙ rw (add-one, drop-cons s i 0)
+
+-- the register after the bytes before a place, and some more
+pub checksum-more : (n i r : ℕ) (s : List ℕ) → checksumFrom (checksumFrom r (take i s)) (take n (drop i s)) ≡ checksumFrom r (take (i + n) s)
+checksum-more n i r s = sym (checksum-append r (take i s) (take n (drop i s))) ∙ ap (checksumFrom r) (sym (take-add i n s))
+
+-- and all that are left
+pub checksum-rest : (i r : ℕ) (s : List ℕ) → checksumFrom (checksumFrom r (take i s)) (drop i s) ≡ checksumFrom r s
+checksum-rest i r s = sym (checksum-append r (take i s) (drop i s)) ∙ ap (checksumFrom r) (take-append-drop i s)
+
 pub byte-lt : (r b : ℕ) → byteStep r b < 2 ^ 16
 unfolding byteStep bitSteps
 byte-lt r b = steps-lt 7 (bitStep (bitXor r (b * 2 ^ 8))) (bit-lt (bitXor r (b * 2 ^ 8)))
-
-pub from-lt : (r : ℕ) (s : List ℕ) → r < 2 ^ 16 → checksumFrom r s < 2 ^ 16
-unfolding checksumFrom
-from-lt r [] h = h
-from-lt r (b ∷ s) h = from-lt (byteStep r b) s (byte-lt r b)
-
-pub checksum-lt : (s : List ℕ) → checksumOf s < 2 ^ 16
-unfolding checksumOf start
-checksum-lt s = from-lt start s (lit< tt)
-
-pub sent-bytes : (s : List ℕ) → Bytes (sent s)
-unfolding sent
-sent-bytes s = (omega arith, (omega (arith, checksum-lt s), tt))
 
 pub sent-length : (s : List ℕ) → length (sent s) ≡ 2
 unfolding sent

@@ -1,5 +1,6 @@
 -- The 16-bit checksum of a row of bytes (document 001, 3.3). The document gives the polynomial 0xd175 and the order of the two bytes.
--- Its published packets decide the rest: 0xd175 is the feedback, the register starts at all ones, each byte enters at its top, highest
+-- The sum of powers printed before that number, x^16 + x^15 + x^13 + x^9 + x^7 + x^6 + x^5 + x^3 + x + 1, would be A2EB without its highest power.
+-- The published packets decide: 0xd175 is the feedback, the register starts at all ones, each byte enters at its top, highest
 -- bit first, and nothing is inverted or turned round at the end.
 -- Assumes nothing.
 use mathlib.Core.List.{List, [], _∷_}

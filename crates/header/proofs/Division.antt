@@ -3,21 +3,18 @@
 use mathlib.Core.Path.{_≡_, refl, sym, ap, ap₂, _∙_, subst}
 use mathlib.Core.Logic.{_↔_}
 use mathlib.Core.List.{List, [], _∷_}
-use Prim.Native.Nat.{ℕ, zero, suc, _+_, _*_, _/_, _%_, _^_, _≤_, _<_, zero-le}
-use native.Mathlib.Nat.{mod-lt, zero-lt-suc, add-zero, add-suc, add-assoc, mul-assoc, mul-comm, suc-add, zero-add, zero-mul, pow-suc, div-eq-of-lt, mod-eq-of-lt, div-lt-iff-lt-mul, lt-of-lt-of-le, one-mul}
+use Prim.Native.Nat.{ℕ, zero, suc, _+_, _*_, _/_, _%_, _^_, _≤_, _<_}
+use native.Mathlib.Nat.{mod-lt, mul-assoc, suc-add, zero-mul, pow-suc, div-eq-of-lt, mod-eq-of-lt, div-lt-iff-lt-mul, lt-of-lt-of-le, one-mul}
 use native.Mathlib.Decide.{decLe, le-ind}
 use native.Mathlib.Omega.{arith}
 use lib.Dec.{lit<}
-use lib.Pow.{shl-lt, shl-shr, shr-shr, pow-pos, pow-add, pow-mono}
-use lib.Bits.{bitXor, xor-lt, xor-shr, xor-block, xor-comm, xor-self, xor-zero-r}
+use lib.Pow.{shl-lt, shl-shr, shr-shr, pow-pos, pow-mono}
+use lib.Bits.{bitXor, xor-lt, xor-shr, xor-comm, xor-self, xor-zero-r}
 use lib.ListN.{length}
-use Rattle.bits.proofs.Xor.{xor-assoc, xor-undo, xor-cross, xor-digits, xor-odd}
+use Rattle.bits.proofs.Xor.{two-pos, xor-assoc, xor-undo, xor-cross, xor-digits, xor-odd}
 use Rattle.header.specs.Check.{generator, remainder, checkOf, multiple, Leaves, Coefficients}
 
-two-pos : 0 < 2
-two-pos = zero-lt-suc 1
-
-shifted-shr : (k i p : ℕ) → p * 2 ^ k / 2 ^ (k + i) ≡ p / 2 ^ i
+pub shifted-shr : (k i p : ℕ) → p * 2 ^ k / 2 ^ (k + i) ≡ p / 2 ^ i
 shifted-shr k i p = sym (shr-shr (p * 2 ^ k) k i) ∙ ap (λ (n : ℕ). n / 2 ^ i) (shl-shr p k)
 
 -- ---- the generator times x^k has its highest coefficient at x^(k + 10)
@@ -47,7 +44,7 @@ pow-up k = ap (λ (n : ℕ). 2 ^ n) (suc-add k 10) ∙ pow-suc 2 (k + 10)
 top-lt : (k p : ℕ) → p < 2 ^ (suc k + 10) → p / 2 ^ (k + 10) < 2
 top-lt k p h = div-lt-iff-lt-mul (pow-pos (k + 10)) .1 (let q : p < 2 * 2 ^ (k + 10) = omega (arith, pow-up k) in q)
 
-no-top : (k n : ℕ) → n / 2 ^ k ≡ 0 → n < 2 ^ k
+pub no-top : (k n : ℕ) → n / 2 ^ k ≡ 0 → n < 2 ^ k
 no-top k n e =
     subst (λ (m : ℕ). n < m) (one-mul (2 ^ k)) (div-lt-iff-lt-mul (pow-pos k) .0 (let q : n / 2 ^ k < 1 = omega arith in q))
 
@@ -174,56 +171,6 @@ pub longer : (k m p : ℕ) → p < 2 ^ (k + 10) → k ≤ m → remainder m p �
 longer k m p h le =
     le-ind (λ (n : ℕ). remainder n p ≡ remainder k p) refl
     (λ n more e. idle n p (lt-of-lt-of-le h (pow-mono (let up : k + 10 ≤ n + 10 = omega arith in up))) ∙ e) m le
-
--- ---- several steps at once
-
-shifted-sum : (k p q : ℕ) → bitXor (p * 2 ^ k) (q * 2 ^ k) ≡ bitXor p q * 2 ^ k
-shifted-sum k p q =
-    ap₂ bitXor (sym (add-zero (p * 2 ^ k))) (sym (add-zero (q * 2 ^ k)))
-    ∙ xor-block k p q 0 0 (pow-pos k) (pow-pos k)
-    ∙ add-zero (bitXor p q * 2 ^ k)
-
-shifted-step : (k j p : ℕ)
-    → bitXor (p * 2 ^ k) (p * 2 ^ k / 2 ^ (k + j + 10) % 2 * (generator * 2 ^ (k + j)))
-    ≡ bitXor p (p / 2 ^ (j + 10) % 2 * (generator * 2 ^ j)) * 2 ^ k
-shifted-step k j p =
-    let b = p / 2 ^ (j + 10) % 2 in
-    ap₂ (λ (x y : ℕ). bitXor (p * 2 ^ k) (x % 2 * (generator * y)))
-    (ap (λ (n : ℕ). p * 2 ^ k / 2 ^ n) (add-assoc k j 10) ∙ shifted-shr k (j + 10) p) (pow-add 2 k j ∙ mul-comm (2 ^ k) (2 ^ j))
-    ∙ ap (λ (n : ℕ). bitXor (p * 2 ^ k) (b * n)) (sym (mul-assoc generator (2 ^ j) (2 ^ k)))
-    ∙ ap (bitXor (p * 2 ^ k)) (sym (mul-assoc b (generator * 2 ^ j) (2 ^ k)))
-    ∙ shifted-sum k p (b * (generator * 2 ^ j))
-
--- the steps above x^k do to a number times x^k what they do to the number
-shifted : (k j p : ℕ) → remainder (k + j) (p * 2 ^ k) ≡ remainder k (remainder j p * 2 ^ k)
-unfolding remainder
-shifted k zero p = ap (λ (n : ℕ). remainder n (p * 2 ^ k)) (add-zero k)
-shifted k (suc j) p =
-    ap (λ (n : ℕ). remainder n (p * 2 ^ k)) (add-suc k j)
-    ∙ ap (remainder (k + j)) (shifted-step k j p)
-    ∙ shifted k j (bitXor p (p / 2 ^ (j + 10) % 2 * (generator * 2 ^ j)))
-
-none-left : (k j m : ℕ) → remainder j m ≡ 0 → remainder (k + j) (m * 2 ^ k) ≡ 0
-unfolding remainder
-none-left k j m e =
-    shifted k j m ∙ ap (λ (n : ℕ). remainder k (n * 2 ^ k)) e ∙ ap (remainder k) (zero-mul (2 ^ k)) ∙ longer 0 k 0 (lit< tt) zero-le
-
--- a multiple of the generator with the coefficients from x^(k + 10) up is taken away: none of these is left
-pub taken-lt : (k p m : ℕ) → m / 2 ^ 10 ≡ p / 2 ^ (k + 10) → bitXor p (m * 2 ^ k) < 2 ^ (k + 10)
-taken-lt k p m e =
-    no-top (k + 10) (bitXor p (m * 2 ^ k))
-    (xor-shr p (m * 2 ^ k) (k + 10)
-    ∙ ap (bitXor (p / 2 ^ (k + 10))) (shifted-shr k 10 m ∙ e)
-    ∙ xor-self (p / 2 ^ (k + 10)))
-
--- and that is what the steps above x^k do
-pub taken : (k j p m : ℕ) → m / 2 ^ 10 ≡ p / 2 ^ (k + 10) → remainder j m ≡ 0 → remainder (k + j) p ≡ remainder k (bitXor p (m * 2 ^ k))
-taken k j p m e none =
-    sym
-    (remainder-sum (k + j) p (m * 2 ^ k)
-    ∙ ap (bitXor (remainder (k + j) p)) (none-left k j m none)
-    ∙ xor-zero-r (remainder (k + j) p))
-    ∙ longer k (k + j) (bitXor p (m * 2 ^ k)) (taken-lt k p m e) (let le : k ≤ k + j = omega arith in le)
 
 leaves-lt : {p r : ℕ} (l : Leaves p r) → p < 2 ^ (length (l .quotient) + 10)
 leaves-lt {p} {r} l =

@@ -1,3 +1,5 @@
+pub mod Bytes
 pub mod Division
 pub mod Made
+pub mod Several
 pub mod Typed

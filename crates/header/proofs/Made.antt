@@ -2,10 +2,9 @@
 -- Assumes nothing.
 use mathlib.Core.Path.{_≡_, refl, sym, ap, ap₂, _∙_, subst}
 use mathlib.Core.Bool.{Bool, true, false}
-use mathlib.Core.List.{_∷_, []}
 use mathlib.Core.Logic.{_⊎_, inl, inr}
-use Prim.Native.Nat.{ℕ, suc, _+_, _*_, _/_, _%_, _^_, _≤_, _<_}
-use native.Mathlib.Nat.{mod-lt, mod-eq-of-lt, div-one, zero-lt-suc}
+use Prim.Native.Nat.{ℕ, _+_, _*_, _/_, _%_, _^_, _<_}
+use native.Mathlib.Nat.{mod-lt, div-one, zero-lt-suc}
 use native.Mathlib.Omega.{arith}
 use lib.Count.{onesIn}
 use lib.Dec.{eqb}
@@ -15,8 +14,9 @@ use Rattle.bits.proofs.Xor.{digit, digit-of}
 use Rattle.header.specs.declared.Header.{Header}
 use Rattle.header.specs.Check.{checkOf}
 use Rattle.header.specs.Flag.{flagBits, spareIn, syncIn, extendedIn, messageIn, Odd, parityFor}
+use Rattle.header.specs.Steps.{WithParity}
 use Rattle.header.specs.Valid.{Valid, flagIn, lengthIn, checkIn, informationIn}
-use Rattle.header.specs.Fields.{Fit, fieldsIn, lowFlag, oneIf, headerOf, wordOf, bytesOf}
+use Rattle.header.specs.Fields.{Fit, fieldsIn, lowFlag, oneIf, headerOf}
 use Rattle.header.proofs.Division.{check-lt}
 
 -- ---- the flag
@@ -152,11 +152,7 @@ module _ (f : Header) (fit : Fit f) where
         length = made f fit .long i;
       }
 
--- ---- the fields of any 32 bits fit, and those of a valid header make it again
-
-pub fields-fit : (h : ℕ) → Fit (fieldsIn h)
-unfolding fieldsIn messageIn extendedIn flagBits lengthIn
-fields-fit h = record { message = omega arith; extended = omega arith; length = omega arith }
+-- ---- the fields of a valid header make it again
 
 asked : (n : ℕ) → n < 2 → oneIf (eqb n 1) ≡ n
 asked n h = pick (digit n h)
@@ -216,37 +212,20 @@ valid-made h v =
     whole : flagIn h * 2 ^ 24 + lengthIn h * 2 ^ 10 + checkIn h ≡ h
     whole = three h
 
--- the parity bit tells nothing that the others do not: two words of right parity that agree in those are the same
-pub one-parity : (v w : ℕ) → v < 2 ^ 32 → w < 2 ^ 32 → Odd (flagIn v) → Odd (flagIn w) → v % 2 ^ 31 ≡ w % 2 ^ 31 → v ≡ w
+-- the parity bit tells nothing that the others do not: with the right parity, a word is one word
+pub one-parity : (word v w : ℕ) → v < 2 ^ 32 → w < 2 ^ 32 → WithParity word v → WithParity word w → v ≡ w
 unfolding flagIn
-one-parity v w hv hw ov ow e =
+one-parity word v w hv hw pv pw =
+    let e : v % 2 ^ 31 ≡ w % 2 ^ 31 = pv .low ∙ sym (pw .low) in
     sym (split v 24)
     ∙ ap₂ (λ (x y : ℕ). x * 2 ^ 24 + y)
-    (sym (parity-back (v / 2 ^ 24) (flag-in-lt v hv) ov)
+    (sym (parity-back (v / 2 ^ 24) (flag-in-lt v hv) (pv .odd))
     ∙ ap (λ (n : ℕ). parityFor n * 2 ^ 7 + n) (sym (field v 7 24) ∙ ap (λ (n : ℕ). n / 2 ^ 24) e ∙ field w 7 24)
-    ∙ parity-back (w / 2 ^ 24) (flag-in-lt w hw) ow)
+    ∙ parity-back (w / 2 ^ 24) (flag-in-lt w hw) (pw .odd))
     (sym (mod-mod-pow v 7 24) ∙ ap (λ (n : ℕ). n % 2 ^ 24) e ∙ mod-mod-pow w 7 24)
     ∙ split w 24
 
--- so two valid headers
+-- so two valid headers that agree in the others are the same
 pub valid-low : (v w : ℕ) → Valid v → Valid w → v % 2 ^ 31 ≡ w % 2 ^ 31 → v ≡ w
-valid-low v w hv hw = one-parity v w (hv .bits) (hw .bits) (hv .parity) (hw .parity)
-
--- ---- four bytes
-
-pub bytes-word : (a b c d : ℕ) → a < 2 ^ 8 → b < 2 ^ 8 → c < 2 ^ 8 → d < 2 ^ 8 → bytesOf (wordOf a b c d) ≡ a ∷ b ∷ c ∷ d ∷ []
-unfolding bytesOf
-bytes-word a b c d ha hb hc hd =
-    let first : wordOf a b c d / 2 ^ 24 % 2 ^ 8 ≡ a = omega arith in
-    let second : wordOf a b c d / 2 ^ 16 % 2 ^ 8 ≡ b = omega arith in
-    let third : wordOf a b c d / 2 ^ 8 % 2 ^ 8 ≡ c = omega arith in
-    let fourth : wordOf a b c d % 2 ^ 8 ≡ d = omega arith in
-    λ i. first i ∷ second i ∷ third i ∷ fourth i ∷ []
-
-sums : (h a b c d x y : ℕ) → h ≡ a * 2 ^ 24 + x → x ≡ b * 2 ^ 16 + y → y ≡ c * 2 ^ 8 + d → wordOf a b c d ≡ h
-sums h a b c d x y p q r = omega arith
-
-pub word-bytes : (h : ℕ) → h < 2 ^ 32 → wordOf (h / 2 ^ 24 % 2 ^ 8) (h / 2 ^ 16 % 2 ^ 8) (h / 2 ^ 8 % 2 ^ 8) (h % 2 ^ 8) ≡ h
-word-bytes h lt =
-    sums h (h / 2 ^ 24 % 2 ^ 8) (h / 2 ^ 16 % 2 ^ 8) (h / 2 ^ 8 % 2 ^ 8) (h % 2 ^ 8) (h % 2 ^ 24) (h % 2 ^ 16) (sym (mod-eq-of-lt lt) ∙ mod-pow-add h 8 24)
-    (mod-pow-add h 8 16) (mod-pow-add h 8 8)
+valid-low v w hv hw e =
+    one-parity w v w (hv .bits) (hw .bits) (record { odd = hv .parity; low = e }) (record { odd = hw .parity; low = refl })

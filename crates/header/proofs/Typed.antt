@@ -1,4 +1,4 @@
--- A header is of one format at most, so its type bits say one thing.
+-- A header is of one format at most, so its type bits say one thing, and so does a format's number.
 -- Assumes nothing.
 use mathlib.Core.Path.{_≡_, refl, sym, ap, _∙_}
 use Prim.Native.Nat.{ℕ, zero, suc, _^_, _<_}
@@ -8,7 +8,7 @@ use Rattle.header.specs.declared.Format.the-variants.{Open, PseudoBinary
 use Rattle.header.specs.declared.Header.{Header}
 use Rattle.header.specs.declared.Typing.{Typing}
 use Rattle.header.specs.declared.Typing.the-variants.{Ours, Foreign}
-use Rattle.header.specs.Typed.{formatNumber, Typed, Types}
+use Rattle.header.specs.Typed.{formatNumber, Names, Typed, Types}
 
 -- no two formats have one number
 formatFrom : ℕ → Format
@@ -38,3 +38,9 @@ one-typing f (Ours a) (Ours b) s t = ap Ours (one-format s t)
 one-typing f (Ours a) Foreign s t = absurd (t a s)
 one-typing f Foreign (Ours b) s t = absurd (s b t)
 one-typing f Foreign Foreign s t = refl
+
+pub one-named : (number : ℕ) (a b : Typing) → Names number a → Names number b → a ≡ b
+one-named number (Ours a) (Ours b) s t = ap Ours (one-number a b (s ∙ sym t))
+one-named number (Ours a) Foreign s t = absurd (t a s)
+one-named number Foreign (Ours b) s t = absurd (s b t)
+one-named number Foreign Foreign s t = refl

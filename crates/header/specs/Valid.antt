@@ -2,7 +2,6 @@
 -- Assumes nothing.
 use mathlib.Core.Path.{_≡_}
 use Prim.Native.Nat.{ℕ, _+_, _*_, _/_, _%_, _^_, _<_}
-use lib.Bits.{bitXor}
 use Rattle.header.specs.Check.{checkOf}
 use Rattle.header.specs.Flag.{Odd}
 
@@ -18,10 +17,6 @@ checkIn h = h % 2 ^ 10
 -- the 21 information bits: the low 7 bits of the flag, then the length
 unfoldable pub informationIn : ℕ → ℕ
 informationIn h = flagIn h % 2 ^ 7 * 2 ^ 14 + lengthIn h
-
--- in which of the ten check bits those that the information bits ask for and those that came differ: 0 where they are the same
-unfoldable pub differenceIn : ℕ → ℕ
-differenceIn h = bitXor (checkOf (informationIn h)) (checkIn h)
 
 -- a valid header: 32 bits whose check and flag parity are both right, with any type and any length
 pub record Valid (h : ℕ) : Type 0 where

@@ -1,11 +1,11 @@
 // The header of a packet: its fields, its check bits and its parity (001, 3.1 and 3.2).
 ghost use mathlib.Core.Path.{_≡_};
-ghost use Prim.Native.Nat.{_/_, _%_, _^_, _<_};
-ghost use Rattle.header.specs.Check.{checkOf, remainder};
+ghost use Prim.Native.Nat.{_^_, _<_};
+ghost use Rattle.header.specs.Check.{checkOf};
 ghost use Rattle.header.specs.Fields.{fieldsIn, headerOf, sentFields, Fit, lowFlag, oneIf, wordOf};
-ghost use Rattle.header.specs.Flag.{Odd, parityFor};
+ghost use Rattle.header.specs.Flag.{parityFor};
 ghost use Rattle.header.specs.Typed.{formatNumber, Names, Types};
-ghost use Rattle.header.specs.Valid.{flagIn, differenceIn};
+ghost use Rattle.header.specs.Steps.{Multiple, differenceIn, WithParity};
 
 // The formats that we read and write.
 pub enum Format {
@@ -153,7 +153,7 @@ fn parity_for(low: u32) -> u32
 // The multiple of the generator whose coefficients from x^10 up are these four bits.
 fn multiple_for(top: u32) -> u32
     requires { ⌜ top < 16 ⌝ }
-    ensures { λ r. ⌜ (r / 2 ^ 10 ≡ top) × (remainder 4 r ≡ 0) ⌝ }
+    ensures { λ r. ⌜ Multiple top r ⌝ }
 {
     match top {
         0 => 0,
@@ -198,7 +198,7 @@ pub fn difference(word: u32) -> u32
 
 // The word with the parity bit that its flag asks for, all other bits as they are.
 pub fn with_parity(word: u32) -> u32
-    ensures { λ r. ⌜ (Odd (flagIn r)) × (r % 2 ^ 31 ≡ word % 2 ^ 31) ⌝ }
+    ensures { λ r. ⌜ WithParity word r ⌝ }
 {
     parity_for(word / 0x100_0000 % 128) * 0x8000_0000 + word % 0x8000_0000
 }

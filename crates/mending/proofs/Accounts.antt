@@ -9,9 +9,9 @@ use lib.Bits.{bitXor, xor-lt, xor-comm, xor-self, xor-zero-r}
 use lib.Count.{onesIn}
 use lib.Dec.{lit<}
 use lib.Pow.{pow-lt, shl-exact}
-use Rattle.bits.specs.Word.{flip, differences}
+use Rattle.bits.specs.Word.{differences}
 use Rattle.bits.proofs.Xor.{xor-undo, xor-zero}
-use Rattle.bits.proofs.Ones.{flip-near, flip-nearer, no-ones, ones-xor, differences-self}
+use Rattle.bits.proofs.Ones.{flip, flip-near, flip-nearer, no-ones, ones-xor, differences-self}
 use Rattle.mending.specs.Repair.{left, columnAt, Column, Accounts}
 use Rattle.mending.proofs.Apart.{left-nothing, left-sum}
 

@@ -2,7 +2,7 @@
 -- nothing, and one computed walk over the 31 remainders of single bits shows that no one to four bits do.
 -- Assumes nothing.
 use mathlib.Core.Path.{_≡_, refl, sym, ap, ap₂, _∙_, subst}
-use mathlib.Core.Bool.{Bool, true, not}
+use mathlib.Core.Bool.{Bool, true, not, _&&_}
 use mathlib.Core.List.{List, [], _∷_}
 use mathlib.Core.Logic.{_⊎_, inl, inr}
 use Prim.Native.Nat.{ℕ, zero, suc, _+_, _*_, _/_, _%_, _^_, _≤_, _<_}
@@ -16,11 +16,12 @@ use lib.Count.{onesIn}
 use lib.Dec.{T, T-not, eqb, lit≤}
 use lib.Pow.{pow-pos, split, mod-pow-add, shr-lt}
 use Rattle.bits.specs.Word.{differences}
-use Rattle.bits.proofs.Said.{both, both-left, both-right}
+use Rattle.bits.proofs.Said.{and-left, and-right}
 use Rattle.bits.proofs.Xor.{digit, xor-undo, xor-zero}
-use Rattle.bits.proofs.Ones.{ones-split, ones-low, no-ones}
+use Rattle.bits.proofs.Ones.{ones-top, ones-low, no-ones}
 use Rattle.header.specs.Check.{remainder, checkOf}
-use Rattle.header.specs.Valid.{Valid, checkIn, informationIn, differenceIn}
+use Rattle.header.specs.Steps.{differenceIn}
+use Rattle.header.specs.Valid.{Valid, checkIn, informationIn}
 use Rattle.header.proofs.Division.{remainder-sum, longer}
 use Rattle.header.proofs.Made.{valid-low, information-in}
 use Rattle.mending.specs.Mends.{distance}
@@ -37,13 +38,13 @@ columns (suc k) = left (2 ^ k) ∷ columns k
 absent : ℕ → List ℕ → ℕ → Bool
 absent w [] s = not (eqb s 0)
 absent zero (c ∷ cs) s = absent zero cs s
-absent (suc w) (c ∷ cs) s = both (absent (suc w) cs s) (absent w cs (bitXor s c))
+absent (suc w) (c ∷ cs) s = absent (suc w) cs s && absent w cs (bitXor s c)
 
 -- no choice of at least one and at most so many columns adds up to nothing
 alone : ℕ → List ℕ → Bool
 alone w [] = true
 alone zero (c ∷ cs) = true
-alone (suc w) (c ∷ cs) = both (alone (suc w) cs) (absent w cs c)
+alone (suc w) (c ∷ cs) = alone (suc w) cs && absent w cs c
 
 four-alone : T (alone 4 (columns 31))
 unfolding alone absent columns left remainder checkOf Rattle.header.specs.Check.generator
@@ -65,12 +66,6 @@ record Upper (k e : ℕ) : Type 0 where
   small : rest < 2 ^ k
   leaves : left e ≡ bitXor (left (2 ^ k)) (left rest)
   ones : onesIn (suc k) e ≡ suc (onesIn k rest)
-
-pub ones-top : (k e : ℕ) → onesIn (suc k) e ≡ onesIn k e + e / 2 ^ k % 2
-unfolding onesIn
-ones-top k e =
-    ap (λ (n : ℕ). onesIn n e) (sym (add-one k)) ∙ ones-split k 1 e
-    ∙ (let same : onesIn k e + (e / 2 ^ k % 2 + 0) ≡ onesIn k e + e / 2 ^ k % 2 = omega arith in same)
 
 halves : (k e : ℕ) → e < 2 ^ suc k → Lower k e ⊎ Upper k e
 unfolding left
@@ -112,9 +107,9 @@ unfolding absent columns
 absent-step k law zero s e t o l (inl u) = law zero s e t (u .small) (omega (arith, u .ones)) l
 absent-step k law zero s e t o l (inr u) = omega (arith, u .ones)
 absent-step k law (suc w) s e t o l (inl u) =
-    law (suc w) s e (both-left (absent (suc w) (columns k) s) (absent w (columns k) (bitXor s (left (2 ^ k)))) t) (u .small) (omega (arith, u .ones)) l
+    law (suc w) s e (and-left (absent (suc w) (columns k) s) (absent w (columns k) (bitXor s (left (2 ^ k)))) t) (u .small) (omega (arith, u .ones)) l
 absent-step k law (suc w) s e t o l (inr u) =
-    law w (bitXor s (left (2 ^ k))) (u .rest) (both-right (absent (suc w) (columns k) s) (absent w (columns k) (bitXor s (left (2 ^ k)))) t) (u .small)
+    law w (bitXor s (left (2 ^ k))) (u .rest) (and-right (absent (suc w) (columns k) s) (absent w (columns k) (bitXor s (left (2 ^ k)))) t) (u .small)
     (omega (arith, u .ones))
     (sym (xor-undo (left (2 ^ k)) (left (u .rest))) ∙ ap (bitXor (left (2 ^ k))) (sym (u .leaves) ∙ l) ∙ xor-comm (left (2 ^ k)) s)
 
@@ -131,10 +126,10 @@ alone-step : (k : ℕ) → Alone k → (w e : ℕ) → T (alone w (columns (suc 
 unfolding alone columns
 alone-step k law zero e t h o l b = no-ones (suc k) e h (omega arith)
 alone-step k law (suc w) e t h o l (inl u) =
-    law (suc w) e (both-left (alone (suc w) (columns k)) (absent w (columns k) (left (2 ^ k))) t) (u .small) (omega (arith, u .ones)) l
+    law (suc w) e (and-left (alone (suc w) (columns k)) (absent w (columns k) (left (2 ^ k))) t) (u .small) (omega (arith, u .ones)) l
 alone-step k law (suc w) e t h o l (inr u) =
     absurd
-    (absent-law k w (left (2 ^ k)) (u .rest) (both-right (alone (suc w) (columns k)) (absent w (columns k) (left (2 ^ k))) t) (u .small)
+    (absent-law k w (left (2 ^ k)) (u .rest) (and-right (alone (suc w) (columns k)) (absent w (columns k) (left (2 ^ k))) t) (u .small)
     (omega (arith, u .ones)) (sym (xor-zero (left (2 ^ k)) (left (u .rest)) (sym (u .leaves) ∙ l))))
 
 alone-law : (k : ℕ) → Alone k

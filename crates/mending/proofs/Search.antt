@@ -6,8 +6,8 @@ use mathlib.Core.Logic.{_⊎_, inl, inr}
 use Prim.Native.Nat.{ℕ, suc, _^_, _<_}
 use native.Mathlib.Nat.{eq-zero-or-pos}
 use native.Mathlib.Omega.{arith}
-use Rattle.bits.specs.Word.{flip, differences}
-use Rattle.bits.proofs.Ones.{flip-nearer, differences-same}
+use Rattle.bits.specs.Word.{differences}
+use Rattle.bits.proofs.Ones.{flip, flip-nearer, differences-same}
 use Rattle.header.specs.Valid.{Valid}
 use Rattle.mending.specs.Mends.{distance, Near}
 

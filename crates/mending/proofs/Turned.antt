@@ -9,17 +9,18 @@ use lib.Bits.{bitXor, xor-lt, xor-mod, xor-self, xor-zero-r}
 use lib.Count.{ones, onesIn}
 use lib.Pow.{pow-pos}
 use Rattle.bits.specs.Word.{differences}
-use Rattle.bits.proofs.Ones.{ones-all, ones-low, differences-comm, differences-round}
+use Rattle.bits.proofs.Ones.{ones-all, ones-low, ones-top, differences-comm, differences-round}
 use Rattle.bits.proofs.Xor.{xor-undo, xor-zero}
 use Rattle.header.specs.Check.{checkOf}
 use Rattle.header.specs.Flag.{Odd}
-use Rattle.header.specs.Valid.{Valid, flagIn, checkIn, informationIn, differenceIn}
+use Rattle.header.specs.Steps.{differenceIn}
+use Rattle.header.specs.Valid.{Valid, flagIn, checkIn, informationIn}
 use Rattle.header.proofs.Division.{remainder-lt}
 use Rattle.mending.specs.declared.Cause.{Cause}
 use Rattle.mending.specs.declared.Cause.the-variants.{Bits, Nothing}
 use Rattle.mending.specs.Mends.{distance, Near}
 use Rattle.mending.specs.Repair.{left, Accounts, Repairs}
-use Rattle.mending.proofs.Apart.{left-sum, left-difference, valid-left, low-apart, ones-top}
+use Rattle.mending.proofs.Apart.{left-sum, left-difference, valid-left, low-apart}
 
 pub difference-lt : (h : ℕ) → differenceIn h < 2 ^ 10
 unfolding left

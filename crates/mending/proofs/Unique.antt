@@ -1,14 +1,12 @@
 -- The promise of mending leaves one answer.
 -- Assumes nothing.
 use mathlib.Core.Path.{_≡_, refl, sym, ap, ap₂, _∙_}
-use Prim.Native.Nat.{ℕ, _+_, _≤_}
+use Prim.Native.Nat.{ℕ, _≤_}
 use native.Mathlib.Omega.{arith}
-use Rattle.bits.specs.Word.{differences}
 use Rattle.bits.proofs.Ones.{differences-comm, differences-round}
-use Rattle.header.specs.Valid.{Valid}
 use Rattle.mending.specs.declared.Mending.{Mending}
 use Rattle.mending.specs.declared.Mending.the-variants.{Mended, Hopeless}
-use Rattle.mending.specs.Mends.{distance, Near, MendsWithin, Mends}
+use Rattle.mending.specs.Mends.{distance, Near, MendsWithin}
 use Rattle.mending.proofs.Apart.{near-same}
 
 -- at most one valid header lies within two bits of any word
@@ -29,7 +27,3 @@ one-answer limit received le (Mended v n) (Mended w m) p q =
 one-answer limit received le (Mended v n) Hopeless p q = absurd (q v (p .0))
 one-answer limit received le Hopeless (Mended w m) p q = absurd (p w (q .0))
 one-answer limit received le Hopeless Hopeless p q = refl
-
--- and of a valid header with at most two bits turned over it is that header, with the number of those bits
-pub mends-back : (received v : ℕ) → Valid v → distance received v ≤ 2 → Mends received (Mended v (distance received v))
-mends-back received v valid near = (record { valid = valid; near = near }, refl)

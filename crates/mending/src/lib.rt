@@ -132,7 +132,8 @@ pub fn mend(received: u32) -> Mending
     let Cause::Bits(mask) = repair(header::difference(received)) else {
         return Mending::Hopeless;
     };
-    let header = header::with_parity(received ^ mask);
+    let turned = received ^ mask;
+    let header = header::with_parity(turned);
     let bits = u32::count_ones(received ^ header);
     if Mending::MOST < bits {
         return Mending::Hopeless;

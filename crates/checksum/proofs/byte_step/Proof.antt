@@ -11,10 +11,10 @@ use Rattle.checksum.proofs.byte_step.Statement.{statement}
 use Rattle.checksum.proofs.byte_step.Tie as tie
 
 abbrev Inv-loop : tie.InvT-loop
-Inv-loop register byte r₀ steps₀ r steps = (steps ≤ 8) × (bitSteps (8 - steps) r ≡ byteStep register byte)
+Inv-loop register byte moved₀ steps₀ moved steps = (steps ≤ 8) × (bitSteps (8 - steps) moved ≡ byteStep register byte)
 
 abbrev μ-loop : tie.MeasureT-loop
-μ-loop register byte r₀ steps₀ r steps = 8 - steps
+μ-loop register byte moved₀ steps₀ moved steps = 8 - steps
 
 loop-holds : tie.Need-loop-holds Inv-loop μ-loop
 unfolding byteStep
@@ -36,7 +36,7 @@ loop-again c =
     let at = c .before .before .loop in (
       omega arith,
       ap (bitSteps (8 - (at .steps + 1))) (c .bit-step .ensures)
-          ∙ steps-next 8 (at .steps) (at .r) (omega arith)
+          ∙ steps-next 8 (at .steps) (at .moved) (omega arith)
           ∙ at .inv .1,
     )
 
@@ -45,7 +45,7 @@ unfolding bitSteps
 returns c =
     let at = c .before .loop in
     let none : 8 - at .steps ≡ 0 = omega arith in
-    sym (ap (λ (n : ℕ). bitSteps n (at .r)) none) ∙ at .inv .1
+    sym (ap (λ (n : ℕ). bitSteps n (at .moved)) none) ∙ at .inv .1
 
 pub byte-step-spec : {M : Type 1} → statement M
 byte-step-spec =

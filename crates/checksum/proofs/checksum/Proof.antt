@@ -1,12 +1,12 @@
 -- `checksum::checksum` meets its contract. The loop's invariant: the bytes that are left take the register to the checksum of all.
 -- Assumes nothing.
-use mathlib.Core.Path.{_≡_, refl, sym, ap, _∙_}
-use Prim.Native.Nat.{ℕ, _≤_, _+_, _-_}
+use mathlib.Core.Path.{_≡_, sym, ap, _∙_}
+use Prim.Native.Nat.{ℕ, _≤_, _+_, _*_, _-_, _/_}
 use borrow.Author.Needs.{needs}
 use native.Mathlib.Omega.{arith}
 use lib.ListN.{length, drop, drop-of-length-le}
 use Rattle.checksum.specs.Checksum.{start, checksumFrom, checksumOf}
-use Rattle.checksum.proofs.Row.{checksum-next}
+use Rattle.checksum.proofs.Row.{checksum-next, checksum-rest}
 use Rattle.checksum.proofs.checksum.Statement.{statement}
 use Rattle.checksum.proofs.checksum.Tie as tie
 
@@ -16,9 +16,20 @@ Inv-loop «data» register₀ i₀ register i = (i ≤ length «data») × (chec
 abbrev μ-loop : tie.MeasureT-loop
 μ-loop «data» register₀ i₀ register i = length «data» - i
 
+most-steps-requires : tie.Need-most-steps-requires Inv-loop μ-loop
+most-steps-requires c κs = search needs
+
+mul-i : tie.Need-mul-i Inv-loop μ-loop
+mul-i c = search needs
+
 loop-holds : tie.Need-loop-holds Inv-loop μ-loop
-unfolding checksumOf start
-loop-holds c = (omega arith, refl)
+unfolding checksumOf
+loop-holds c =
+    let bytes = c .before .before .args .«data» .now in
+    let most = length bytes / 8 * 8 in (
+      omega arith,
+      ap (λ (r : ℕ). checksumFrom r (drop most bytes)) (c .most-steps .ensures) ∙ checksum-rest most start bytes,
+    )
 
 shared-slice-read-byte-step : tie.Need-shared-slice-read-byte-step Inv-loop μ-loop
 shared-slice-read-byte-step c = omega arith
@@ -35,7 +46,7 @@ loop-less c = omega arith
 loop-again : tie.Need-loop-again Inv-loop μ-loop
 loop-again c =
     let at = c .before .before .before in
-    let bytes = at .before .before .args .«data» .now in (
+    let bytes = at .before .before .before .args .«data» .now in (
       omega arith,
       ap (λ (r : ℕ). checksumFrom r (drop (at .loop .i + 1) bytes)) (c .byte-step .ensures)
           ∙ checksum-next (at .loop .register) bytes (at .loop .i) (omega arith)
@@ -46,7 +57,7 @@ returns : tie.Need-returns Inv-loop μ-loop
 unfolding checksumFrom
 returns c =
     let at = c .before .loop in
-    let bytes = c .before .before .before .args .«data» .now in
+    let bytes = c .before .before .before .before .args .«data» .now in
     let ended : length bytes ≤ at .i = omega arith in
     sym (ap (checksumFrom (at .register)) (drop-of-length-le bytes ended)) ∙ at .inv .1
 
@@ -56,6 +67,8 @@ checksum-spec =
     (tie.spec
     Inv-loop
     μ-loop
+    most-steps-requires
+    mul-i
     loop-holds
     shared-slice-read-byte-step
     byte-step-requires

@@ -9,7 +9,9 @@ use lib.Dec.{lit≤}
 use lib.Pow.{shl-exact, shl-lt, shr-mod, pow-mono}
 use Rattle.bits.proofs.Xor.{xor-undo}
 use Rattle.header.specs.Check.{remainder, checkOf}
-use Rattle.header.proofs.Division.{longer, taken, taken-lt}
+use Rattle.header.specs.Steps.{Multiple}
+use Rattle.header.proofs.Division.{longer}
+use Rattle.header.proofs.Several.{taken, taken-lt}
 use Rattle.header.proofs.check_bits.Statement.{statement}
 use Rattle.header.proofs.check_bits.Tie as tie
 
@@ -31,13 +33,13 @@ begin information power h le =
     )
 
 -- the shift that makes the multiple times x^k loses nothing, so a turn of the loop is four steps of the division
-turn : (r k left m : ℕ) → k ≤ 20 → (m / 2 ^ 10 ≡ left / 2 ^ (k + 10) % 16) × (remainder 4 m ≡ 0) → Dividing r (k + 4) left
+turn : (r k left m : ℕ) → k ≤ 20 → Multiple (left / 2 ^ (k + 10) % 16) m → Dividing r (k + 4) left
     → Dividing r k (bitXor left (m * 2 ^ k % 2 ^ 32))
 turn r k left m le multiple state = subst (λ (n : ℕ). Dividing r k (bitXor left n)) (sym exact) (low, (below, left-over))
   where
     top : m / 2 ^ 10 ≡ left / 2 ^ (k + 10)
     top =
-        multiple .0
+        multiple .upper
         ∙ shr-mod 4 (k + 10) (subst (λ (n : ℕ). left < 2 ^ n) (let e : k + 4 + 10 ≡ 4 + (k + 10) = omega arith in e) (state .1 .0))
 
     below : bitXor left (m * 2 ^ k) < 2 ^ (k + 10)
@@ -53,7 +55,7 @@ turn r k left m le multiple state = subst (λ (n : ℕ). Dividing r k (bitXor le
     exact = mod-eq-of-lt (lt-of-lt-of-le fits (lit≤ tt))
 
     left-over : remainder k (bitXor left (m * 2 ^ k)) ≡ r
-    left-over = sym (taken k 4 left m top (multiple .1)) ∙ state .1 .1
+    left-over = sym (taken k 4 left m top (multiple .divided)) ∙ state .1 .1
 
 abbrev Inv-loop : tie.InvT-loop
 Inv-loop information left₀ power₀ left power = (power ≤ 24) × ((power % 4 ≡ 0) × Dividing (checkOf information) power left)
@@ -92,7 +94,7 @@ loop-again c =
       (
         omega arith,
         turn r (power - 4) left (c .multiple-for .result) (omega arith)
-            (omega (arith, c .multiple-for .ensures .0), c .multiple-for .ensures .1)
+            (record { upper = omega (arith, c .multiple-for .ensures .upper); divided = c .multiple-for .ensures .divided })
             (subst (λ (n : ℕ). Dividing r n left) down (c .before .before .loop .inv .1 .1)),
       ),
     )

@@ -1,12 +1,27 @@
--- `header::multiple_for` meets its contract: in each arm the division is computed.
+-- `header::multiple_for` meets its contract: each row of the table passes a computed test.
 -- Assumes nothing.
-use mathlib.Core.Path.{_≡_, refl}
-use Prim.Native.Nat.{ℕ, zero, suc, _≤_, _<_, zero-le}
+use mathlib.Core.Bool.{Bool, _&&_}
+use mathlib.Core.Path.{_≡_, sym, _∙_}
+use Prim.Native.Nat.{ℕ, zero, suc, _/_, _^_, _≤_, _<_, zero-le}
 use native.Mathlib.Omega.{arith}
-use borrow.Author.Needs.{needs}
+use lib.Dec.{T, eqb, eqb→eq}
+use Rattle.bits.proofs.Said.{and-left, and-right}
 use Rattle.header.specs.Check.{generator, remainder}
+use Rattle.header.specs.Steps.{Multiple}
 use Rattle.header.proofs.multiple_for.Statement.{statement}
 use Rattle.header.proofs.multiple_for.Tie as tie
+
+-- m, divided, leaves nothing, and has these coefficients from x^10 up
+right : ℕ → ℕ → Bool
+right upper m = eqb (m / 2 ^ 10) upper && eqb (remainder 4 m) 0
+
+row : {top m : ℕ} (upper : ℕ) → top ≡ upper → T (right upper m) → Multiple top m
+unfolding right
+row {top} {m} upper e t =
+    record {
+      upper = eqb→eq (m / 2 ^ 10) upper (and-left (eqb (m / 2 ^ 10) upper) (eqb (remainder 4 m) 0) t) ∙ sym e;
+      divided = eqb→eq (remainder 4 m) 0 (and-right (eqb (m / 2 ^ 10) upper) (eqb (remainder 4 m) 0) t);
+    }
 
 -- a number that is none of those below k
 abbrev NoneOf : ℕ → ℕ → Type 0
@@ -17,91 +32,28 @@ past : (k n : ℕ) → NoneOf k n → k ≤ n
 past zero n none = zero-le
 past (suc k) n none = omega (arith, past k n (none .0), none .1)
 
-returns : tie.Need-returns
-unfolding remainder generator
-returns c = search needs
-
-returns-2 : tie.Need-returns-2
-unfolding remainder generator
-returns-2 c = search needs
-
-returns-3 : tie.Need-returns-3
-unfolding remainder generator
-returns-3 c = search needs
-
-returns-4 : tie.Need-returns-4
-unfolding remainder generator
-returns-4 c = search needs
-
-returns-5 : tie.Need-returns-5
-unfolding remainder generator
-returns-5 c = search needs
-
-returns-6 : tie.Need-returns-6
-unfolding remainder generator
-returns-6 c = search needs
-
-returns-7 : tie.Need-returns-7
-unfolding remainder generator
-returns-7 c = search needs
-
-returns-8 : tie.Need-returns-8
-unfolding remainder generator
-returns-8 c = search needs
-
-returns-9 : tie.Need-returns-9
-unfolding remainder generator
-returns-9 c = search needs
-
-returns-10 : tie.Need-returns-10
-unfolding remainder generator
-returns-10 c = search needs
-
-returns-11 : tie.Need-returns-11
-unfolding remainder generator
-returns-11 c = search needs
-
-returns-12 : tie.Need-returns-12
-unfolding remainder generator
-returns-12 c = search needs
-
-returns-13 : tie.Need-returns-13
-unfolding remainder generator
-returns-13 c = search needs
-
-returns-14 : tie.Need-returns-14
-unfolding remainder generator
-returns-14 c = search needs
-
-returns-15 : tie.Need-returns-15
-unfolding remainder generator
-returns-15 c = search needs
-
--- of the numbers below 16 the other arms leave 15 to the last
-last : (top : ℕ) → 15 ≤ top → top < 16 → 15 ≡ top
-last top low high = omega arith
-
-returns-16 : tie.Need-returns-16
-unfolding remainder generator
-returns-16 c = (last (c .before .args .top) (past 15 (c .before .args .top) (c .match .rest)) (c .before .pre), refl)
+-- of the numbers below 16 the other rows leave 15 to the last
+last : (top : ℕ) → NoneOf 15 top → top < 16 → top ≡ 15
+last top none high = let low : 15 ≤ top = past 15 top none in omega arith
 
 pub multiple-for-spec : {M : Type 1} → statement M
+unfolding right remainder generator
 multiple-for-spec =
     tie.close
     (tie.spec
-    returns
-    returns-2
-    returns-3
-    returns-4
-    returns-5
-    returns-6
-    returns-7
-    returns-8
-    returns-9
-    returns-10
-    returns-11
-    returns-12
-    returns-13
-    returns-14
-    returns-15
-    returns-16)
+    (λ c. row 0 (c .match .keys1) tt)
+    (λ c. row 1 (c .match .keys2) tt)
+    (λ c. row 2 (c .match .keys3) tt)
+    (λ c. row 3 (c .match .keys4) tt)
+    (λ c. row 4 (c .match .keys5) tt)
+    (λ c. row 5 (c .match .keys6) tt)
+    (λ c. row 6 (c .match .keys7) tt)
+    (λ c. row 7 (c .match .keys8) tt)
+    (λ c. row 8 (c .match .keys9) tt)
+    (λ c. row 9 (c .match .keys10) tt)
+    (λ c. row 10 (c .match .keys11) tt)
+    (λ c. row 11 (c .match .keys12) tt)
+    (λ c. row 12 (c .match .keys13) tt)
+    (λ c. row 13 (c .match .keys14) tt)
+    (λ c. row 14 (c .match .keys15) tt)
+    (λ c. row 15 (last (c .before .args .top) (c .match .rest) (c .before .pre)) tt))

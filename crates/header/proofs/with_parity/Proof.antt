@@ -5,6 +5,7 @@ use Prim.Native.Nat.{ℕ, _+_, _*_, _/_, _%_, _^_, _<_}
 use native.Mathlib.Omega.{arith}
 use borrow.Author.Needs.{needs}
 use Rattle.header.specs.Flag.{Odd, parityFor}
+use Rattle.header.specs.Steps.{WithParity}
 use Rattle.header.specs.Valid.{flagIn}
 use Rattle.header.proofs.Made.{parity-lt, parity-odd}
 use Rattle.header.proofs.with_parity.Statement.{statement}
@@ -15,13 +16,15 @@ above : (p h : ℕ) → p < 2 → flagIn (p * 2 ^ 31 + h % 2 ^ 31) ≡ p * 2 ^ 7
 unfolding flagIn
 above p h lt = omega arith
 
-paired : (p h : ℕ) → p ≡ parityFor (h / 2 ^ 24 % 2 ^ 7) → Odd (flagIn (p * 2 ^ 31 + h % 2 ^ 31)) × ((p * 2 ^ 31 + h % 2 ^ 31) % 2 ^ 31 ≡ h % 2 ^ 31)
+paired : (p h : ℕ) → p ≡ parityFor (h / 2 ^ 24 % 2 ^ 7) → WithParity h (p * 2 ^ 31 + h % 2 ^ 31)
 paired p h e =
-    let low : h / 2 ^ 24 % 2 ^ 7 < 2 ^ 7 = omega arith in (
-      subst Odd (sym (above p h (omega (arith, parity-lt (h / 2 ^ 24 % 2 ^ 7))) ∙ ap (λ (n : ℕ). n * 2 ^ 7 + h / 2 ^ 24 % 2 ^ 7) e))
-          (parity-odd (h / 2 ^ 24 % 2 ^ 7) low),
-      omega arith,
-    )
+    let low : h / 2 ^ 24 % 2 ^ 7 < 2 ^ 7 = omega arith in
+    record {
+      odd =
+          subst Odd (sym (above p h (omega (arith, parity-lt (h / 2 ^ 24 % 2 ^ 7))) ∙ ap (λ (n : ℕ). n * 2 ^ 7 + h / 2 ^ 24 % 2 ^ 7) e))
+          (parity-odd (h / 2 ^ 24 % 2 ^ 7) low);
+      low = omega arith;
+    }
 
 parity-for-requires : tie.Need-parity-for-requires
 parity-for-requires c κs = search needs

@@ -42,8 +42,8 @@ turned c =
           repaired (r .before .before .args .received) (r .before .difference .result) (m .mask .given .0 .0) (r .repair .result) (r .before .difference .ensures)
           (r .repair .ensures) (m .mask .given .1);
       bits = omega arith;
-      odd = c .with-parity .ensures .0;
-      low = c .with-parity .ensures .1;
+      odd = c .with-parity .ensures .odd;
+      low = c .with-parity .ensures .low;
     }
 
 -- and in how many bits

@@ -1,7 +1,10 @@
 -- `header::Header::from_bits` meets its contract.
 -- Assumes nothing.
+use mathlib.Core.Path.{sym}
+use Prim.Native.Nat.{_%_}
 use native.Mathlib.Nat.{div-one}
 use borrow.Author.Needs.{needs}
+use lib.Dec.{eqb}
 use Rattle.header.specs.Flag.{flagBits, spareIn, syncIn, extendedIn, messageIn}
 use Rattle.header.specs.Valid.{flagIn, lengthIn}
 use Rattle.header.specs.Fields.{fieldsIn}
@@ -19,7 +22,16 @@ cast-t16 c = search needs
 
 returns : tie.Need-returns
 unfolding fieldsIn flagIn lengthIn flagBits spareIn syncIn extendedIn messageIn
-returns c = simp div-one
+returns c =
+    let h = c .args .word in
+    λ i.
+    record {
+      message = messageIn (flagIn h);
+      extended = extendedIn (flagIn h);
+      sync = eqb (syncIn (flagIn h)) 1;
+      spare = eqb (sym (div-one (flagIn h)) i % 2) 1;
+      length = lengthIn h;
+    }
 
 pub from-bits-spec : {M : Type 1} → statement M
 from-bits-spec = tie.close (tie.spec cast-t5 cast-t8 cast-t16 returns)
