@@ -51,14 +51,14 @@ byte-at s held have next held′ have′ next′ i e x y z h k =
     ∙ ahead-byte s held have i h k
     ∙ ap (λ (a : ℕ). ahead s held have a) e
 
-pub refill-one : (s : List ℕ) (held have next : ℕ) → have ≤ 32 → next < length s → getD s next 0 < 256
+pub ahead-wide : (s : List ℕ) (held have next : ℕ) → have ≤ 32 → next < length s → getD s next 0 < 256
     → ahead s (held % 4294967296 * 256 + getD s next 0) (have + 8) (next + 1) ≡ ahead s held have next
-refill-one s held have next h k b = ahead-byte s (held % 4294967296) have next k b ∙ ahead-mod s held have next 32 h
+ahead-wide s held have next h k b = ahead-byte s (held % 4294967296) have next k b ∙ ahead-mod s held have next 32 h
 
-pub refill-four : (s : List ℕ) (held have next word : ℕ) → have ≤ 32 → next + 3 < length s → ((i : ℕ) → getD s i 0 < 256)
+pub ahead-four : (s : List ℕ) (held have next word : ℕ) → have ≤ 32 → next + 3 < length s → ((i : ℕ) → getD s i 0 < 256)
     → word ≡ (getD s next 0 * 256 + getD s (next + 1) 0) * 65536 + (getD s (next + 2) 0 * 256 + getD s (next + 3) 0)
     → ahead s (held % 4294967296 * 4294967296 + word) (have + 32) (next + 4) ≡ ahead s held have next
-refill-four s held have next word h k bytes e =
+ahead-four s held have next word h k bytes e =
     let a : ℕ = held % 4294967296 * 256 + getD s next 0 in
     let b : ℕ = a * 256 + getD s (next + 1) 0 in
     let d : ℕ = b * 256 + getD s (next + 2) 0 in
@@ -66,7 +66,7 @@ refill-four s held have next word h k bytes e =
     (omega arith) (omega arith) (omega arith) (bytes (next + 3))
     ∙ byte-at s b (have + 16) (next + 2) d (have + 24) (next + 3) (next + 2) refl refl (omega arith) (omega arith) (omega arith) (bytes (next + 2))
     ∙ byte-at s a (have + 8) (next + 1) b (have + 16) (next + 2) (next + 1) refl refl (omega arith) (omega arith) (omega arith) (bytes (next + 1))
-    ∙ refill-one s held have next h (omega arith) (bytes next)
+    ∙ ahead-wide s held have next h (omega arith) (bytes next)
 
 -- past the last byte what is ahead is what the buffer holds
 pub ahead-last : (s : List ℕ) (held have next : ℕ) → length s ≤ next → ahead s held have next ≡ low have held
@@ -155,6 +155,15 @@ take-ones n h =
 pub window-one : (held have v w : ℕ) → Window held have v → Window held have w → v ≡ w
 window-one held have v w x y =
     sym (value-low 9 v ∙ mod-eq-of-lt (x .small)) ∙ ap value (x .nine ∙ sym (y .nine)) ∙ (value-low 9 w ∙ mod-eq-of-lt (y .small))
+
+-- and so is what bits that are put in at the lower end make of a number of 64 bits
+pub push-one : (held bits width v w : ℕ) → width ≤ 64 → v < 2 ^ 64 → w < 2 ^ 64 → ((n : ℕ) → n + width ≤ 64 → low (n + width) v ≡ low n held ++ low width bits)
+    → ((n : ℕ) → n + width ≤ 64 → low (n + width) w ≡ low n held ++ low width bits) → v ≡ w
+push-one held bits width v w h a b x y =
+    let all : (64 - width) + width ≡ 64 = omega arith in
+    let same : low 64 v ≡ low 64 w =
+    subst (λ (n : ℕ). low n v ≡ low n w) all (x (64 - width) (omega arith) ∙ sym (y (64 - width) (omega arith))) in
+    sym (value-low 64 v ∙ mod-eq-of-lt a) ∙ ap value same ∙ (value-low 64 w ∙ mod-eq-of-lt b)
 
 -- the nine bits are ones where the bits that there are are a fill
 pub window-fill : (held have w : ℕ) → Window held have w → have ≤ 7 → w ≡ 511 → Fill (low have held)

@@ -7,7 +7,7 @@ use mathlib.Core.List.{List, [], _∷_, _++_, nil≢cons, head-eq-of-cons-eq, ta
 use Prim.Native.Nat.{ℕ}
 use lib.Dec.{T, eqb, eqb→eq, eqb-refl}
 use Rattle.codes.specs.Chain.{Begins}
-use Rattle.codes.proofs.Every.{and-left, and-right, and-both}
+use Rattle.bits.proofs.Said.{and-left, and-right, and-both}
 
 unfoldable pub begun : List ℕ → List ℕ → Bool
 begun [] bs = true

@@ -10,7 +10,8 @@ use lib.ListN.{length, getD}
 use borrow.Author.Count.{below-more}
 use Rattle.bits.specs.Says.{Says}
 use Rattle.codes.specs.Size.{Coded}
-use Rattle.codes.proofs.Every.{every, and-left, and-right}
+use Rattle.bits.proofs.Said.{and-left, and-right}
+use Rattle.codes.proofs.Every.{every}
 
 module _ (has : ℕ → Bool) where
   pub coded-none : Coded has [] 0

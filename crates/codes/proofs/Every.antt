@@ -1,22 +1,11 @@
--- Tests that antt computes: two at once, and one at each element of a list.
+-- A test that antt computes at each element of a list.
 -- Assumes nothing.
 use mathlib.Core.Path.{subst⁻¹}
-use mathlib.Core.Bool.{Bool, true, false, _&&_}
+use mathlib.Core.Bool.{Bool, true, _&&_}
 use mathlib.Core.Logic.{⊎-elim}
 use mathlib.Core.List.{List, [], _∷_, _++_, List·Memᴰ, List·Memᴰ·not-nil, List·Memᴰ·cases-cons}
 use lib.Dec.{T}
-
-pub and-left : (a b : Bool) → T (a && b) → T a
-and-left true b t = tt
-and-left false b t = t
-
-pub and-right : (a b : Bool) → T (a && b) → T b
-and-right true b t = t
-and-right false b t = absurd t
-
-pub and-both : (a b : Bool) → T a → T b → T (a && b)
-and-both true b s t = t
-and-both false b s t = s
+use Rattle.bits.proofs.Said.{and-left, and-right, and-both}
 
 module _ {A : Type 0} where
   -- the test passes at each element

@@ -8,7 +8,8 @@ use native.Mathlib.Omega.{arith}
 use lib.Dec.{T, leb, eqb, leb→le, le→leb, eqb→eq}
 use lib.ListN.{length, replicate, length-append, length-replicate}
 use Rattle.codes.specs.Chain.{Fill}
-use Rattle.codes.proofs.Every.{every, every-front, and-left, and-right, and-both}
+use Rattle.bits.proofs.Said.{and-left, and-right, and-both}
+use Rattle.codes.proofs.Every.{every, every-front}
 
 unfoldable pub fills : List ℕ → Bool
 fills f = leb (length f) 7 && every (eqb 1) f

@@ -8,7 +8,8 @@ use Prim.Native.Nat.{ℕ, _<_}
 use lib.Dec.{T, T-not, ltb, ltb→lt}
 use lib.ListN.{length}
 use Rattle.codes.specs.Chain.{Entry, Tables, In, Fill, Begins}
-use Rattle.codes.proofs.Every.{every, every-at, and-left, and-right}
+use Rattle.bits.proofs.Said.{and-left, and-right}
+use Rattle.codes.proofs.Every.{every, every-at}
 use Rattle.codes.proofs.Begin.{begun, begins-begun, either-begins}
 use Rattle.codes.proofs.Fill.{fills, fill-fills, fill-front}
 

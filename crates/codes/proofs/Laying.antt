@@ -6,15 +6,15 @@ use Prim.Native.Nat.{ℕ, _+_, _-_, _≤_}
 use native.Mathlib.Nat.{add-zero}
 use native.Mathlib.Omega.{arith}
 use lib.ListN.{length, length-append}
-use Rattle.codes.specs.Chain.{Tables, Fill, Reads}
+use Rattle.codes.specs.Chain.{Tables, Fill, Builds}
 use Rattle.codes.specs.Laid.{laid, Readable, Placed}
 use Rattle.codes.specs.Measure.{Measures}
 use Rattle.codes.specs.Passed.{Passed, Counting, Laying}
 use Rattle.codes.specs.declared.Measured.the-variants.{Text, Malformed}
 use Rattle.codes.proofs.Laid.{laid-nil, laid-laid, length-laid}
 use Rattle.codes.proofs.Laws.{Laws}
-use Rattle.codes.proofs.Passed.{passed-none, passed-front, passed-on, passed-reads, passed-stuck, passed-text}
-use Rattle.codes.proofs.Reading.{Halts, reads-end, stuck-here}
+use Rattle.codes.proofs.Passed.{passed-none, passed-front, passed-on, passed-builds, passed-stuck, passed-text}
+use Rattle.codes.proofs.Reading.{Halts, builds-end, stuck-here}
 
 pub counting-none : (tables : Tables) (bs : List ℕ) → Counting tables bs bs 0
 counting-none tables bs = record { said = []; counts = refl; passed = passed-none tables bs }
@@ -38,7 +38,7 @@ module _ {tables : Tables} {bs rest : List ℕ} {n : ℕ} (c : Counting tables b
   counting-end f = (
     c .said,
     c .counts,
-    subst (Reads tables 0 bs) (append-nil (c .said)) (passed-reads rest [] (c .passed) (reads-end tables f)),
+    subst (Builds tables 0 bs) (append-nil (c .said)) (passed-builds rest [] (c .passed) (builds-end tables f)),
   )
 
   pub counting-stuck : (i : ℕ) → i + length rest ≡ length bs → Halts tables 0 rest → (Fill rest → ⊥) → Measures tables bs (Malformed i)
@@ -49,7 +49,7 @@ module _ {tables : Tables} {bs rest : List ℕ} {n : ℕ} (c : Counting tables b
   counting-text k t = (
     c .said ++ t .0,
     omega (arith, length-append (c .said) (t .0), c .counts, t .1),
-    passed-reads rest (t .0) (c .passed) (t .2),
+    passed-builds rest (t .0) (c .passed) (t .2),
   )
 
   pub counting-malformed : (i j : ℕ) → j + length rest ≡ length bs + i → Measures tables rest (Malformed i) → Measures tables bs (Malformed j)
@@ -92,7 +92,7 @@ module _ {tables : Tables} {bs rest entry out : List ℕ} {m n : ℕ} (y : Layin
   pub laying-end : Fill rest → Placed tables bs entry out m n
   laying-end f = record {
     text = y .said;
-    reads = subst (Reads tables 0 bs) (append-nil (y .said)) (passed-reads rest [] (y .passed) (reads-end tables f));
+    reads = subst (Builds tables 0 bs) (append-nil (y .said)) (passed-builds rest [] (y .passed) (builds-end tables f));
     place = y .place;
     whole = y .whole;
   }
@@ -101,7 +101,7 @@ module _ {tables : Tables} {bs rest entry out : List ℕ} {m n : ℕ} (y : Layin
   pub laying-last : {exit : List ℕ} {r : ℕ} → n ≤ length entry → Placed tables rest out exit n r → Placed tables bs entry exit m r
   laying-last h p = record {
     text = y .said ++ p .text;
-    reads = passed-reads rest (p .text) (y .passed) (p .reads);
+    reads = passed-builds rest (p .text) (y .passed) (p .reads);
     place = omega (arith, p .place, y .place, length-append (y .said) (p .text));
     whole = p .whole ∙ ap (λ (l : List ℕ). laid l n (p .text)) (y .whole)
         ∙ laid-laid entry m n (y .said) (p .text) (omega (arith, y .place)) (y .place);

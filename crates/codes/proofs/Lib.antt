@@ -3,6 +3,9 @@ pub mod Begin
 pub mod Coded
 pub mod Every
 pub mod Fill
+pub mod Flushing
+pub mod Given
+pub mod Held
 pub mod Laid
 pub mod Laws
 pub mod Laying
@@ -12,10 +15,11 @@ pub mod Numbers
 pub mod Only
 pub mod Pack
 pub mod Passed
-pub mod Pending
 pub mod Reading
 pub mod Search
 pub mod Single
 pub mod Speaks
+pub mod Spilling
 pub mod Within
 pub mod Words
+pub mod Writing

@@ -13,7 +13,8 @@ use Rattle.bits.specs.Row.{bits, Bytes}
 use Rattle.bits.specs.Word.{bit}
 use Rattle.codes.specs.Chain.{Entry, Tables, after, Row, codes, texts, Built}
 use Rattle.codes.specs.Pack.{Binary, low, value, bytes, packed, gap, filled, written}
-use Rattle.codes.proofs.Every.{every, every-at, and-left, and-right}
+use Rattle.bits.proofs.Said.{and-left, and-right}
+use Rattle.codes.proofs.Every.{every, every-at}
 use Rattle.codes.proofs.Fill.{ones-fill}
 use Rattle.codes.proofs.Low.{length-low, low-binary, value-low, value-lt, low-value}
 

@@ -5,7 +5,7 @@ use mathlib.Core.List.{List, [], _∷_, _++_, append-assoc, append-nil}
 use Prim.Native.Nat.{ℕ, _+_}
 use native.Mathlib.Omega.{arith}
 use lib.ListN.{length, length-append}
-use Rattle.codes.specs.Chain.{Entry, Tables, In, after, Row, codes, texts, Reads, Stuck}
+use Rattle.codes.specs.Chain.{Entry, Tables, In, after, Row, codes, texts, Builds, Stuck}
 use Rattle.codes.specs.Passed.{Passed}
 use Rattle.codes.proofs.Laws.{Laws}
 use Rattle.codes.proofs.Reading.{Answer, text, stuck, Means, answer, always, one-text, never-both}
@@ -67,8 +67,8 @@ module _ {tables : Tables} {bs said : List ℕ} {m : ℕ} where
             (ap (λ (l : List ℕ). codes (p .entries) ++ l) (sym (append-nil (e .code))) ∙ sym (codes-append (p .entries) one));
       }
 
-  pub passed-reads : (rest t : List ℕ) → Passed tables bs m rest said → Reads tables m rest t → Reads tables 0 bs (said ++ t)
-  passed-reads rest t p r = record {
+  pub passed-builds : (rest t : List ℕ) → Passed tables bs m rest said → Builds tables m rest t → Builds tables 0 bs (said ++ t)
+  passed-builds rest t p r = record {
     entries = p .entries ++ r .entries;
     fill = r .fill;
     row = row-append tables 0 m 0 (p .entries) (r .entries) (p .row) (r .row);
@@ -102,12 +102,12 @@ module _ {tables : Tables} {bs said : List ℕ} {m : ℕ} where
   }
 
   -- the text of the whole begins with what was said, and goes on with the text of the rest
-  pub passed-text : Laws tables → (rest t : List ℕ) → Passed tables bs m rest said → Reads tables 0 bs t
-      → (later : List ℕ) × (t ≡ said ++ later) × Reads tables m rest later
+  pub passed-text : Laws tables → (rest t : List ℕ) → Passed tables bs m rest said → Builds tables 0 bs t
+      → (later : List ℕ) × (t ≡ said ++ later) × Builds tables m rest later
   passed-text laws rest t p r = pick (answer tables (length rest) m rest) (always laws m rest)
     where
-      pick : (a : Answer) → Means tables m rest a → (later : List ℕ) × (t ≡ said ++ later) × Reads tables m rest later
-      pick (text u) q = (u, one-text laws r (passed-reads rest u p q), q)
+      pick : (a : Answer) → Means tables m rest a → (later : List ℕ) × (t ≡ said ++ later) × Builds tables m rest later
+      pick (text u) q = (u, one-text laws r (passed-builds rest u p q), q)
       pick (stuck j) q =
           absurd (never-both laws r
           (passed-stuck rest (length (codes (p .entries)) + j) j p

@@ -10,20 +10,18 @@ use native.Mathlib.Omega.{arith}
 use lib.Dec.{T}
 use lib.ListN.{length, drop, length-append, length-drop}
 use lib.Seq.{drop-append-seam}
-use Rattle.codes.specs.Chain.{Entry, Tables, In, after, Row, codes, texts, Fill, Begins, Reads, Stuck}
+use Rattle.codes.specs.Chain.{Entry, Tables, In, after, Row, codes, texts, Fill, Begins, Builds, Stuck}
+pub use Rattle.codes.specs.Reading.{Answer, text, stuck, Halts}
+use Rattle.codes.specs.Reading.{front}
 use Rattle.codes.proofs.Fill.{fills, fills-fill, fill-fills}
 use Rattle.codes.proofs.Laws.{Laws}
 use Rattle.codes.proofs.Search.{find, Found, found}
 
--- no entry of the table of state n begins the bits
-abbrev pub Halts : Tables → ℕ → List ℕ → Type 0
-Halts tables n bs = (e : Entry) → In e (tables n) → Begins (e .code) bs → ⊥
-
 -- an entry in front of a reading
-pub reads-more : {tables : Tables} {m : ℕ} {e : Entry} {bs t : List ℕ} → In e (tables m)
-    → Reads tables (after m e) bs t → Reads tables m (e .code ++ bs) (e .says ++ t)
+pub builds-more : {tables : Tables} {m : ℕ} {e : Entry} {bs t : List ℕ} → In e (tables m)
+    → Builds tables (after m e) bs t → Builds tables m (e .code ++ bs) (e .says ++ t)
 unfolding codes texts
-reads-more {e = e} h r = record {
+builds-more {e = e} h r = record {
   entries = e ∷ r .entries;
   fill = r .fill;
   row = (h, r .row);
@@ -47,9 +45,9 @@ stuck-more {e = e} h s = record {
 }
 
 -- the end of a reading
-pub reads-end : (tables : Tables) {f : List ℕ} → Fill f → Reads tables 0 f []
+pub builds-end : (tables : Tables) {f : List ℕ} → Fill f → Builds tables 0 f []
 unfolding codes texts
-reads-end tables {f} h = record { entries = []; fill = f; row = refl; says = refl; ends = h; bits = refl }
+builds-end tables {f} h = record { entries = []; fill = f; row = refl; says = refl; ends = h; bits = refl }
 
 pub stuck-here : {tables : Tables} {m : ℕ} {bs : List ℕ} → Halts tables m bs → (m ≡ 0 → Fill bs → ⊥) → Stuck tables m bs 0
 unfolding codes
@@ -64,19 +62,10 @@ stuck-here {m = m} {bs = bs} h k = record {
   no-end = k;
 }
 
--- what a reading comes to: a text, or the bit at which it is stuck
-pub data Answer : Type 0 where
-  text : List ℕ → Answer
-  stuck : ℕ → Answer
-
+-- what an answer means for a maker: the bits are a building of the text, or no building goes on at the bit
 abbrev pub Means : Tables → ℕ → List ℕ → Answer → Type 0
-Means tables m bs (text t) = Reads tables m bs t
+Means tables m bs (text t) = Builds tables m bs t
 Means tables m bs (stuck i) = Stuck tables m bs i
-
--- the answer with an entry in front
-abbrev pub front : Entry → Answer → Answer
-front e (text t) = text (e .says ++ t)
-front e (stuck i) = stuck (length (e .code) + i)
 
 -- the answer where no entry begins the bits
 abbrev pub last : ℕ → List ℕ → Answer
@@ -93,9 +82,9 @@ answer tables zero m bs = last m bs
 answer tables (suc n) m bs =
     first (find (tables m) bs) (last m bs) (λ (e : Entry). answer tables n (after m e) (drop (length (e .code)) bs))
 
-front-means : (tables : Tables) (m : ℕ) (e : Entry) (bs : List ℕ) (a : Answer) → In e (tables m) → Means tables (after m e) bs a
+pub front-means : (tables : Tables) (m : ℕ) (e : Entry) (bs : List ℕ) (a : Answer) → In e (tables m) → Means tables (after m e) bs a
     → Means tables m (e .code ++ bs) (front e a)
-front-means tables m e bs (text t) h r = reads-more h r
+front-means tables m e bs (text t) h r = builds-more h r
 front-means tables m e bs (stuck i) h s = stuck-more h s
 
 last-means : (tables : Tables) (m : ℕ) (bs : List ℕ) → Halts tables m bs → Means tables m bs (last m bs)
@@ -103,7 +92,7 @@ last-means tables (suc m) bs h = stuck-here h (λ e. absurd (let no′ : ⊥ = o
 last-means tables zero bs h = pick (fills bs) refl
   where
     pick : (t : Bool) → fills bs ≡ t → Means tables 0 bs (cond t (text []) (stuck 0))
-    pick true x = reads-end tables (fills-fill bs (subst⁻¹ T x tt))
+    pick true x = builds-end tables (fills-fill bs (subst⁻¹ T x tt))
     pick false x = stuck-here h (λ e f. subst T x (fill-fills bs f))
 
 module _ {tables : Tables} (laws : Laws tables) where
@@ -129,13 +118,13 @@ module _ {tables : Tables} (laws : Laws tables) where
       (ap₂ (λ (z : Entry) (l : List Entry). z ∷ l) same (ih .0), ih .1, ih .2)
 
   -- bits are a building of one row of entries, hence of one text
-  pub one-row : {m : ℕ} {bs t u : List ℕ} (a : Reads tables m bs t) (b : Reads tables m bs u) → a .entries ≡ b .entries
+  pub one-row : {m : ℕ} {bs t u : List ℕ} (a : Builds tables m bs t) (b : Builds tables m bs u) → a .entries ≡ b .entries
   one-row {m = m} a b =
       agree m 0 0 (a .entries) (b .entries) (a .fill) (b .fill) (a .row) (b .row)
       (λ e h. laws .no-fill e h (a .fill) (a .ends)) (λ e h. laws .no-fill e h (b .fill) (b .ends))
       (sym (a .bits) ∙ b .bits) .0
 
-  pub one-text : {m : ℕ} {bs t u : List ℕ} → Reads tables m bs t → Reads tables m bs u → t ≡ u
+  pub one-text : {m : ℕ} {bs t u : List ℕ} → Builds tables m bs t → Builds tables m bs u → t ≡ u
   one-text a b = sym (a .says) ∙ ap texts (one-row a b) ∙ b .says
 
   pub one-place : {m i j : ℕ} {bs : List ℕ} → Stuck tables m bs i → Stuck tables m bs j → i ≡ j
@@ -146,7 +135,7 @@ module _ {tables : Tables} (laws : Laws tables) where
       (sym (a .bits) ∙ b .bits) .0)
       ∙ sym (b .place)
 
-  pub never-both : {m i : ℕ} {bs t : List ℕ} → Reads tables m bs t → Stuck tables m bs i → ⊥
+  pub never-both : {m i : ℕ} {bs t : List ℕ} → Builds tables m bs t → Stuck tables m bs i → ⊥
   never-both {m = m} a b =
       let same : (a .entries ≡ b .entries) × (0 ≡ b .state) × (a .fill ≡ b .rest) =
       agree m 0 (b .state) (a .entries) (b .entries) (a .fill) (b .rest) (a .row) (b .row)
@@ -184,24 +173,3 @@ module _ {tables : Tables} (laws : Laws tables) where
 
   pub always : (m : ℕ) (bs : List ℕ) → Means tables m bs (answer tables (length bs) m bs)
   always m bs = answer-means (length bs) m bs (le-refl (length bs))
-
-  -- the entry whose code begins the bits is the first to be read
-  pub reads-less : {m : ℕ} {e : Entry} {bs t : List ℕ} → In e (tables m) → Reads tables m (e .code ++ bs) t
-      → (later : List ℕ) × (t ≡ e .says ++ later) × Reads tables (after m e) bs later
-  reads-less {m} {e} {bs} {t} h r = pick (answer tables (length bs) (after m e) bs) (always (after m e) bs)
-    where
-      pick : (a : Answer) → Means tables (after m e) bs a → (later : List ℕ) × (t ≡ e .says ++ later) × Reads tables (after m e) bs later
-      pick (text t) a = (t, one-text r (reads-more h a), a)
-      pick (stuck i) s = absurd (never-both r (stuck-more h s))
-
-  pub stuck-less : {m i : ℕ} {e : Entry} {bs : List ℕ} → In e (tables m) → Stuck tables m (e .code ++ bs) i
-      → (later : ℕ) × (i ≡ length (e .code) + later) × Stuck tables (after m e) bs later
-  stuck-less {m} {i} {e} {bs} h s = pick (answer tables (length bs) (after m e) bs) (always (after m e) bs)
-    where
-      pick : (a : Answer) → Means tables (after m e) bs a → (later : ℕ) × (i ≡ length (e .code) + later) × Stuck tables (after m e) bs later
-      pick (text t) a = absurd (never-both (reads-more h a) s)
-      pick (stuck j) b = (j, one-place s (stuck-more h b), b)
-
-  -- fill is no text
-  pub reads-fill : {f t : List ℕ} → Fill f → Reads tables 0 f t → t ≡ []
-  reads-fill h r = one-text r (reads-end tables h)

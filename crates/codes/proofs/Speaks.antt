@@ -7,7 +7,7 @@ use Prim.Native.Nat.{ℕ, zero, suc, _+_, _≤_, _<_}
 use native.Mathlib.Omega.{arith}
 use lib.Dec.{T, ltb, ltb→lt}
 use lib.ListN.{length, length-append}
-use Rattle.codes.specs.Chain.{Entry, Tables, In, after, Row, codes, texts, Reads}
+use Rattle.codes.specs.Chain.{Entry, Tables, In, after, Row, codes, texts, Builds}
 use Rattle.codes.proofs.Every.{every, every-at}
 
 -- an indicator or code says something or announces something, and a value says something
@@ -48,7 +48,7 @@ module _ {tables : Tables} (s : Speaks tables) where
             length-append (e .says) (texts es),
           )
 
-  pub never-silent : {bs text : List ℕ} → Reads tables 0 bs text → 8 ≤ length bs → 0 < length text
+  pub never-silent : {bs text : List ℕ} → Builds tables 0 bs text → 8 ≤ length bs → 0 < length text
   unfolding codes
   never-silent {bs} {text} r h = pick (r .entries) (r .row) (r .says) (r .bits)
     where

@@ -1,15 +1,18 @@
--- How long a text can be, and where a reading can be stuck.
+-- How many codes data can have, how long a text can be, and where a reading can be stuck.
 -- Assumes nothing.
 use mathlib.Core.Path.{ap}
-use mathlib.Core.Bool.{Bool}
+use mathlib.Core.Bool.{Bool, _&&_}
 use mathlib.Core.List.{List, [], _∷_}
 use Prim.Native.Nat.{ℕ, _*_, _≤_, zero-le}
 use native.Mathlib.Nat.{mul-add, mul-le-mul-left}
+use native.Mathlib.Numerals.{unary-clauses}
 use native.Mathlib.Omega.{arith}
 use lib.Dec.{T, leb, leb→le}
 use lib.ListN.{length, length-append}
-use Rattle.codes.specs.Chain.{Entry, Tables, after, Row, codes, texts, Reads, Stuck}
+use Rattle.codes.specs.Chain.{Entry, Tables, In, after, Row, codes, texts, Builds, Stuck, Built}
+use Rattle.bits.proofs.Said.{and-left, and-right}
 use Rattle.codes.proofs.Every.{every, every-at}
+use Rattle.codes.proofs.Pack.{length-bits}
 
 -- the entry says at most k characters a bit
 unfoldable pub brief : ℕ → Entry → Bool
@@ -30,10 +33,48 @@ module _ (tables : Tables) (k : ℕ) (all : (m : ℕ) → T (every (brief k) (ta
       )
 
   -- and so does a reading
-  pub reads-within : {m : ℕ} {bs t : List ℕ} → Reads tables m bs t → length t ≤ k * length bs
-  reads-within {m} {bs} {t} r =
+  pub builds-within : {m : ℕ} {bs t : List ℕ} → Builds tables m bs t → length t ≤ k * length bs
+  builds-within {m} {bs} {t} r =
       let front : length (codes (r .entries)) ≤ length bs = omega (arith, ap length (r .bits), length-append (codes (r .entries)) (r .fill)) in
       omega (arith, ap length (r .says), row-within m 0 (r .entries) (r .row), mul-le-mul-left k front)
 
 pub stuck-within : {tables : Tables} {m i : ℕ} {bs : List ℕ} → Stuck tables m bs i → i ≤ length bs
 stuck-within s = omega (arith, s .place, ap length (s .bits), length-append (codes (s .entries)) (s .rest))
+
+-- a code of so many bits or more, and so many characters or fewer
+unfoldable pub sized : ℕ → ℕ → Entry → Bool
+sized shortest longest e = leb shortest (length (e .code)) && leb (length (e .says)) longest
+
+module _ (format : Tables) (shortest longest : ℕ) (t : (m : ℕ) → T (every (sized shortest longest) (format m))) where
+  entry-sized : (m : ℕ) (e : Entry) → In e (format m) → (shortest ≤ length (e .code)) × (length (e .says) ≤ longest)
+  unfolding sized
+  entry-sized m e h =
+      let a : Bool = leb shortest (length (e .code)) in
+      let b : Bool = leb (length (e .says)) longest in
+      let u : T (a && b) = every-at (sized shortest longest) (format m) (t m) e h in
+      (leb→le shortest (length (e .code)) (and-left a b u), leb→le (length (e .says)) longest (and-right a b u))
+
+  row-sized : (m n : ℕ) (es : List Entry) → Row format m es n
+      → (shortest * length es ≤ length (codes es)) × (length (texts es) ≤ longest * length es)
+  unfolding codes texts
+  row-sized m n [] r = (omega arith, omega arith)
+  row-sized m n (e ∷ es) r =
+      let s = entry-sized m e (r .0) in
+      let l = row-sized (after m e) n es (r .1) in (
+        simp unary-clauses (omega (arith, length-append (e .code) (codes es), s .0, l .0)),
+        simp unary-clauses (omega (arith, length-append (e .says) (texts es), s .1, l .1)),
+      )
+
+  -- how many codes a building has, and how long its text is
+  pub few-codes : {text : List ℕ} (sent : List ℕ) (b : Built format text sent) → shortest * length (b .entries) ≤ 8 * length sent
+  few-codes sent b =
+      omega (
+        arith,
+        row-sized 0 0 (b .entries) (b .row) .0,
+        length-bits sent,
+        ap length (b .bits),
+        length-append (codes (b .entries)) (b .fill),
+      )
+
+  pub short-text : {text : List ℕ} (sent : List ℕ) (b : Built format text sent) → length text ≤ longest * length (b .entries)
+  short-text sent b = omega (arith, row-sized 0 0 (b .entries) (b .row) .1, ap length (b .says))

@@ -12,7 +12,7 @@ use Rattle.bits.specs.Row.{bits}
 use Rattle.codes.specs.Ahead.{ahead}
 use Rattle.codes.specs.Pack.{low}
 use Rattle.codes.specs.Words.{fourAt, eightAt, spilled}
-use Rattle.codes.proofs.Ahead.{refill-four}
+use Rattle.codes.proofs.Ahead.{ahead-four}
 use Rattle.codes.proofs.Low.{shl-mod}
 
 -- the same with its places as they come
@@ -37,9 +37,9 @@ eight-bits s q h bytes =
     let lower : ℕ = fourAt s (q + 4) in
     let fit : upper % 4294967296 ≡ upper = mod-eq-of-lt (four-small s q bytes) in
     ap₂ (λ (x n : ℕ). ahead s (x * 4294967296 + lower) 64 n) (sym fit) (let e : q + 8 ≡ q + 4 + 4 = omega arith in e)
-    ∙ refill-four s upper 32 (q + 4) lower (lit≤ tt) (omega arith) bytes refl
+    ∙ ahead-four s upper 32 (q + 4) lower (lit≤ tt) (omega arith) bytes refl
     ∙ ap (λ (x : ℕ). ahead s x 32 (q + 4)) (let e : upper ≡ 0 % 4294967296 * 4294967296 + upper = omega arith in e)
-    ∙ refill-four s 0 0 q upper (lit≤ tt) (omega arith) bytes refl
+    ∙ ahead-four s 0 0 q upper (lit≤ tt) (omega arith) bytes refl
 
 -- a number shifted to the top of a word, and n bits taken there
 pub shifted-down : (v k n m : ℕ) → k + (n + m) ≡ 64 → v * 2 ^ k % 2 ^ 64 / 2 ^ (64 - n) ≡ v / 2 ^ m % 2 ^ n
@@ -62,21 +62,19 @@ shifted-on v k n h =
     ∙ sym (split (v * 2 ^ k))
     ∙ ap (λ (x : ℕ). x % 2 ^ 64) (mul-assoc v (2 ^ k) (2 ^ n) ∙ ap (λ (x : ℕ). v * x) (sym (pow-add 2 k n)))
 
--- four bytes out of a number, stored one by one
-pub spill-four : (out : List ℕ) (n held have : ℕ) → 32 ≤ have
-    → set (set (set (set out n (held / 2 ^ (have - 32) / 16777216 % 256)) (n + 1) (held / 2 ^ (have - 32) / 65536 % 256)) (n + 2)
-    (held / 2 ^ (have - 32) / 256 % 256)) (n + 3) (held / 2 ^ (have - 32) % 256)
-    ≡ spilled 4 out n held have
+-- one number stored, by what it is, in a place, by where it is
+store : {l d : List ℕ} {s t u v : ℕ} → l ≡ d → s ≡ t → u ≡ v → set l s u ≡ set d t v
+store {d = d} {t = t} {u = u} f g h = ap₂ (λ (z : List ℕ) (w : ℕ). set z w u) f g ∙ ap (set d t) h
+
+-- four bytes out of a number, stored one by one, with the numbers and places as they come
+pub spill-four : (out : List ℕ) (n held have shift a b c i j k : ℕ) → shift + 32 ≡ have → i ≡ n + 1 → j ≡ n + 1 + 1 → k ≡ n + 1 + 1 + 1
+    → a ≡ held / 2 ^ shift / 16777216 % 256 → b ≡ held / 2 ^ shift / 65536 % 256 → c ≡ held / 2 ^ shift / 256 % 256
+    → set (set (set (set out n a) i b) j c) k (held / 2 ^ shift % 256) ≡ spilled 4 out n held have
 unfolding spilled
-spill-four out n held have h =
-    let byte : (j i : ℕ) → have - 32 + j ≡ i → held / 2 ^ (have - 32) / 2 ^ j % 256 ≡ held / 2 ^ i % 256 =
-    λ j i e. ap (λ (x : ℕ). x % 256) (shr-shr held (have - 32) j ∙ ap (λ (x : ℕ). held / 2 ^ x) e) in
-    ap (λ (x : ℕ). set (set (set (set out n x) (n + 1) (held / 2 ^ (have - 32) / 65536 % 256)) (n + 2)
-    (held / 2 ^ (have - 32) / 256 % 256)) (n + 3) (held / 2 ^ (have - 32) % 256)) (byte 24 (have - 8) (omega arith))
-    ∙ ap (λ (x : ℕ). set (set (set (set out n (held / 2 ^ (have - 8) % 256)) (n + 1) x) (n + 2)
-    (held / 2 ^ (have - 32) / 256 % 256)) (n + 3) (held / 2 ^ (have - 32) % 256)) (byte 16 (have - 8 - 8) (omega arith))
-    ∙ ap₂ (λ (i x : ℕ). set (set (set (set out n (held / 2 ^ (have - 8) % 256)) (n + 1) (held / 2 ^ (have - 8 - 8) % 256)) i x) (n + 3)
-    (held / 2 ^ (have - 32) % 256)) (let e : n + 2 ≡ n + 1 + 1 = omega arith in e) (byte 8 (have - 8 - 8 - 8) (omega arith))
-    ∙ ap₂ (λ (i x : ℕ). set (set (set (set out n (held / 2 ^ (have - 8) % 256)) (n + 1) (held / 2 ^ (have - 8 - 8) % 256)) (n + 1 + 1)
-    (held / 2 ^ (have - 8 - 8 - 8) % 256)) i (held / 2 ^ x % 256)) (let e : n + 3 ≡ n + 1 + 1 + 1 = omega arith in e)
-    (let e : have - 32 ≡ have - 8 - 8 - 8 - 8 = omega arith in e)
+spill-four out n held have shift a b c i j k e x y z p q r =
+    let byte : (w m : ℕ) → shift + w ≡ m → held / 2 ^ shift / 2 ^ w % 256 ≡ held / 2 ^ m % 256 =
+    λ w m u. ap (λ (v : ℕ). v % 256) (shr-shr held shift w ∙ ap (λ (v : ℕ). held / 2 ^ v) u) in
+    store
+    (store (store (ap (set out n) (p ∙ byte 24 (have - 8) (omega arith))) x (q ∙ byte 16 (have - 8 - 8) (omega arith))) y
+    (r ∙ byte 8 (have - 8 - 8 - 8) (omega arith)))
+    z (ap (λ (v : ℕ). held / 2 ^ v % 256) (let u : shift ≡ have - 8 - 8 - 8 - 8 = omega arith in u))

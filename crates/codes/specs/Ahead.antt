@@ -2,23 +2,14 @@
 -- Assumes nothing.
 use mathlib.Core.Path.{_≡_}
 use mathlib.Core.List.{List, _++_}
-use Prim.Native.Nat.{ℕ, _+_, _*_, _≤_, _<_}
-use lib.ListN.{length, take, drop, replicate}
+use Prim.Native.Nat.{ℕ, _<_}
+use lib.ListN.{take, drop, replicate}
 use Rattle.bits.specs.Row.{bits}
 use Rattle.codes.specs.Pack.{low}
-use Rattle.codes.specs.declared.Buffer.{Buffer}
 
 -- what is still to be read: the lowest `have` bits of `held`, then the bits of the bytes from `next` on
 unfoldable pub ahead : List ℕ → ℕ → ℕ → ℕ → List ℕ
 ahead s held have next = low have held ++ bits (drop next s)
-
--- a refilled buffer: the same is still to be read, with one byte or four out of s
-pub record Refilled (s : List ℕ) (b r : Buffer) : Type 0 where
-  pub same : ahead s (r .held) (r .have) (r .next) ≡ ahead s (b .held) (b .have) (b .next)
-  pub within : r .next ≤ length s
-  pub more : b .next < r .next
-  pub bytes : r .have + 8 * b .next ≡ b .have + 8 * r .next
-  pub few : r .have ≤ b .have + 32
 
 -- w is the next nine of the lowest `have` bits of `held`, with ones for those that are not there
 pub record Window (held have w : ℕ) : Type 0 where

@@ -1,4 +1,5 @@
--- What both compact kinds share: codes in a row, then ones up to the byte's end. What a maker may build, and where data is malformed.
+-- What both compact kinds share (001, 4.2 and 4.5; 01, "The three kinds of data"): codes in a row, then ones up to the byte's end. What a maker may
+-- build (01, "Promises that say enough"), and where data is malformed (01, refusal 7). What reading gives has a definition of its own, in Reading.
 -- Assumes nothing.
 use mathlib.Core.Path.{_≡_}
 use mathlib.Core.List.{List, [], _∷_, _++_, List·Memᴰ}
@@ -6,7 +7,7 @@ use Prim.Native.Nat.{ℕ, pred, _+_, _≤_}
 use lib.ListN.{length, replicate}
 use Rattle.bits.specs.Row.{bits}
 
--- an indicator, a value or a code: its bits, the text that it says, and how many values it announces
+-- an indicator (001, 4.2.2.1), a value (4.2.1) or a code (4.5): its bits, the text that it says, and how many values it announces
 pub record Entry : Type 0 where
   pub code : List ℕ
   pub says : List ℕ
@@ -24,7 +25,7 @@ single table m = table
 abbrev pub In : Entry → List Entry → Type 0
 In e table = List·Memᴰ e table
 
--- the state after an entry that was met in state m: a value uses up one of those announced
+-- the state after an entry that was met in state m: a value uses up one of those announced (001, 4.2.2.2)
 unfoldable pub after : ℕ → Entry → ℕ
 after m e = pred m + e .announces
 
@@ -33,7 +34,7 @@ abbrev pub Row : Tables → ℕ → List Entry → ℕ → Type 0
 Row tables m [] n = m ≡ n
 Row tables m (e ∷ es) n = In e (tables m) × Row tables (after m e) es n
 
--- their codes in a row
+-- their codes in a row: a stream of bits and not of bytes (001, 4.2.2.2 and 4.5)
 unfoldable pub codes : List Entry → List ℕ
 codes [] = []
 codes (e ∷ es) = e .code ++ codes es
@@ -43,7 +44,7 @@ unfoldable pub texts : List Entry → List ℕ
 texts [] = []
 texts (e ∷ es) = e .says ++ texts es
 
--- seven or fewer bits that are all ones
+-- seven or fewer bits that are all ones (001, 4.5; by 01 in both kinds)
 pub record Fill (f : List ℕ) : Type 0 where
   pub few : length f ≤ 7
   pub ones : f ≡ replicate (length f) 1
@@ -54,7 +55,7 @@ Begins c bs = (rest : List ℕ) × (bs ≡ c ++ rest)
 
 -- from state m these bits are a building of the text: entries that say it, their codes in a row, then fill.
 -- No announced value is missing at the end
-pub record Reads (tables : Tables) (m : ℕ) (bs text : List ℕ) : Type 0 where
+pub record Builds (tables : Tables) (m : ℕ) (bs text : List ℕ) : Type 0 where
   pub entries : List Entry
   pub fill : List ℕ
   pub row : Row tables m entries 0
@@ -76,7 +77,7 @@ pub record Stuck (tables : Tables) (m : ℕ) (bs : List ℕ) (i : ℕ) : Type 0 
 
 -- what a maker may build of the text: its data bytes are such codes and fill, from where no value is announced
 abbrev pub Built : Tables → List ℕ → List ℕ → Type 0
-Built tables text sent = Reads tables 0 (bits sent) text
+Built tables text sent = Builds tables 0 (bits sent) text
 
 -- the data is malformed, and the first unreadable indicator, value or code starts at bit i
 abbrev pub Malformed : Tables → List ℕ → ℕ → Type 0

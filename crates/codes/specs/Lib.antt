@@ -4,5 +4,7 @@ pub mod Laid
 pub mod Measure
 pub mod Pack
 pub mod Passed
+pub mod Pending
+pub mod Reading
 pub mod Size
 pub mod Words

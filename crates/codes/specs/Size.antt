@@ -1,4 +1,4 @@
--- What a text asks before it is written: a code for each character, and data that one packet holds.
+-- What a text asks before it is written: a code for each character (01, refusal 9), and data that one packet holds (01, refusal 11).
 -- Assumes nothing.
 use mathlib.Core.Bool.{Bool}
 use mathlib.Core.List.{List}
@@ -11,7 +11,7 @@ use Rattle.codes.specs.declared.Needed.the-variants.{Bytes, TooMany}
 use Rattle.codes.specs.declared.Uncoded.{Uncoded}
 use Rattle.codes.specs.declared.Uncoded.the-variants.{At, Nowhere}
 
--- a packet has at most 4,000 data bytes
+-- a packet has at most 4,000 data bytes (001, 3.2, at 300 bps; 01, "What a packet is here")
 abbrev pub longest : ℕ
 longest = 4000
 

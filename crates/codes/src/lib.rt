@@ -1,11 +1,12 @@
-// Codes in a row, then fill: definitions in specs/, what holds of every format of this shape in proofs/. The code here takes bits out of bytes and puts them in, through a buffer.
+// Codes in a row, then fill: definitions in specs/, what holds of every format of this shape in proofs/. The code takes bits out of bytes and puts them
+// in, through a buffer.
 
 ghost use mathlib.Core.Path.{_≡_};
 ghost use mathlib.Core.List.{_++_};
 ghost use Prim.Native.Nat.{ℕ, _+_, _*_, _/_, _^_, _≤_, _<_};
 ghost use lib.ListN.{length, getD};
 ghost use Rattle.bits.specs.Says.{Says};
-ghost use Rattle.codes.specs.Ahead.{Refilled, Window};
+ghost use Rattle.codes.specs.Ahead.{Window};
 ghost use Rattle.codes.specs.Chain.{Fill};
 ghost use Rattle.codes.specs.Laid.{Flushed};
 ghost use Rattle.codes.specs.Pack.{low};
@@ -39,30 +40,6 @@ pub fn eight(s: &[u8], at: usize) -> u64
     let upper = word(s[at], s[at + 1], s[at + 2], s[at + 3]);
     let lower = word(s[at + 4], s[at + 5], s[at + 6], s[at + 7]);
     upper * 4294967296 + lower
-}
-
-// Four bytes more in the buffer, or one where there are not four.
-pub fn refill(s: &[u8], b: Buffer) -> Buffer
-    requires { ⌜ (b .have ≤ 32) × (b .next < length (now s)) ⌝ }
-    ensures { λ r. ⌜ Refilled (now (s .entry)) b r ⌝ }
-{
-    let held = b.held;
-    let have = b.have;
-    let next = b.next;
-    if 4 <= s.len() - next {
-        let four = word(s[next], s[next + 1], s[next + 2], s[next + 3]);
-        Buffer {
-            held: held % 4294967296 * 4294967296 + four,
-            have: have + 32,
-            next: next + 4,
-        }
-    } else {
-        Buffer {
-            held: held % 4294967296 * 256 + wide(s[next]),
-            have: have + 8,
-            next: next + 1,
-        }
-    }
 }
 
 // The next nine bits, with ones for those that are not there.

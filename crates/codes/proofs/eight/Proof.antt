@@ -1,6 +1,5 @@
 -- `codes::eight` meets its contract. Assumes nothing.
-use mathlib.Core.Path.{ap₂, _∙_}
-use Prim.Native.Nat.{ℕ, _+_, _*_}
+use Prim.Native.Nat.{_+_}
 use native.Mathlib.Omega.{arith}
 use Rattle.codes.specs.Words.{fourAt, eightAt}
 use Rattle.codes.proofs.Words.{four-at}
@@ -71,8 +70,12 @@ returns c =
     let w = c .before .before .before .before .before in
     let s = w .before .before .before .before .before .before .args .s .now in
     let at = w .before .before .before .before .before .before .args .at in (
-      ap₂ (λ (x y : ℕ). x * 4294967296 + y) (w .word .ensures .0)
-          (c .word2 .ensures .0 ∙ four-at s (at + 4) (at + 5) (at + 6) (at + 7) (omega arith) (omega arith) (omega arith)),
+      omega (
+        arith,
+        w .word .ensures .0,
+        c .word2 .ensures .0,
+        four-at s (at + 4) (at + 5) (at + 6) (at + 7) (omega arith) (omega arith) (omega arith),
+      ),
       λ i. omega (arith, c .before .shared-slice-known9 .given i),
     )
 

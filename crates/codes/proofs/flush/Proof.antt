@@ -1,14 +1,15 @@
 -- `codes::flush` meets its contract. The loop's invariant: the bytes so far are laid, and `left` bits and the fill are pending.
 -- Assumes nothing.
-use mathlib.Core.Path.{_≡_, sym, ap, subst₂, _∙_}
+use mathlib.Core.Path.{_≡_, ap, subst₂, _∙_}
 use mathlib.Core.List.{List, []}
 use Prim.Native.Nat.{ℕ, _+_, _-_, _*_, _/_, _%_, _^_, _≤_, _<_}
 use native.Mathlib.Omega.{arith}
 use lib.Dec.{lit≤}
 use lib.ListN.{length, replicate, set, length-set}
 use Rattle.codes.specs.Pack.{low, packed, filled, gap}
-use Rattle.codes.proofs.Pending.{Pending, pending-length, pending-room, pending-byte, pending-done, last-bytes, last-length, last-pending}
-use Rattle.codes.proofs.Pending.{gap-none, gap-some, pending-last}
+use Rattle.codes.specs.Pending.{Pending}
+use Rattle.codes.proofs.Spilling.{pending-length, pending-room, pending-byte, pending-done}
+use Rattle.codes.proofs.Flushing.{last-bytes, last-length, last-pending, gap-none, gap-some, pending-last}
 use Rattle.codes.proofs.flush.Statement.{statement}
 use Rattle.codes.proofs.flush.Tie as tie
 
@@ -81,7 +82,7 @@ returns c =
     pending-done (last (e .args .held) (e .args .have)) (e .args .out .now) (e .args .at) (last-bytes (e .args .held) (e .args .have)) (room a)
     (a .loop .out) (a .loop .n) (e .args .held)
     (subst₂ (λ (k : ℕ) (l : List ℕ). Pending (last (e .args .held) (e .args .have)) (e .args .out .now) (a .loop .out) (e .args .at) (a .loop .n)
-    (e .args .held) k l) (c .if1 .taken)
+    (e .args .held) k l) (let none : a .loop .left ≡ 0 = omega (arith, c .if1 .taken, c .before .loop-test .left) in none)
     (ap (λ (k : ℕ). replicate k 1) (gap-none (e .args .have) (a .loop .n - e .args .at) (omega (arith, a .loop .inv .1, p .place, c .if1 .taken)))) p) in
     record { place = d .1; whole = d .0 }
 
@@ -119,20 +120,19 @@ add-result : tie.Need-add-result Inv-loop μ-loop
 add-result c = omega (arith, final-room c, c .before .before .before .before .before .good)
 
 same-length-2 : tie.Need-same-length-2 Inv-loop μ-loop
-same-length-2 c = length-set (c .before .before .before .loop .out) (c .before .before .before .loop .n) (c .window .result / 2) ∙ same (c .before .before .before)
+same-length-2 c = length-set (c .before .before .before .loop .out) (c .before .before .before .loop .n) _ ∙ same (c .before .before .before)
 
 returns-2 : tie.Need-returns-2 Inv-loop μ-loop
 returns-2 c =
     let a = c .before .before .before in
     let e = a .before .before in
-    let byte : c .window .result / 2 / 2 ^ (8 - 8) % 256 ≡ c .window .result / 2 = omega (arith, c .window .ensures .small) in
     let w = last (e .args .held) (e .args .have) in
     let d =
     pending-done w (e .args .out .now) (e .args .at) (last-bytes (e .args .held) (e .args .have)) (room a)
     (set (a .loop .out) (a .loop .n) (c .window .result / 2 / 2 ^ (8 - 8) % 256)) (a .loop .n + 1) (c .window .result / 2)
     (pending-byte w (e .args .out .now) (e .args .at) (last-bytes (e .args .held) (e .args .have)) (room a) (a .loop .out) (a .loop .n)
     (c .window .result / 2) 8 [] (lit≤ tt) (final c)) in
-    record { place = d .1; whole = ap (set (a .loop .out) (a .loop .n)) (sym byte) ∙ d .0 }
+    record { place = d .1; whole = ap (set (a .loop .out) (a .loop .n)) (omega (arith, c .window .ensures .small)) ∙ d .0 }
 
 pub flush-spec : {M : Type 1} → statement M
 flush-spec =

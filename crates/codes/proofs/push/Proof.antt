@@ -1,5 +1,6 @@
 -- `codes::push` meets its contract. Assumes nothing.
-use Rattle.codes.proofs.Pending.{pushed}
+use native.Mathlib.Omega.{arith}
+use Rattle.codes.proofs.Held.{pushed}
 use borrow.Author.Needs.{needs}
 use Rattle.codes.proofs.push.Statement.{statement}
 use Rattle.codes.proofs.push.Tie as tie
@@ -8,7 +9,7 @@ shl-result : tie.Need-shl-result
 shl-result c = search needs
 
 returns : tie.Need-returns
-returns c n h = pushed (c .args .held) (c .args .bits) (c .args .width) n (c .pre .0) (c .pre .1) h
+returns c n h = pushed (c .args .held) (c .args .bits) (c .args .width) n _ (c .pre .0) (c .pre .1) h (omega arith)
 
 pub push-spec : {M : Type 1} → statement M
 push-spec = tie.close (tie.spec shl-result returns)

@@ -49,7 +49,9 @@ same-length : tie.Need-same-length
 same-length c = search needs
 
 returns : tie.Need-returns
-returns c = spill-four (c .args .out .now) (c .args .n) (c .args .held) (c .args .have) (c .pre .0)
+returns c =
+    spill-four (c .args .out .now) (c .args .n) (c .args .held) (c .args .have) _ _ _ _ _ _ _ (omega arith) (omega arith) (omega arith) (omega arith)
+    (omega arith) (omega arith) (omega arith)
 
 pub spill-spec : {M : Type 1} → statement M
 spill-spec =

@@ -1,8 +1,9 @@
 -- `codes::window` meets its contract. Assumes nothing.
-use mathlib.Core.Path.{ap₂}
-use Prim.Native.Nat.{ℕ, _+_, _-_, _*_, _%_, _^_}
+use mathlib.Core.Path.{subst⁻¹}
+use Prim.Native.Nat.{ℕ, _-_}
 use native.Mathlib.Omega.{arith}
 use lib.Pow.{pow-pos, pow-mono}
+use Rattle.codes.specs.Ahead.{Window}
 use Rattle.codes.proofs.Ahead.{window-whole, window-short, one-shifted, held-shifted}
 use borrow.Author.Needs.{needs}
 use Rattle.codes.proofs.window.Statement.{statement}
@@ -12,7 +13,9 @@ shr-result : tie.Need-shr-result
 shr-result c = search needs
 
 returns : tie.Need-returns
-returns c = window-whole (c .before .args .held) (c .before .args .have) (c .if1 .taken)
+returns c =
+    subst⁻¹ (Window (c .before .args .held) (c .before .args .have)) (omega arith)
+    (window-whole (c .before .args .held) (c .before .args .have) (c .if1 .taken))
 
 sub-short : tie.Need-sub-short
 sub-short c = search needs
@@ -38,8 +41,8 @@ returns-2 c =
     let held : ℕ = c .before .args .held in
     let have : ℕ = c .before .args .have in
     let k : ℕ = 9 - have in
-    window-short held have (held * 2 ^ k % 2 ^ 64 % 512 + (1 * 2 ^ k % 2 ^ 64 - 1)) (c .if1 .left)
-    (ap₂ (λ (x y : ℕ). x + (y - 1)) (held-shifted held have k (omega arith)) (one-shifted k (omega arith)))
+    window-short held have _ (c .if1 .left)
+    (omega (arith, held-shifted held have k (omega arith), one-shifted k (omega arith)))
 
 pub window-spec : {M : Type 1} → statement M
 window-spec =
