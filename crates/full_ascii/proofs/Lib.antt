@@ -1,13 +1,3 @@
-pub mod Adding
-pub mod Counting
-pub mod Eight
 pub mod Entries
-pub mod Laying
-pub mod Nine
-pub mod Pushing
-pub mod Sending
-pub mod Seven
-pub mod Steps
 pub mod Table
-pub mod Words
 pub mod Writer

@@ -1,6 +1,6 @@
 -- What our writer builds is a building of its text and no building of that text is shorter. Texts that can be read have codes, and are never empty.
 -- Assumes nothing.
-use mathlib.Core.Path.{_≡_, refl, sym, ap, ap₂, subst, subst⁻¹, subst₂, _∙_}
+use mathlib.Core.Path.{_≡_, refl, sym, ap, ap₂, subst⁻¹, subst₂}
 use mathlib.Core.Bool.{Bool, true, false, cond, _&&_}
 use mathlib.Core.Logic.{inl, inr}
 use mathlib.Core.List.{List, [], _∷_, _++_}
@@ -11,17 +11,20 @@ use lib.Dec.{T, eqb, eqb→eq}
 use lib.ListN.{length, length-append}
 use Rattle.bits.specs.Row.{Bytes}
 use Rattle.bits.specs.Word.{bit}
-use Rattle.codes.specs.Chain.{Entry, Row, codes, texts, Reads, Built}
-use Rattle.codes.specs.Pack.{Binary, low, written}
-use Rattle.codes.proofs.Coded.{coded-none, coded-cons, coded-rest, coded-append, coded-every}
-use Rattle.codes.proofs.Every.{every, and-left, and-right}
-use Rattle.codes.proofs.Least.{Cost, least}
-use Rattle.codes.proofs.Pack.{row-binary, written-built, written-bytes, length-written, length-bits, built-length}
-use Rattle.codes.proofs.Single.{row-one, row-rest, reads-one}
-use Rattle.codes.proofs.Speaks.{never-silent}
-use Rattle.full_ascii.specs.Table.{LF, CR, special, pair, tables}
+use Rattle.codes.specs.Chain.{Entry, Row, codes, texts, Builds, Built}
+use Rattle.codes.specs.Pack.{Binary, low, numbers, written}
+use Rattle.codes.proofs.Coded.{coded-rest}
+use Rattle.bits.proofs.Said.{and-left, and-right}
+use Rattle.codes.proofs.Every.{every}
+use Rattle.codes.proofs.Given.{Agrees, agrees}
+use Rattle.codes.proofs.Least as least
+use Rattle.codes.proofs.Least.{Cost, cost-shortest}
+use Rattle.codes.proofs.Single.{row-one, builds-one}
+use Rattle.codes.proofs.Writing as writing
+use Rattle.codes.proofs.Writing.{spells, Writer}
+use Rattle.full_ascii.specs.Table.{LF, CR, six, seven, special, pair, table, tables}
 use Rattle.full_ascii.specs.Writer.{coded, Coded, own, ours}
-use Rattle.full_ascii.proofs.Table.{sounds, mutes, all-bits}
+use Rattle.full_ascii.proofs.Table.{laws, sounds, mutes, all-bits}
 use Rattle.full_ascii.proofs.Entries.{Sayer, entry-of, own-in, own-says, pair-in}
 
 pub line-end : (c d : ℕ) → (eqb c CR && eqb d LF) ≡ true → (c ≡ CR) × (d ≡ LF)
@@ -56,37 +59,6 @@ ours-row =
     ours-has (λ (t : List ℕ) (es : List Entry). Coded t → Row tables 0 es 0) (λ h. refl)
     (λ c t es k h. row-one mutes es (own-in c (h 0 (omega arith))) (k (coded-rest coded c t h)))
     (λ t es k h. row-one mutes es pair-in (k (coded-rest coded LF t (coded-rest coded CR (LF ∷ t) h))))
-
-pub ours-binary : (t : List ℕ) → Coded t → Binary (codes (ours t))
-ours-binary t h = row-binary tables all-bits 0 0 (ours t) (ours-row t h)
-
--- what the writer builds is a building of the text, in bytes
-pub ours-built : (t : List ℕ) → Coded t → Built tables t (written (ours t))
-ours-built t h =
-    subst (λ (u : List ℕ). Built tables u (written (ours t))) (ours-says t)
-    (written-built (ours t) (ours-row t h) (ours-binary t h))
-
-pub ours-bytes : (t : List ℕ) → Coded t → Bytes (written (ours t))
-ours-bytes t h = written-bytes (ours t) (ours-binary t h)
-
--- every character of a text that was built has a code
-sayer-coded : (e : Entry) → Sayer e → Coded (e .says)
-unfolding pair special coded every
-sayer-coded e (inl s) = subst⁻¹ Coded (ap (λ (d : Entry). d .says) (s .2) ∙ own-says (s .0)) (coded-cons coded (s .0) [] (s .1) (coded-none coded))
-sayer-coded e (inr x) = subst⁻¹ (λ (d : Entry). Coded (d .says)) x (coded-every coded (CR ∷ LF ∷ []) tt)
-
-row-coded : (es : List Entry) → Row tables 0 es 0 → Coded (texts es)
-unfolding texts
-row-coded [] r = coded-none coded
-row-coded (e ∷ es) r =
-    coded-append coded (e .says) (texts es) (sayer-coded e (entry-of e (r .0))) (row-coded es (row-rest mutes e es r))
-
-pub built-coded : {t : List ℕ} (sent : List ℕ) → Built tables t sent → Coded t
-built-coded sent b = subst Coded (b .says) (row-coded (b .entries) (b .row))
-
--- data of one byte or more that can be read has a text
-pub built-nonempty : {t : List ℕ} (sent : List ℕ) → 0 < length sent → Built tables t sent → 0 < length t
-built-nonempty sent h b = never-silent sounds b (omega (arith, length-bits sent))
 
 -- how many bits the writer takes for a text
 unfoldable pub size : List ℕ → ℕ
@@ -128,17 +100,49 @@ cost : Cost tables (λ (m : ℕ) (t : List ℕ). size t)
 unfolding size ours codes
 cost = record { nothing = refl; entry = λ m e es h r. sayer-size e (texts es) (entry-of e h) }
 
--- no building of the text has fewer bits before its fill than the writer's, and none fewer bytes
-pub no-shorter : {t : List ℕ} (sent : List ℕ) (b : Built tables t sent) → length (codes (ours t)) ≤ length (codes (b .entries))
+-- what the writer has, and what follows of it
+all-spell : (m : ℕ) → T (every (spells coded) (tables m))
+unfolding table six seven special pair numbers coded every spells
+all-spell m = tt
+
+pub writer : Writer tables coded ours
 unfolding size
-no-shorter sent b =
-    subst (λ (u : List ℕ). size u ≤ length (codes (b .entries))) (b .says) (least cost 0 (b .entries) (b .row))
+writer = record {
+  row = ours-row;
+  says = λ t h. ours-says t;
+  shortest = cost-shortest ours cost (λ t. refl);
+  all-bits = all-bits;
+  all-spell = all-spell;
+  sounds = sounds;
+}
+
+pub ours-binary : (t : List ℕ) → Coded t → Binary (codes (ours t))
+ours-binary = writing.ours-binary writer
+
+pub ours-built : (t : List ℕ) → Coded t → Built tables t (written (ours t))
+ours-built = writing.ours-built writer
+
+pub ours-bytes : (t : List ℕ) → Coded t → Bytes (written (ours t))
+ours-bytes = writing.ours-bytes writer
+
+pub built-coded : {t : List ℕ} (sent : List ℕ) → Built tables t sent → Coded t
+built-coded = writing.built-coded writer
+
+pub built-nonempty : {t : List ℕ} (sent : List ℕ) → 0 < length sent → Built tables t sent → 0 < length t
+built-nonempty = writing.built-nonempty writer
+
+pub no-shorter : {t : List ℕ} (sent : List ℕ) (b : Built tables t sent) → length (codes (ours t)) ≤ length (codes (b .entries))
+no-shorter = least.no-shorter (writer .shortest)
 
 pub no-fewer-bytes : {t : List ℕ} (sent : List ℕ) → Built tables t sent → length (written (ours t)) ≤ length sent
-no-fewer-bytes {t} sent b = omega (arith, no-shorter sent b, length-written (ours t), built-length sent b)
+no-fewer-bytes = least.no-fewer-bytes (writer .shortest)
+
+-- what reading gives, and what a maker may build, agree
+pub agree : Agrees tables
+agree = agrees laws
 
 -- a line end reads the same, cut either way
-pub either-way : {bs t : List ℕ} → Reads tables 0 bs t
-    → Reads tables 0 (own CR .code ++ (own LF .code ++ bs)) (CR ∷ LF ∷ t) × Reads tables 0 (pair .code ++ bs) (CR ∷ LF ∷ t)
+pub either-way : {bs t : List ℕ} → Builds tables 0 bs t
+    → Builds tables 0 (own CR .code ++ (own LF .code ++ bs)) (CR ∷ LF ∷ t) × Builds tables 0 (pair .code ++ bs) (CR ∷ LF ∷ t)
 unfolding own pair special coded
-either-way r = (reads-one mutes (own-in CR tt) (reads-one mutes (own-in LF tt) r), reads-one mutes pair-in r)
+either-way r = (builds-one mutes (own-in CR tt) (builds-one mutes (own-in LF tt) r), builds-one mutes pair-in r)

@@ -8,7 +8,7 @@ use native.Mathlib.Omega.{arith}
 use lib.Dec.{T, leb, leb→le}
 use lib.ListN.{replicate}
 use borrow.Author.Tests.{eqb-true, ne-eqb, le-leb}
-use Rattle.codes.proofs.Every.{and-left, and-right}
+use Rattle.bits.proofs.Said.{and-left, and-right}
 use Rattle.pseudo_binary.specs.Table.{SPACE, SLASH, Kind, values, spaces, slashes, of, coded, valueOf, characterOf}
 use Rattle.pseudo_binary.specs.Writer.{kind, Alike}
 

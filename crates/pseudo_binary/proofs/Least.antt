@@ -11,11 +11,11 @@ use lib.ListN.{length, drop, replicate, length-replicate}
 use lib.Seq.{drop-at}
 use Rattle.codes.specs.Chain.{Entry, In, after, Row, codes, texts, Built}
 use Rattle.codes.specs.Pack.{low, written}
-use Rattle.codes.proofs.Least.{Cost, least}
-use Rattle.codes.proofs.Pack.{length-written, built-length}
+use Rattle.codes.proofs.Least as least
+use Rattle.codes.proofs.Least.{Cost, Shortest, cost-shortest}
 use Rattle.pseudo_binary.specs.Table.{SPACE, SLASH, Kind, values, spaces, slashes, of, characterOf, indicator, most, six, tables}
 use Rattle.pseudo_binary.specs.Writer.{ours, Alike}
-use Rattle.pseudo_binary.specs.Size.{width, each, bitsAfter, ourBits}
+use Rattle.pseudo_binary.proofs.Length.{width, each, bitsAfter, ourBits}
 use Rattle.pseudo_binary.proofs.Characters.{alike-replicate, of-kind, characterOf-value}
 use Rattle.pseudo_binary.proofs.Entries.{pred-most, indicator-of, six-of, after-six}
 use Rattle.pseudo_binary.proofs.Size.{none-in-hand, opens, counts, no-use, our-bits}
@@ -147,12 +147,13 @@ cost : Cost tables still
 unfolding still ourBits bitsAfter
 cost = record { nothing = refl; entry = entry-still }
 
+pub shortest : Shortest tables ours
+unfolding still
+shortest = cost-shortest ours cost (λ t. omega (arith, our-bits t))
+
 -- no building of the text has fewer bits before its fill than the writer's, and none fewer bytes
 pub no-shorter : {t : List ℕ} (sent : List ℕ) (b : Built tables t sent) → length (codes (ours t)) ≤ length (codes (b .entries))
-unfolding still
-no-shorter {t} sent b =
-    subst (λ (u : List ℕ). length (codes (ours u)) ≤ length (codes (b .entries))) (b .says)
-    (omega (arith, our-bits (texts (b .entries)), least cost 0 (b .entries) (b .row)))
+no-shorter = least.no-shorter shortest
 
 pub no-fewer-bytes : {t : List ℕ} (sent : List ℕ) → Built tables t sent → length (written (ours t)) ≤ length sent
-no-fewer-bytes {t} sent b = omega (arith, no-shorter sent b, length-written (ours t), built-length sent b)
+no-fewer-bytes = least.no-fewer-bytes shortest

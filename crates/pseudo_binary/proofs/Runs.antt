@@ -1,15 +1,15 @@
--- Runs of one kind: an indicator with what it counts, in front of what can be read. A run may be cut anywhere.
+-- Runs of one kind: an indicator with what it counts, in front of what can be read.
 -- Assumes nothing.
 use mathlib.Core.Path.{_≡_, refl, sym, ap, ap₂, subst⁻¹, _∙_}
 use mathlib.Core.Bool.{true}
-use mathlib.Core.List.{List, [], _∷_, _++_, append-assoc}
+use mathlib.Core.List.{List, [], _∷_, _++_}
 use Prim.Native.Nat.{ℕ, suc, _<_}
 use native.Mathlib.Nat.{zero-add}
-use lib.ListN.{length, replicate}
+use lib.ListN.{replicate}
 use borrow.Author.Tests.{eqb-true}
-use Rattle.codes.specs.Chain.{Entry, after, Row, codes, texts, Reads}
+use Rattle.codes.specs.Chain.{Entry, after, Row, texts}
 use Rattle.pseudo_binary.specs.Table.{SPACE, SLASH, Kind, values, spaces, slashes, of, valueOf, indicator, most, six, tables}
-use Rattle.pseudo_binary.specs.Writer.{besides, Alike}
+use Rattle.pseudo_binary.specs.Writer.{besides}
 use Rattle.pseudo_binary.proofs.Characters.{valueOf-back, valueOf-small}
 use Rattle.pseudo_binary.proofs.Entries.{indicator-in, six-in, after-six}
 
@@ -91,37 +91,3 @@ counted-all {k} {j} {t} {es} l m h =
 unfoldable pub spelled : Kind → List ℕ → List Entry
 spelled k [] = []
 spelled k (c ∷ r) = besides k c ++ spelled k r
-
-counted-run : {k : Kind} {t : List ℕ} {es : List Entry} (r : List ℕ) → Alike k r → Counted k 0 t es
-    → Counted k (length r) (r ++ t) (spelled k r ++ es)
-unfolding spelled
-counted-run [] a h = h
-counted-run {k} {t} {es} (c ∷ r) a h =
-    subst⁻¹ (Counted k (suc (length r)) (c ∷ (r ++ t))) (append-assoc (besides k c) (spelled k r) es)
-    (counted-one c (a .0) (counted-run r (a .1) h))
-
-codes-append : (ds es : List Entry) → codes (ds ++ es) ≡ codes ds ++ codes es
-unfolding codes
-codes-append [] es = refl
-codes-append (d ∷ ds) es =
-    ap (λ (l : List ℕ). d .code ++ l) (codes-append ds es) ∙ sym (append-assoc (d .code) (codes ds) (codes es))
-
--- a run of as many as one indicator counts, in front of what can be read, whatever that begins with
-pub reads-run : (k : Kind) (c : ℕ) (r : List ℕ) {bs t : List ℕ} → Alike k (c ∷ r) → length r < most k → Reads tables 0 bs t
-    → Reads tables 0 (codes (indicator k (length r) ∷ spelled k (c ∷ r)) ++ bs) ((c ∷ r) ++ t)
-unfolding codes announced said
-reads-run k c r {bs} {t} a h b =
-    let run : List Entry = indicator k (length r) ∷ spelled k (c ∷ r) in
-    let built : Counted values 0 ((c ∷ r) ++ t) (run ++ b .entries) =
-    counted-all values h (counted-run (c ∷ r) a (counted-none k (b .row) (b .says))) in
-    record {
-      entries = run ++ b .entries;
-      fill = b .fill;
-      row = built .row;
-      says = built .says;
-      ends = b .ends;
-      bits =
-          ap (λ (l : List ℕ). codes run ++ l) (b .bits)
-          ∙ sym (append-assoc (codes run) (codes (b .entries)) (b .fill))
-          ∙ ap (λ (l : List ℕ). l ++ b .fill) (sym (codes-append run (b .entries)));
-    }

@@ -11,7 +11,7 @@ use Rattle.codes.specs.Chain.{Entry, codes}
 use Rattle.codes.specs.Pack.{low}
 use Rattle.pseudo_binary.specs.Table.{Kind, values, spaces, slashes, of, indicator, most, six}
 use Rattle.pseudo_binary.specs.Writer.{kind, run, besides, oursAfter, ours, Alike}
-use Rattle.pseudo_binary.specs.Size.{width, each, takes, bitsAfter, ourBits}
+use Rattle.pseudo_binary.proofs.Length.{width, each, takes, bitsAfter, ourBits}
 use Rattle.pseudo_binary.proofs.Characters.{Other, of-kind}
 
 -- the bits of an indicator, and of a character besides

@@ -1,6 +1,6 @@
 -- What our writer builds is a building of its text. Texts that can be read have codes, and are never empty.
 -- Assumes nothing.
-use mathlib.Core.Path.{_≡_, refl, sym, ap, subst, subst⁻¹, _∙_}
+use mathlib.Core.Path.{_≡_, refl, sym, ap, subst⁻¹, _∙_}
 use mathlib.Core.Bool.{Bool, true, false, cond}
 use mathlib.Core.Logic.{_⊎_, inl, inr, ⊎-elim}
 use mathlib.Core.List.{List, [], _∷_, _++_, append-assoc}
@@ -9,17 +9,19 @@ use native.Mathlib.Omega.{arith}
 use lib.Dec.{T}
 use lib.ListN.{length}
 use Rattle.bits.specs.Row.{Bytes}
-use Rattle.codes.specs.Chain.{Entry, after, Row, codes, texts, Built}
+use Rattle.codes.specs.Chain.{Entry, Row, codes, texts, Built}
 use Rattle.codes.specs.Pack.{Binary, numbers, written}
-use Rattle.codes.proofs.Coded.{coded-none, coded-rest, coded-append, coded-every}
-use Rattle.codes.proofs.Every.{every, every-at}
-use Rattle.codes.proofs.Pack.{row-binary, written-built, written-bytes, length-bits}
-use Rattle.codes.proofs.Speaks.{never-silent}
+use Rattle.codes.proofs.Coded.{coded-rest}
+use Rattle.codes.proofs.Every.{every}
+use Rattle.codes.proofs.Given.{Agrees, agrees}
+use Rattle.codes.proofs.Writing as writing
+use Rattle.codes.proofs.Writing.{spells, Writer}
 use Rattle.pseudo_binary.specs.Table.{Kind, values, of, coded, Coded, characterOf, indicator, most, indicators, six, tables}
 use Rattle.pseudo_binary.specs.Writer.{kind, run, besides, oursAfter, ours, Alike}
-use Rattle.pseudo_binary.proofs.Table.{sounds, all-bits}
+use Rattle.pseudo_binary.proofs.Table.{laws, sounds, all-bits}
 use Rattle.pseudo_binary.proofs.Characters.{Other, of-kind, kind-of}
 use Rattle.pseudo_binary.proofs.Entries.{pred-most}
+use Rattle.pseudo_binary.proofs.Least.{shortest}
 use Rattle.pseudo_binary.proofs.Runs.{said, announced, Counted, counted-none, counted-one, counted-all, spelled}
 
 -- a run is counted no further than asked
@@ -69,18 +71,6 @@ pub ours-says : (t : List ℕ) → Coded t → texts (ours t) ≡ t
 unfolding ours run said
 ours-says t u = follows values 0 t u .says
 
-pub ours-binary : (t : List ℕ) → Coded t → Binary (codes (ours t))
-ours-binary t u = row-binary tables all-bits 0 0 (ours t) (ours-row t u)
-
--- what the writer builds is a building of the text, in bytes
-pub ours-built : (t : List ℕ) → Coded t → Built tables t (written (ours t))
-ours-built t u =
-    subst (λ (l : List ℕ). Built tables l (written (ours t))) (ours-says t u)
-    (written-built (ours t) (ours-row t u) (ours-binary t u))
-
-pub ours-bytes : (t : List ℕ) → Coded t → Bytes (written (ours t))
-ours-bytes t u = written-bytes (ours t) (ours-binary t u)
-
 -- where our writer cuts: as many of a run as one indicator counts, or what is left of the run
 spelled-after : (k : Kind) (r t : List ℕ) → Alike k r → oursAfter (length r) (r ++ t) ≡ spelled k r ++ ours t
 unfolding oursAfter ours spelled
@@ -114,25 +104,30 @@ ours-cut k c r t a h e =
     ∙ ap (λ (es : List Entry). indicator k (length r) ∷ (besides k c ++ es)) (spelled-after k r t (a .1))
     ∙ ap (λ (es : List Entry). indicator k (length r) ∷ es) (sym (append-assoc (besides k c) (spelled k r) (ours t)))
 
--- every character of a text that was built has a code
-spells : Entry → Bool
-spells e = every coded (e .says)
-
-all-spell : (m : ℕ) → T (every spells (tables m))
+-- what the writer has, and what follows of it
+all-spell : (m : ℕ) → T (every (spells coded) (tables m))
 unfolding of coded characterOf indicator most indicators six tables numbers every spells
 all-spell zero = tt
 all-spell (suc m) = tt
 
-row-coded : (m n : ℕ) (es : List Entry) → Row tables m es n → Coded (texts es)
-unfolding texts spells
-row-coded m n [] r = coded-none coded
-row-coded m n (e ∷ es) r =
-    coded-append coded (e .says) (texts es) (coded-every coded (e .says) (every-at spells (tables m) (all-spell m) e (r .0)))
-    (row-coded (after m e) n es (r .1))
+pub writer : Writer tables coded ours
+writer = record { row = ours-row; says = ours-says; shortest = shortest; all-bits = all-bits; all-spell = all-spell; sounds = sounds }
+
+pub ours-binary : (t : List ℕ) → Coded t → Binary (codes (ours t))
+ours-binary = writing.ours-binary writer
+
+pub ours-built : (t : List ℕ) → Coded t → Built tables t (written (ours t))
+ours-built = writing.ours-built writer
+
+pub ours-bytes : (t : List ℕ) → Coded t → Bytes (written (ours t))
+ours-bytes = writing.ours-bytes writer
 
 pub built-coded : {t : List ℕ} (sent : List ℕ) → Built tables t sent → Coded t
-built-coded sent b = subst Coded (b .says) (row-coded 0 0 (b .entries) (b .row))
+built-coded = writing.built-coded writer
 
--- data of one byte or more that can be read has a text
 pub built-nonempty : {t : List ℕ} (sent : List ℕ) → 0 < length sent → Built tables t sent → 0 < length t
-built-nonempty sent h b = never-silent sounds b (omega (arith, length-bits sent))
+built-nonempty = writing.built-nonempty writer
+
+-- what reading gives, and what a maker may build, agree
+pub agree : Agrees tables
+agree = agrees laws

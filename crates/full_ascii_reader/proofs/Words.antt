@@ -1,0 +1,78 @@
+-- Eight bytes of the data passed as one number: what is still to be read after them.
+-- Assumes nothing.
+use mathlib.Core.Path.{_≡_, sym, ap, ap₂, subst, subst₂, _∙_}
+use mathlib.Core.List.{List, _++_, append-assoc, append-nil}
+use Prim.Native.Nat.{ℕ, suc, _+_, _-_, _*_, _/_, _%_, _≤_, _<_}
+use native.Mathlib.Numerals.{add-one}
+use native.Mathlib.Omega.{arith}
+use lib.ListN.{length, drop, getD, drop-of-length-le}
+use lib.Seq.{drop-cons, drop-drop, drop-append-le}
+use Rattle.bits.specs.Row.{bits}
+use Rattle.codes.specs.Laid.{Readable}
+use Rattle.codes.specs.Pack.{low}
+use Rattle.codes.specs.Words.{eightAt}
+use Rattle.codes.proofs.Ahead.{low-drop}
+use Rattle.codes.proofs.Laying.{counting-on, counting-front, laying-on, laying-front}
+use Rattle.codes.proofs.Low.{length-low}
+use Rattle.codes.proofs.Pack.{bits-cons, drop-bits}
+use Rattle.codes.proofs.Words.{eight-bits}
+use Rattle.full_ascii_reader.specs.Passing.{Counted, Laying, Begun, beyond}
+use Rattle.full_ascii.specs.Table.{tables}
+
+module _ (s : List ℕ) (next held : ℕ) (here : next + 8 ≤ length s) (bytes : (i : ℕ) → getD s i 0 < 256) (word : held ≡ eightAt s next) where
+  after : List ℕ
+  after = bits (drop (next + 8) s)
+
+  -- where the lowest `left` bits of the number are left
+  beyond-left : (left : ℕ) → left ≤ 64 → low left held ++ after ≡ beyond s (next + (64 - left) / 8) ((64 - left) % 8)
+  unfolding beyond after
+  beyond-left left h =
+      let k : ℕ = 64 - left in
+      ap (λ (l : List ℕ). l ++ after)
+      (ap (λ (n : ℕ). low n held) (let e : left ≡ 64 - k = omega arith in e) ∙ sym (low-drop held 64 k (omega arith)))
+      ∙ sym (drop-append-le k (low 64 held) after (omega (arith, length-low 64 held)))
+      ∙ ap (drop k) (ap (λ (v : ℕ). low 64 v ++ after) word ∙ eight-bits s next here bytes)
+      ∙ ap (λ (n : ℕ). drop n (bits (drop next s))) (let e : k ≡ k / 8 * 8 + k % 8 = omega arith in e)
+      ∙ sym (drop-drop (k % 8) (k / 8 * 8) (bits (drop next s)))
+      ∙ ap (drop (k % 8)) (drop-bits (k / 8) (drop next s) ∙ ap bits (drop-drop (k / 8) next s))
+
+  module _ (skip : ℕ) (some : skip < 8) where
+    -- and before
+    beyond-here : low (64 - skip) held ++ after ≡ beyond s next skip
+    beyond-here =
+        beyond-left (64 - skip) (omega arith)
+        ∙ ap₂ (beyond s) (let e : next + (64 - (64 - skip)) / 8 ≡ next = omega arith in e) (let e : (64 - (64 - skip)) % 8 ≡ skip = omega arith in e)
+
+    -- the codes of the number are passed
+    pub counted-word : (bs : List ℕ) (n left count : ℕ) → left ≤ 64 → Counted bs (beyond s next skip) n
+        → Counted (low (64 - skip) held) (low left held) count
+        → Counted bs (beyond s (next + (64 - left) / 8) ((64 - left) % 8)) (n + count)
+    counted-word bs n left count h c d =
+        counting-on c (subst₂ (λ (a b : List ℕ). Counted a b count) beyond-here (beyond-left left h) (counting-front d after))
+
+    pub laying-word : (bs entry out exit : List ℕ) (n left count : ℕ) → left ≤ 64 → n ≤ length entry
+        → Laying bs (beyond s next skip) entry out 0 n → Laying (low (64 - skip) held) (low left held) out exit n (n + count)
+        → Laying bs (beyond s (next + (64 - left) / 8) ((64 - left) % 8)) entry exit 0 (n + count)
+    laying-word bs entry out exit n left count h room y z =
+        laying-on y room (subst₂ (λ (a b : List ℕ). Laying a b out exit n (n + count)) beyond-here (beyond-left left h) (laying-front z after))
+
+    pub begun-word : (room : ℕ) → Readable tables (beyond s next skip) room → Begun held (64 - skip) room
+    begun-word room f = (after, subst (λ (l : List ℕ). Readable tables l room) (sym beyond-here) f)
+
+-- the next byte at the lower end of the last bits
+pub last-byte : (s : List ℕ) (held more have i : ℕ) → i < length s → low (have + 8) more ≡ low have held ++ low 8 (getD s i 0)
+    → low (have + 8) more ++ bits (drop (i + 1) s) ≡ low have held ++ bits (drop i s)
+last-byte s held more have i h e =
+    ap₂ (λ (l : List ℕ) (n : ℕ). l ++ bits (drop n s)) e (add-one i)
+    ∙ append-assoc (low have held) (low 8 (getD s i 0)) (bits (drop (suc i) s))
+    ∙ ap (λ (l : List ℕ). low have held ++ l)
+    (sym (bits-cons (getD s i 0) (drop (suc i) s)) ∙ ap bits (sym (drop-cons s i 0 h)))
+
+-- the bits of all the last bytes, without the first `skip`
+pub last-held : (s : List ℕ) (held next skip end have : ℕ) → length s ≤ end → low ((end - next) * 8) held ++ bits (drop end s) ≡ bits (drop next s)
+    → have + skip ≡ (end - next) * 8 → low have held ≡ beyond s next skip
+unfolding beyond bits
+last-held s held next skip end have h e size =
+    ap (λ (n : ℕ). low n held) (let x : have ≡ (end - next) * 8 - skip = omega arith in x)
+    ∙ sym (low-drop held ((end - next) * 8) skip (omega arith))
+    ∙ ap (drop skip) (sym (ap (λ (l : List ℕ). low ((end - next) * 8) held ++ bits l) (drop-of-length-le s h) ∙ append-nil (low ((end - next) * 8) held)) ∙ e)

@@ -1,0 +1,86 @@
+-- `full_ascii_reader::measure_words` meets its contract. The loop's invariant: the codes that were passed leave what is beyond the place.
+-- Assumes nothing.
+use Prim.Native.Nat.{_+_, _-_, _*_, _≤_, _<_}
+use native.Mathlib.Omega.{arith}
+use lib.ListN.{length}
+use Rattle.bits.specs.Row.{bits}
+use Rattle.codes.proofs.Laying.{counting-none}
+use Rattle.full_ascii_reader.specs.Passing.{Counted, beyond}
+use Rattle.full_ascii.specs.Table.{tables}
+use Rattle.full_ascii_reader.proofs.Words.{counted-word}
+use Rattle.full_ascii_reader.proofs.measure_words.Statement.{statement}
+use Rattle.full_ascii_reader.proofs.measure_words.Tie as tie
+
+abbrev Inv-loop : tie.InvT-loop
+Inv-loop s next₀ skip₀ n₀ next skip n =
+    (skip < 8) × (next * 8 + skip ≤ length s * 8) × (n ≤ next * 8 + skip) × Counted (bits s) (beyond s next skip) n
+
+abbrev μ-loop : tie.MeasureT-loop
+μ-loop s next₀ skip₀ n₀ next skip n = length s * 8 - (next * 8 + skip)
+
+loop-holds : tie.Need-loop-holds Inv-loop μ-loop
+unfolding beyond
+loop-holds c = (omega arith, omega arith, omega arith, counting-none tables (bits (c .before .args .s .now)))
+
+sub-loop : tie.Need-sub-loop Inv-loop μ-loop
+sub-loop c = omega arith
+
+eight-requires : tie.Need-eight-requires Inv-loop μ-loop
+eight-requires c κs = omega arith
+
+sub-skim : tie.Need-sub-skim Inv-loop μ-loop
+sub-skim c = omega arith
+
+skim-requires : tie.Need-skim-requires Inv-loop μ-loop
+skim-requires c κs = (omega arith, omega arith)
+
+sub-passed : tie.Need-sub-passed Inv-loop μ-loop
+sub-passed c = omega (arith, c .before .skim .ensures .0 .last)
+
+add-next : tie.Need-add-next Inv-loop μ-loop
+add-next c = omega (arith, c .before .before .before .before .before .before .pre)
+
+add-n : tie.Need-add-n Inv-loop μ-loop
+add-n c =
+    let f = c .before .before in
+    omega (arith, f .skim .ensures .0 .brief, f .before .before .before .before .before .pre)
+
+loop-less : tie.Need-loop-less Inv-loop μ-loop
+loop-less c = omega (arith, c .before .before .skim .ensures .0 .last)
+
+loop-again : tie.Need-loop-again Inv-loop μ-loop
+loop-again c =
+    let f = c .before .before in
+    let a = f .before .before .before in
+    let s = a .before .before .args .s .now in
+    let r = f .skim .ensures in (
+      omega arith,
+      omega (arith, r .0 .last),
+      omega (arith, r .0 .last, r .0 .brief),
+      counted-word s (a .loop .next) (f .before .eight .result) (omega arith) (f .before .eight .ensures .1) (f .before .eight .ensures .0)
+          (a .loop .skip) (a .loop .inv .0) (bits s) (a .loop .n) (f .skim .result .left) (f .skim .result .count) (omega (arith, r .0 .last))
+          (a .loop .inv .3) (r .1),
+    )
+
+returns : tie.Need-returns Inv-loop μ-loop
+returns c =
+    let a = c .before in
+    (record { within = omega arith; few = omega arith; skips = omega arith }, a .loop .inv .2, a .loop .inv .3)
+
+pub measure-words-spec : {M : Type 1} → statement M
+measure-words-spec =
+    tie.close
+    (tie.spec
+    Inv-loop
+    μ-loop
+    loop-holds
+    sub-loop
+    eight-requires
+    sub-skim
+    skim-requires
+    sub-passed
+    add-next
+    add-n
+    loop-less
+    loop-again
+    returns)

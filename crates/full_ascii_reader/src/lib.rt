@@ -1,0 +1,335 @@
+// Compact Full ASCII (001, 4.5), read: its data taken apart, and the text of it. The table is in full_ascii.
+
+use codes::Buffer;
+use codes::Measured;
+use codes::Outcome;
+use full_ascii::Character;
+use full_ascii::Special;
+ghost use mathlib.Core.Bool.{true};
+ghost use mathlib.Core.Path.{_≡_};
+ghost use Prim.Native.Nat.{ℕ, _+_, _-_, _/_, _<_, _≤_, _^_};
+ghost use lib.ListN.{length};
+ghost use Rattle.bits.specs.Row.{bits};
+ghost use Rattle.codes.specs.Laid.{laid, Readable, Placed};
+ghost use Rattle.codes.specs.Measure.{Measures, Comes};
+ghost use Rattle.codes.specs.Pack.{low};
+ghost use Rattle.full_ascii.specs.Table.{tables};
+ghost use Rattle.full_ascii_reader.specs.Taken.{Takes, characters, oneCharacter};
+ghost use Rattle.full_ascii_reader.specs.Passing.{Plain, Skims, Begun, Puts, Near, CountedTo, LaidTo, Last};
+
+// A code: how many bits it has, and the one or two characters that it says.
+struct Code {
+    pub width: u64,
+    pub count: usize,
+    pub first: u8,
+    pub second: u8,
+}
+
+// A code that says one character.
+fn one_character(width: u64, first: u8) -> Code
+    ensures { λ r. ⌜ r ≡ oneCharacter width first ⌝ }
+{
+    Code {
+        width,
+        count: 1,
+        first,
+        second: 0,
+    }
+}
+
+// The code that begins nine bits: any nine bits begin one.
+fn first_code(w: u64) -> Code
+    requires { ⌜ w < 512 ⌝ }
+    ensures { λ r. ⌜ Takes w r ⌝ }
+{
+    if w < 256 {
+        return one_character(6, (w / 8 + 32) as u8);
+    }
+    if w < Special::HT {
+        return one_character(7, (w / 4) as u8);
+    }
+    match w {
+        Special::HT => one_character(9, Character::HT),
+        Special::CR => one_character(9, Character::CR),
+        Special::LF => one_character(9, Character::LF),
+        _ => Code {
+            width: 9,
+            count: 2,
+            first: Character::CR,
+            second: Character::LF,
+        },
+    }
+}
+
+// The code of six or seven bits that begins seven: any seven bits that are not all ones begin one.
+fn first_plain(bits: u64) -> Code
+    requires { ⌜ bits < 127 ⌝ }
+    ensures { λ r. ⌜ (r .width ≤ 7) × (r .count ≡ 1) × ((w : ℕ) → w / 4 ≡ bits → Takes w r) ⌝ }
+{
+    let width = 6 + bits / 64;
+    if bits < 64 {
+        return Code {
+            width,
+            count: 1,
+            first: (bits / 2 + 32) as u8,
+            second: 0,
+        };
+    }
+    Code {
+        width,
+        count: 1,
+        first: bits as u8,
+        second: 0,
+    }
+}
+
+// Whether no seven ones stand in a row in a number. Then no code of nine bits begins in it.
+fn plain(held: u64) -> bool
+    ensures { λ r. ⌜ (r ≡ true → Plain held) ⌝ }
+{
+    let two = held & (held >> 1);
+    let four = two & (two >> 2);
+    four & (four >> 3) == 0
+}
+
+// What codes leave of the bits of a number, and how many characters they say.
+struct Skimmed {
+    pub left: u64,
+    pub count: usize,
+}
+
+// Eight codes of six or seven bits passed.
+fn skim_plain(held: u64, have: u64) -> Skimmed
+    requires { ⌜ (57 ≤ have) × (have ≤ 64) × Plain held ⌝ }
+    ensures { λ r. ⌜ Skims held have r ⌝ }
+{
+    let mut top = held << (64 - have);
+    let mut left = have;
+    let mut count: usize = 0;
+    while count < 8 {
+        let c = first_plain(top >> 57);
+        top = top << c.width;
+        left -= c.width;
+        count += c.count;
+    }
+    Skimmed { left, count }
+}
+
+// Codes passed one by one, as long as there are nine bits.
+fn skim_each(held: u64, have: u64) -> Skimmed
+    requires { ⌜ have ≤ 64 ⌝ }
+    ensures { λ r. ⌜ Skims held have r ⌝ }
+{
+    let mut left = have;
+    let mut count: usize = 0;
+    while 9 <= left {
+        let c = first_code(codes::window(held, left));
+        left -= c.width;
+        count += c.count;
+    }
+    Skimmed { left, count }
+}
+
+// The codes in the lowest `have` bits of a number, up to its last few bits.
+fn skim(held: u64, have: u64) -> Skimmed
+    requires { ⌜ (57 ≤ have) × (have ≤ 64) ⌝ }
+    ensures { λ r. ⌜ Skims held have r ⌝ }
+{
+    if plain(held) {
+        return skim_plain(held, have);
+    }
+    skim_each(held, have)
+}
+
+// How far a reading has come: the next byte, how many of its bits are passed, and the characters so far.
+struct Place {
+    pub next: usize,
+    pub skip: u64,
+    pub n: usize,
+}
+
+// The codes passed, up to fewer than eight bytes before the end.
+fn measure_words(s: &[u8]) -> Place
+    requires { ⌜ length (now s) < 2 ^ 60 ⌝ }
+    ensures { λ r. ⌜ CountedTo (now (s .entry)) r ⌝ }
+{
+    let mut next: usize = 0;
+    let mut skip: u64 = 0;
+    let mut n: usize = 0;
+    while 8 <= s.len() - next {
+        let w = skim(codes::eight(s, next), 64 - skip);
+        let passed = 64 - w.left;
+        next += (passed / 8) as usize;
+        skip = passed % 8;
+        n += w.count;
+    }
+    Place { next, skip, n }
+}
+
+// The last bits in a buffer: those of fewer than eight bytes.
+fn last_bits(s: &[u8], place: Place) -> Buffer
+    requires { ⌜ Near (now s) place ⌝ }
+    ensures { λ r. ⌜ Last (now (s .entry)) place r ⌝ }
+{
+    let mut held: u64 = 0;
+    let mut next = place.next;
+    while next < s.len() {
+        held = codes::push(held, s[next] as u64, 8);
+        next += 1;
+    }
+    Buffer {
+        held,
+        have: (next - place.next) as u64 * 8 - place.skip,
+        next,
+    }
+}
+
+// What the last bits come to, `have` of them.
+fn measure_last(held: u64, have: u64) -> Measured
+    requires { ⌜ have ≤ 64 ⌝ }
+    ensures { λ r. ⌜ Measures tables (low have held) r ⌝ }
+{
+    let mut left = have;
+    let mut n: usize = 0;
+    loop {
+        if codes::at_end(held, left) {
+            return Measured::Text(n);
+        }
+        let c = first_code(codes::window(held, left));
+        if left < c.width {
+            return Measured::Malformed((have - left) as usize);
+        }
+        left -= c.width;
+        n += c.count;
+    }
+}
+
+// The length of the text, or where the data is malformed.
+fn measure(s: &[u8]) -> Measured
+    requires { ⌜ length (now s) < 2 ^ 60 ⌝ }
+    ensures { λ r. ⌜ Measures tables (bits (now (s .entry))) r ⌝ }
+{
+    let place = measure_words(s);
+    let b = last_bits(s, place);
+    let last = measure_last(b.held, b.have);
+    match last {
+        Measured::Text(k) => Measured::Text(place.n + k),
+        Measured::Malformed(i) => Measured::Malformed(s.len() * 8 - b.have as usize + i),
+    }
+}
+
+// The data taken apart, whatever its length.
+pub fn take_apart(s: &[u8]) -> Outcome
+    ensures { λ r. ⌜ Comes tables (now (s .entry)) r ⌝ }
+{
+    if Outcome::LIMIT <= s.len() {
+        return Outcome::TooLong;
+    }
+    let measured = measure(s);
+    match measured {
+        Measured::Text(n) => Outcome::Text(n),
+        Measured::Malformed(bit) => Outcome::Malformed(bit),
+    }
+}
+
+// The one or two characters of a code, from place n on.
+fn put(out: &mut [u8], n: usize, c: Code)
+    requires { ⌜ (1 ≤ c .count) × (c .count ≤ 2) × (n + c .count ≤ length (now out)) ⌝ }
+    ensures { λ r. ⌜ now (out .exit) ≡ laid (now (out .entry)) n (characters c) ⌝ }
+{
+    out[n] = c.first;
+    if c.count == 2 {
+        out[n + 1] = c.second;
+    }
+}
+
+// The characters of eight codes of six or seven bits, from place n on.
+fn put_plain(held: u64, have: u64, out: &mut [u8], n: usize) -> Skimmed
+    requires { ⌜ (57 ≤ have) × (have ≤ 64) × Plain held × (n ≤ length (now out)) × Begun held have (length (now out) - n) ⌝ }
+    ensures { λ r. ⌜ Puts held have (now (out .entry)) (now (out .exit)) n r ⌝ }
+{
+    let mut top = held << (64 - have);
+    let mut left = have;
+    let mut count: usize = 0;
+    while count < 8 {
+        let c = first_plain(top >> 57);
+        put(out, n + count, c);
+        top = top << c.width;
+        left -= c.width;
+        count += c.count;
+    }
+    Skimmed { left, count }
+}
+
+// The characters of codes one by one, as long as there are nine bits.
+fn put_each(held: u64, have: u64, out: &mut [u8], n: usize) -> Skimmed
+    requires { ⌜ (have ≤ 64) × (n ≤ length (now out)) × Begun held have (length (now out) - n) ⌝ }
+    ensures { λ r. ⌜ Puts held have (now (out .entry)) (now (out .exit)) n r ⌝ }
+{
+    let mut left = have;
+    let mut count: usize = 0;
+    while 9 <= left {
+        let c = first_code(codes::window(held, left));
+        put(out, n + count, c);
+        left -= c.width;
+        count += c.count;
+    }
+    Skimmed { left, count }
+}
+
+// The characters of the codes in the lowest `have` bits of a number, up to its last few bits.
+fn put_word(held: u64, have: u64, out: &mut [u8], n: usize) -> Skimmed
+    requires { ⌜ (57 ≤ have) × (have ≤ 64) × (n ≤ length (now out)) × Begun held have (length (now out) - n) ⌝ }
+    ensures { λ r. ⌜ Puts held have (now (out .entry)) (now (out .exit)) n r ⌝ }
+{
+    if plain(held) {
+        return put_plain(held, have, out, n);
+    }
+    put_each(held, have, out, n)
+}
+
+// The text of the codes up to fewer than eight bytes before the end.
+fn read_words(s: &[u8], out: &mut [u8]) -> Place
+    requires { ⌜ Readable tables (bits (now s)) (length (now out)) ⌝ }
+    ensures { λ r. ⌜ LaidTo (now (s .entry)) (now (out .entry)) (now (out .exit)) r ⌝ }
+{
+    let mut next: usize = 0;
+    let mut skip: u64 = 0;
+    let mut n: usize = 0;
+    while 8 <= s.len() - next {
+        let w = put_word(codes::eight(s, next), 64 - skip, out, n);
+        let passed = 64 - w.left;
+        next += (passed / 8) as usize;
+        skip = passed % 8;
+        n += w.count;
+    }
+    Place { next, skip, n }
+}
+
+// The text of the last bits, `have` of them, from place n on; the place after it.
+fn read_last(held: u64, have: u64, out: &mut [u8], n: usize) -> usize
+    requires { ⌜ (have ≤ 64) × (n ≤ length (now out)) × Readable tables (low have held) (length (now out) - n) ⌝ }
+    ensures { λ r. ⌜ Placed tables (low have held) (now (out .entry)) (now (out .exit)) n r ⌝ }
+{
+    let mut left = have;
+    let mut at = n;
+    loop {
+        if codes::at_end(held, left) {
+            return at;
+        }
+        let c = first_code(codes::window(held, left));
+        put(out, at, c);
+        left -= c.width;
+        at += c.count;
+    }
+}
+
+// The text of the data, at the front of the buffer; its length.
+pub fn read(s: &[u8], out: &mut [u8]) -> usize
+    requires { ⌜ Readable tables (bits (now s)) (length (now out)) ⌝ }
+    ensures { λ r. ⌜ Placed tables (bits (now (s .entry))) (now (out .entry)) (now (out .exit)) 0 r ⌝ }
+{
+    let place = read_words(s, out);
+    let b = last_bits(s, place);
+    read_last(b.held, b.have, out, place.n)
+}

@@ -1,0 +1,5 @@
+pub mod Adding
+pub mod Counting
+pub mod Eight
+pub mod Pushing
+pub mod Sending

@@ -1,0 +1,87 @@
+-- `full_ascii_writer::first_uncoded` meets its contract. The loop's invariant: each character passed has a code.
+-- Assumes nothing.
+use mathlib.Core.Path.{_≡_, sym, ap, subst, subst⁻¹, _∙_}
+use mathlib.Core.Bool.{false}
+use mathlib.Core.List.{List}
+use Prim.Native.Nat.{ℕ, _-_, _≤_}
+use native.Mathlib.Omega.{arith}
+use borrow.Author.Count.{below-more}
+use borrow.Author.Needs.{needs}
+use borrow.Author.Tests.{not-true, not-false}
+use lib.Dec.{T}
+use lib.ListN.{length, getD}
+use Rattle.bits.proofs.Said.{said-yes}
+use Rattle.codes.specs.Size.{Coded}
+use Rattle.full_ascii.specs.Writer.{coded}
+use Rattle.full_ascii_writer.proofs.first_uncoded.Statement.{statement}
+use Rattle.full_ascii_writer.proofs.first_uncoded.Tie as tie
+
+abbrev Inv-loop : tie.InvT-loop
+Inv-loop text i₀ i = (i ≤ length text) × Coded coded text i
+
+abbrev μ-loop : tie.MeasureT-loop
+μ-loop text i₀ i = length text - i
+
+all-coded-requires : tie.Need-all-coded-requires Inv-loop μ-loop
+all-coded-requires c κs = search needs
+
+returns : tie.Need-returns Inv-loop μ-loop
+returns c = said-yes (c .before .all-coded .result) (c .before .all-coded .ensures) (c .if1 .taken)
+
+loop-holds : tie.Need-loop-holds Inv-loop μ-loop
+loop-holds c = (omega arith, λ i h. absurd (let no′ : ⊥ = omega arith in no′))
+
+shared-slice-read-is-coded : tie.Need-shared-slice-read-is-coded Inv-loop μ-loop
+shared-slice-read-is-coded c = omega arith
+
+is-coded-requires : tie.Need-is-coded-requires Inv-loop μ-loop
+is-coded-requires c κs = search needs
+
+-- the character at place i has no code, and the answer is that place
+none-at : (text : List ℕ) (i : ℕ) {place : ℕ} → coded (getD text i 0) ≡ false → place ≡ i → T (coded (getD text place 0)) → ⊥
+none-at text i no-code e t = subst T (ap (λ (n : ℕ). coded (getD text n 0)) e ∙ no-code) t
+
+returns-2 : tie.Need-returns-2 Inv-loop μ-loop
+returns-2 c =
+    let a = c .before .before .before .before in
+    let text = a .before .before .before .before .args .text .now in
+    record {
+      there = omega arith;
+      before = λ i h. a .loop .inv .1 i (omega arith);
+      none = none-at text (a .loop .i) (sym (c .before .is-coded .ensures) ∙ not-true (c .before .is-coded .result) (c .if2 .taken)) (omega arith);
+    }
+
+add-i : tie.Need-add-i Inv-loop μ-loop
+add-i c = omega arith
+
+loop-less : tie.Need-loop-less Inv-loop μ-loop
+loop-less c = omega arith
+
+loop-again : tie.Need-loop-again Inv-loop μ-loop
+loop-again c =
+    let a = c .before .before .before .before in
+    let text = a .before .before .before .before .args .text .now in (
+      omega arith,
+      below-more (λ (k : ℕ). T (coded (getD text k 0))) (a .loop .i) (a .loop .inv .1)
+          (subst⁻¹ T (sym (c .before .is-coded .ensures) ∙ not-false (c .before .is-coded .result) (c .if2 .left)) tt),
+    )
+
+returns-3 : tie.Need-returns-3 Inv-loop μ-loop
+returns-3 c = λ i h. c .before .loop .inv .1 i (omega arith)
+
+pub first-uncoded-spec : {M : Type 1} → statement M
+first-uncoded-spec =
+    tie.close
+    (tie.spec
+    Inv-loop
+    μ-loop
+    all-coded-requires
+    returns
+    loop-holds
+    shared-slice-read-is-coded
+    is-coded-requires
+    returns-2
+    add-i
+    loop-less
+    loop-again
+    returns-3)

@@ -1,0 +1,124 @@
+-- Eight values of six bits in a row, spread to a byte each.
+-- Assumes nothing.
+use mathlib.Core.Path.{_≡_, ap, ap₂, _∙_}
+use Prim.Native.Nat.{ℕ, zero, suc, _+_, _-_, _*_, _/_, _%_, _^_, _<_}
+use native.Mathlib.Nat.{mod-lt, zero-lt-suc}
+use native.Mathlib.Omega.{arith}
+use lib.Bits.{bitAnd, and-block, and-high}
+use lib.Dec.{lit<}
+use Rattle.pseudo_binary.specs.Table.{characterOf}
+use Rattle.pseudo_binary_reader.specs.Taken.{Spread}
+
+-- what holds of 0, of 1, .. holds of each number below n
+abbrev pub Each : ℕ → (ℕ → Type 0) → Type 0
+Each zero P = Unit {0}
+Each (suc n) P = P 0 × Each n (λ k. P (suc k))
+
+pub each-at : (n : ℕ) (P : ℕ → Type 0) → Each n P → (k : ℕ) → k < n → P k
+each-at zero P a k h = absurd (let none : ⊥ = omega arith in none)
+each-at (suc n) P a zero h = a .0
+each-at (suc n) P a (suc k) h = each-at n (λ k. P (suc k)) (a .1) k (omega arith)
+
+-- the upper 12 of 24 bits in each half, and the upper six of 12 in each quarter
+upper-twelve : (x y : ℕ) → x < 16777216 → y < 16777216
+    → bitAnd (x * 4294967296 + y) 72040001868656640 ≡ x / 4096 * 4096 * 4294967296 + y / 4096 * 4096
+upper-twelve x y h k =
+    and-block 32 x 16773120 y 16773120 (omega arith) (lit< tt)
+    ∙ ap₂ (λ (a b : ℕ). a * 4294967296 + b)
+    (and-high x 12 12 ∙ (let e : x / 4096 % 4096 * 4096 ≡ x / 4096 * 4096 = omega arith in e))
+    (and-high y 12 12 ∙ (let e : y / 4096 % 4096 * 4096 ≡ y / 4096 * 4096 = omega arith in e))
+
+upper-six : (x y : ℕ) → x < 64 → y < 64 → bitAnd (x * 64 + y) 4032 ≡ x * 64
+upper-six x y h k = and-high (x * 64 + y) 6 6 ∙ (let e : (x * 64 + y) / 64 % 64 * 64 ≡ x * 64 = omega arith in e)
+
+-- eight numbers, each below 64
+module _ (d : ℕ → ℕ) (small : (k : ℕ) → d k < 64) where
+  -- in six bits each, with a gap between two and two
+  pairs : ℕ
+  pairs =
+      ((d 0 * 64 + d 1) * 65536 + (d 2 * 64 + d 3)) * 4294967296 + ((d 4 * 64 + d 5) * 65536 + (d 6 * 64 + d 7))
+
+  -- in a byte each
+  joined : ℕ
+  joined = ((d 0 * 256 + d 1) * 65536 + (d 2 * 256 + d 3)) * 4294967296 + ((d 4 * 256 + d 5) * 65536 + (d 6 * 256 + d 7))
+
+  upper-two : (k : ℕ) → bitAnd ((d k * 64 + d (k + 1)) * 65536 + (d (k + 2) * 64 + d (k + 3))) 264245184 ≡ d k * 64 * 65536 + d (k + 2) * 64
+  upper-two k =
+      and-block 16 (d k * 64 + d (k + 1)) 4032 (d (k + 2) * 64 + d (k + 3)) 4032 (omega (arith, small (k + 2), small (k + 3))) (lit< tt)
+      ∙ ap₂ (λ (a b : ℕ). a * 65536 + b) (upper-six (d k) (d (k + 1)) (small k) (small (k + 1)))
+      (upper-six (d (k + 2)) (d (k + 3)) (small (k + 2)) (small (k + 3)))
+
+  upper-four : bitAnd pairs 1134924423669747648 ≡ (d 0 * 64 * 65536 + d 2 * 64) * 4294967296 + (d 4 * 64 * 65536 + d 6 * 64)
+  unfolding pairs
+  upper-four =
+      and-block 32 ((d 0 * 64 + d 1) * 65536 + (d 2 * 64 + d 3)) 264245184 ((d 4 * 64 + d 5) * 65536 + (d 6 * 64 + d 7)) 264245184
+      (omega (arith, small 4, small 5, small 6, small 7)) (lit< tt)
+      ∙ ap₂ (λ (a b : ℕ). a * 4294967296 + b) (upper-two 0) (upper-two 4)
+
+  pairs-apart : pairs + bitAnd pairs 1134924423669747648 * 3 ≡ joined
+  unfolding pairs joined
+  pairs-apart = omega (arith, upper-four)
+
+  -- each is a byte of it, and so is 64 more of 64 more in each byte
+  joined-bytes : (k : ℕ) → k < 8 → (joined + 4629771061636907072) / 2 ^ (56 - 8 * k) % 256 ≡ 64 + d k
+  unfolding joined
+  joined-bytes =
+      let a : (d 0 < 64) × (d 1 < 64) × (d 2 < 64) × (d 3 < 64) = (small 0, small 1, small 2, small 3) in
+      let b : (d 4 < 64) × (d 5 < 64) × (d 6 < 64) × (d 7 < 64) = (small 4, small 5, small 6, small 7) in
+      each-at 8 (λ (k : ℕ). (joined + 4629771061636907072) / 2 ^ (56 - 8 * k) % 256 ≡ 64 + d k)
+      (omega arith, (omega arith, (omega arith, (omega arith, (omega arith, (omega arith, (omega arith, (omega arith, tt))))))))
+
+-- the code's steps: 48 bits in two halves, a gap in the middle of each, and then of each quarter
+module _ (v : ℕ) (h : v < 281474976710656) where
+  nth : ℕ → ℕ
+  nth k = v / 2 ^ (42 - 6 * k) % 64
+
+  nth-small : (k : ℕ) → nth k < 64
+  unfolding nth
+  nth-small k = mod-lt (v / 2 ^ (42 - 6 * k)) (zero-lt-suc 63)
+
+  unfoldable pub halves : ℕ
+  halves = v / 16777216 * 4294967296 + v % 16777216
+
+  unfoldable pub quarters : ℕ
+  quarters = halves + bitAnd halves 72040001868656640 * 15
+
+  unfoldable pub eighths : ℕ
+  eighths = quarters + bitAnd quarters 1134924423669747648 * 3
+
+  quarters-are : quarters ≡ pairs nth nth-small
+  unfolding quarters halves pairs nth
+  quarters-are =
+      ap (λ (n : ℕ). v / 16777216 * 4294967296 + v % 16777216 + n * 15) (upper-twelve (v / 16777216) (v % 16777216) (omega arith) (omega arith))
+      ∙ (let e : v / 16777216 * 4294967296 + v % 16777216 + (v / 16777216 / 4096 * 4096 * 4294967296 + v % 16777216 / 4096 * 4096) * 15
+      ≡ (v / 16777216 / 4096 * 65536 + v / 16777216 % 4096) * 4294967296 + (v % 16777216 / 4096 * 65536 + v % 16777216 % 4096) = omega arith in e)
+      ∙ ap₂ (λ (x y : ℕ). x * 4294967296 + y)
+      (ap₂ (λ (x y : ℕ). x * 65536 + y) (let e : v / 16777216 / 4096 ≡ v / 2 ^ 42 % 64 * 64 + v / 2 ^ 36 % 64 = omega arith in e)
+      (let e : v / 16777216 % 4096 ≡ v / 2 ^ 30 % 64 * 64 + v / 2 ^ 24 % 64 = omega arith in e))
+      (ap₂ (λ (x y : ℕ). x * 65536 + y) (let e : v % 16777216 / 4096 ≡ v / 2 ^ 18 % 64 * 64 + v / 2 ^ 12 % 64 = omega arith in e)
+      (let e : v % 16777216 % 4096 ≡ v / 2 ^ 6 % 64 * 64 + v / 2 ^ 0 % 64 = omega arith in e))
+
+  eighths-joined : eighths ≡ joined nth nth-small
+  unfolding eighths
+  eighths-joined = ap (λ (n : ℕ). n + bitAnd n 1134924423669747648 * 3) quarters-are ∙ pairs-apart nth nth-small
+
+  pub eighths-spread : Spread v (eighths + 4629771061636907072)
+  unfolding characterOf nth
+  eighths-spread k l = ap (λ (n : ℕ). (n + 4629771061636907072) / 2 ^ (56 - 8 * k) % 256) eighths-joined ∙ joined-bytes nth nth-small k l
+
+  -- it takes two bits less than eight bytes
+  pub eighths-small : eighths < 4611686018427387904
+  unfolding joined
+  eighths-small =
+      omega (
+        arith,
+        eighths-joined,
+        nth-small 0,
+        nth-small 1,
+        nth-small 2,
+        nth-small 3,
+        nth-small 4,
+        nth-small 5,
+        nth-small 6,
+        nth-small 7,
+      )

@@ -1,0 +1,132 @@
+-- An indicator at a bit of the data, with the values that it announces: passed, or where the reading is stuck.
+-- Assumes nothing.
+use mathlib.Core.Path.{_≡_, sym, ap, ap₂, subst, subst⁻¹, _∙_}
+use mathlib.Core.Logic.{by-cases}
+use mathlib.Core.List.{List, _++_, append-assoc}
+use Prim.Native.Nat.{ℕ, _+_, _-_, _*_, _/_, _%_, _≤_, _<_}
+use native.Mathlib.Decide.{decLe}
+use native.Mathlib.Nat.{zero-add}
+use native.Mathlib.Omega.{arith}
+use lib.ListN.{length, drop, replicate, length-append, length-drop, length-replicate}
+use lib.Seq.{drop-drop}
+use Rattle.bits.specs.Row.{bits}
+use Rattle.codes.specs.Chain.{Fill, after, Stuck}
+use Rattle.codes.specs.Laid.{laid, Readable}
+use Rattle.codes.specs.Pack.{Binary}
+use Rattle.codes.specs.Passed.{Passed, Counting, Laying}
+use Rattle.codes.proofs.Laying.{counting-more, laying-more, laying-within}
+use Rattle.codes.proofs.Pack.{binary-drop, bits-binary, length-bits}
+use Rattle.codes.proofs.Passed.{passed-more, passed-stuck}
+use Rattle.codes.proofs.Reading.{stuck-here, never-both}
+use Rattle.pseudo_binary.specs.Table.{tables}
+use Rattle.pseudo_binary_reader.specs.Taken.{Nine, Takes, characters, saying}
+use Rattle.pseudo_binary_reader.specs.declared.Indicator.{Indicator}
+use Rattle.pseudo_binary_reader.proofs.First.{next-indicator, no-indicator}
+use Rattle.pseudo_binary.proofs.Table.{laws}
+use Rattle.pseudo_binary_reader.proofs.Taking.{run-plain}
+use Rattle.pseudo_binary_reader.proofs.Values.{length-characters, passed-values, stuck-values}
+
+-- how much follows a bit
+pub length-left : (s : List ℕ) (at : ℕ) → length (drop at (bits s)) ≡ length s * 8 - at
+length-left s at = length-drop at (bits s) ∙ ap (λ (n : ℕ). n - at) (length-bits s)
+
+left-binary : (s : List ℕ) (at : ℕ) → Binary (drop at (bits s))
+left-binary s at = binary-drop at (bits s) (bits-binary s)
+
+module _ (s : List ℕ) (at : ℕ) (inside : at ≤ length s * 8) (w : ℕ) (v : Nine (drop at (bits s)) w) (r : Indicator) (k : Takes w r) (said : List ℕ) (p : Passed tables (bits s) 0 (drop at (bits s)) said) where
+  pub passed-indicator : r .width ≤ length s * 8 - at
+      → Passed tables (bits s) (r .values) (drop (at + r .width) (bits s)) (said ++ replicate (r .count) (r .character))
+  unfolding after
+  passed-indicator there =
+      subst⁻¹ (λ (n : ℕ). Passed tables (bits s) n (drop (at + r .width) (bits s)) (said ++ replicate (r .count) (r .character)))
+      (k .announces ∙ sym (zero-add (k .entry .announces)))
+      (subst⁻¹ (λ (l : List ℕ). Passed tables (bits s) (0 + k .entry .announces) (drop (at + r .width) (bits s)) (said ++ l)) (k .says)
+      (passed-more (drop at (bits s)) (drop (at + r .width) (bits s)) p (k .entry) (k .legal)
+      (next-indicator (drop at (bits s)) (left-binary s at) w v r k (omega (arith, length-left s at))
+      ∙ ap (λ (l : List ℕ). k .entry .code ++ l) (drop-drop (r .width) at (bits s)))))
+
+  -- with the values that it announces
+  pub passed-run : r .width + r .values * 6 ≤ length s * 8 - at
+      → Passed tables (bits s) 0 (drop (at + (r .width + r .values * 6)) (bits s)) (said ++ saying r (drop (at + r .width) (bits s)))
+  passed-run there =
+      let rest : List ℕ = drop (at + r .width) (bits s) in
+      let all : Passed tables (bits s) 0 (drop (6 * r .values) rest) ((said ++ replicate (r .count) (r .character)) ++ characters (r .values) rest) =
+      passed-values (r .values) rest (said ++ replicate (r .count) (r .character)) (left-binary s (at + r .width))
+      (omega (arith, length-left s (at + r .width))) (passed-indicator (omega arith)) in
+      subst (λ (l : List ℕ). Passed tables (bits s) 0 l (said ++ saying r (drop (at + r .width) (bits s))))
+      (drop-drop (6 * r .values) (at + r .width) (bits s)
+      ∙ ap (λ (n : ℕ). drop n (bits s)) (let e : at + r .width + 6 * r .values ≡ at + (r .width + r .values * 6) = omega arith in e))
+      (subst (Passed tables (bits s) 0 (drop (6 * r .values) rest))
+      (append-assoc said (replicate (r .count) (r .character)) (characters (r .values) rest)) all)
+
+  -- an indicator that lacks its bits
+  pub stuck-indicator : length s * 8 - at < r .width → (Fill (drop at (bits s)) → ⊥) → Stuck tables 0 (bits s) at
+  stuck-indicator short none =
+      passed-stuck (drop at (bits s)) at 0 p (omega (arith, length-left s at, length-bits s))
+      (stuck-here (no-indicator (drop at (bits s)) (left-binary s at) w v r k (omega (arith, length-left s at))) (λ e. none))
+
+  -- a value that lacks its bits
+  pub stuck-value : (left : ℕ) → at + r .width + left ≡ length s * 8 → left < r .values * 6 → {place : ℕ} → place + left % 6 ≡ length s * 8
+      → Stuck tables 0 (bits s) place
+  stuck-value left e short {place} part =
+      let rest : List ℕ = drop (at + r .width) (bits s) in
+      let size : length rest ≡ left = omega (arith, length-left s (at + r .width)) in
+      passed-stuck rest place (length rest / 6 * 6) (passed-indicator (omega arith)) (omega (arith, length-bits s))
+      (stuck-values (r .values) rest (left-binary s (at + r .width)) (omega arith))
+
+pub length-saying : (r : Indicator) (bs : List ℕ) → length (saying r bs) ≡ r .count + r .values
+length-saying r bs =
+    length-append (replicate (r .count) (r .character)) (characters (r .values) bs)
+    ∙ ap₂ (λ (m n : ℕ). m + n) (length-replicate (r .count) (r .character)) (length-characters (r .values) bs)
+
+pub counting-run : (s : List ℕ) (at : ℕ) → at ≤ length s * 8 → (w : ℕ) → Nine (drop at (bits s)) w → (r : Indicator) → Takes w r
+    → (n : ℕ) → Counting tables (bits s) (drop at (bits s)) n → r .width + r .values * 6 ≤ length s * 8 - at
+    → Counting tables (bits s) (drop (at + (r .width + r .values * 6)) (bits s)) (n + (r .count + r .values))
+counting-run s at inside w v r k n c there =
+    let rest : List ℕ = drop (at + r .width) (bits s) in
+    counting-more c (saying r rest) (length-saying r rest) (passed-run s at inside w v r k (c .said) (c .passed) there)
+
+-- an indicator whose bits and values are there, and room for what they say
+pub record Whole (s : List ℕ) (at : ℕ) (r : Indicator) (entry out : List ℕ) (n : ℕ) : Type 0 where
+  pub there : r .width + r .values * 6 ≤ length s * 8 - at
+  pub room : n + (r .count + r .values) ≤ length entry
+  pub next : (exit : List ℕ) → exit ≡ laid out n (saying r (drop (at + r .width) (bits s)))
+      → Laying tables (bits s) (drop (at + (r .width + r .values * 6)) (bits s)) entry exit 0 (n + (r .count + r .values))
+
+-- one that announces no values
+pub whole-plain : (s : List ℕ) (at : ℕ) (r : Indicator) (entry out : List ℕ) (n : ℕ) → Whole s at r entry out n → r .values ≡ 0
+    → (exit : List ℕ) → exit ≡ laid out n (replicate (r .count) (r .character))
+    → Laying tables (bits s) (drop (at + r .width) (bits s)) entry exit 0 (n + r .count)
+whole-plain s at r entry out n w none exit e =
+    subst (λ (k : ℕ). Laying tables (bits s) (drop (at + r .width) (bits s)) entry exit 0 k)
+    (let x : n + (r .count + r .values) ≡ n + r .count = omega arith in x)
+    (subst (λ (k : ℕ). Laying tables (bits s) (drop k (bits s)) entry exit 0 (n + (r .count + r .values)))
+    (let x : at + (r .width + r .values * 6) ≡ at + r .width = omega arith in x)
+    (w .next exit (run-plain out exit (drop (at + r .width) (bits s)) n (r .count) (r .character) (r .values) none e)))
+
+-- so it is where the whole can be read and does not end here
+module _ (s : List ℕ) (at : ℕ) (inside : at ≤ length s * 8) (w : ℕ) (v : Nine (drop at (bits s)) w) (r : Indicator) (k : Takes w r)
+    (entry out : List ℕ) (n : ℕ) (y : Laying tables (bits s) (drop at (bits s)) entry out 0 n) (f : Readable tables (bits s) (length entry))
+    (none : Fill (drop at (bits s)) → ⊥) (fits : n ≤ length entry) where
+  there : r .width + r .values * 6 ≤ length s * 8 - at
+  there =
+      by-cases (decLe (r .width) (length s * 8 - at))
+      (λ l. by-cases (decLe (r .values * 6) (length s * 8 - at - r .width)) (λ m. omega arith)
+      (λ m. absurd (never-both laws (f .reads)
+      (stuck-value s at inside w v r k (y .said) (y .passed) (length s * 8 - at - r .width) (omega arith) (omega arith) {place = length s * 8 - (length s * 8 - at - r .width) % 6} (omega arith)))))
+      (λ l. absurd (never-both laws (f .reads) (stuck-indicator s at inside w v r k (y .said) (y .passed) (omega arith) none)))
+
+  laid-whole : Laying tables (bits s) (drop (at + (r .width + r .values * 6)) (bits s)) entry
+      (laid out n (saying r (drop (at + r .width) (bits s)))) 0 (n + (r .count + r .values))
+  laid-whole =
+      let rest : List ℕ = drop (at + r .width) (bits s) in
+      laying-more y (saying r rest) (length-saying r rest) fits (passed-run s at inside w v r k (y .said) (y .passed) there)
+
+  pub whole : Whole s at r entry out n
+  whole = record {
+    there = there;
+    room = omega (arith, laying-within laid-whole laws f);
+    next = λ exit e.
+        subst⁻¹ (λ (l : List ℕ). Laying tables (bits s) (drop (at + (r .width + r .values * 6)) (bits s)) entry l 0 (n + (r .count + r .values))) e
+        laid-whole;
+  }

@@ -1,0 +1,187 @@
+-- Values as they are taken out of the bits, one or eight at a time, and laid as characters.
+-- Assumes nothing.
+use mathlib.Core.Path.{_≡_, refl, sym, ap, _∙_}
+use mathlib.Core.List.{List, [], _∷_, _++_, append-nil}
+use Prim.Native.Nat.{ℕ, zero, suc, _+_, _-_, _*_, _/_, _%_, _^_, _≤_, _<_}
+use native.Mathlib.Nat.{zero-add, suc-add}
+use native.Mathlib.Omega.{arith}
+use lib.ListN.{length, take, drop, getD, set, replicate, length-set, length-replicate}
+use lib.Pow.{field, mod-mod-pow, shr-shr}
+use lib.Seq.{drop-drop}
+use Rattle.bits.specs.Row.{bits}
+use Rattle.codes.specs.Ahead.{ahead}
+use Rattle.codes.specs.Laid.{laid}
+use Rattle.codes.specs.Pack.{value}
+use Rattle.codes.specs.Words.{eightAt, spilled}
+use Rattle.codes.proofs.Laid.{laid-nil, laid-laid, length-laid, set-laid}
+use Rattle.codes.proofs.Low.{value-low}
+use Rattle.codes.proofs.Words.{eight-bits}
+use Rattle.pseudo_binary.specs.Table.{characterOf}
+use Rattle.pseudo_binary_reader.specs.Taken.{Spread, Eight, characters}
+use Rattle.pseudo_binary_reader.proofs.Parting.{each-at}
+use Rattle.pseudo_binary_reader.proofs.Starts.{ahead-part}
+use Rattle.pseudo_binary_reader.proofs.Values.{length-characters}
+
+-- some values and then more
+pub characters-add : (k m : ℕ) (bs : List ℕ) → characters (k + m) bs ≡ characters k bs ++ characters m (drop (6 * k) bs)
+unfolding characters
+characters-add zero m bs = ap (λ (n : ℕ). characters n bs) (zero-add m)
+characters-add (suc k) m bs =
+    ap (λ (n : ℕ). characters n bs) (suc-add k m)
+    ∙ ap (λ (l : List ℕ). characterOf (value (take 6 bs)) ∷ l)
+    (characters-add k m (drop 6 bs)
+    ∙ ap (λ (l : List ℕ). characters k (drop 6 bs) ++ characters m l)
+    (drop-drop (6 * k) 6 bs ∙ ap (λ (n : ℕ). drop n bs) (let e : 6 + 6 * k ≡ 6 * suc k = omega arith in e)))
+
+-- the first k values of the bits are laid from place n on
+module _ (bs entry out : List ℕ) (n k : ℕ) (so-far : out ≡ laid entry n (characters k bs)) (room : n + k ≤ length entry) where
+  pub taken-length : length out ≡ length entry
+  taken-length = ap length so-far ∙ length-laid entry n (characters k bs) (omega (arith, length-characters k bs))
+
+  -- and then m more
+  pub taken-more : (exit : List ℕ) (m place : ℕ) → place ≡ n + k → exit ≡ laid out place (characters m (drop (6 * k) bs))
+      → exit ≡ laid entry n (characters (k + m) bs)
+  taken-more exit m place e d =
+      d
+      ∙ ap (λ (l : List ℕ). laid l place (characters m (drop (6 * k) bs))) so-far
+      ∙ laid-laid entry n place (characters k bs) (characters m (drop (6 * k) bs)) (omega (arith, length-characters k bs))
+      (omega (arith, length-characters k bs))
+      ∙ ap (laid entry n) (sym (characters-add k m bs))
+
+  -- or one
+  pub taken-one : (x : ℕ) → n + k < length entry → x ≡ characterOf (value (take 6 (drop (6 * k) bs)))
+      → set out (n + k) x ≡ laid entry n (characters (k + 1) bs)
+  unfolding characters
+  taken-one x h e =
+      taken-more (set out (n + k) x) 1 (n + k) refl
+      (set-laid out (n + k) x (omega (arith, taken-length)) ∙ ap (λ (y : ℕ). laid out (n + k) (y ∷ [])) e)
+
+-- or the rest of them
+pub taken-rest : (row : List ℕ) (at : ℕ) (entry mid exit : List ℕ) (n k count : ℕ) → mid ≡ laid entry n (characters k (drop at row)) → k ≤ count
+    → n + count ≤ length entry → exit ≡ laid mid (n + k) (characters (count - k) (drop (at + 6 * k) row))
+    → exit ≡ laid entry n (characters count (drop at row))
+taken-rest row at entry mid exit n k count so-far h room d =
+    taken-more (drop at row) entry mid n k so-far (omega arith) exit (count - k) (n + k) refl
+    (d ∙ ap (λ (l : List ℕ). laid mid (n + k) (characters (count - k) l)) (sym (drop-drop (6 * k) at row)))
+    ∙ ap (λ (j : ℕ). laid entry n (characters j (drop at row))) (let e : k + (count - k) ≡ count = omega arith in e)
+
+pub taken-none : (bs entry : List ℕ) (n : ℕ) → entry ≡ laid entry n (characters 0 bs)
+unfolding characters
+taken-none bs entry n = sym (laid-nil entry n)
+
+-- a character, so many times, and after it values
+pub run-laid : (entry mid exit bs : List ℕ) (n count character values : ℕ) → n + count ≤ length entry
+    → mid ≡ laid entry n (replicate count character) → exit ≡ laid mid (n + count) (characters values bs)
+    → exit ≡ laid entry n (replicate count character ++ characters values bs)
+run-laid entry mid exit bs n count character values room e d =
+    d
+    ∙ ap (λ (l : List ℕ). laid l (n + count) (characters values bs)) e
+    ∙ laid-laid entry n (n + count) (replicate count character) (characters values bs) (omega (arith, length-replicate count character))
+    (ap (λ (k : ℕ). n + k) (sym (length-replicate count character)))
+
+-- or none
+pub run-plain : (entry exit bs : List ℕ) (n count character values : ℕ) → values ≡ 0 → exit ≡ laid entry n (replicate count character)
+    → exit ≡ laid entry n (replicate count character ++ characters values bs)
+unfolding characters
+run-plain entry exit bs n count character values none e =
+    e
+    ∙ ap (laid entry n) (sym (append-nil (replicate count character)))
+    ∙ ap (λ (k : ℕ). laid entry n (replicate count character ++ characters k bs)) (sym none)
+
+-- k bytes of a number, stored in a row, are the characters of k values
+pub spilled-characters : (k : ℕ) (bs out : List ℕ) (n c have : ℕ) → n + k ≤ length out
+    → ((i : ℕ) → i < k → c / 2 ^ (have - 8 - 8 * i) % 256 ≡ characterOf (value (take 6 (drop (6 * i) bs))))
+    → spilled k out n c have ≡ laid out n (characters k bs)
+unfolding spilled characters
+spilled-characters zero bs out n c have room each = sym (laid-nil out n)
+spilled-characters (suc k) bs out n c have room each =
+    let x : ℕ = c / 2 ^ (have - 8) % 256 in
+    let later : List ℕ = characters k (drop 6 bs) in
+    spilled-characters k (drop 6 bs) (set out n x) (n + 1) c (have - 8) (omega (arith, length-set out n x))
+    (λ i l.
+    ap (λ (j : ℕ). c / 2 ^ j % 256) (let e : have - 8 - 8 - 8 * i ≡ have - 8 - 8 * suc i = omega arith in e)
+    ∙ each (suc i) (omega arith)
+    ∙ ap (λ (r : List ℕ). characterOf (value (take 6 r)))
+    (ap (λ (j : ℕ). drop j bs) (let e : 6 * suc i ≡ 6 + 6 * i = omega arith in e) ∙ sym (drop-drop (6 * i) 6 bs)))
+    ∙ ap (λ (d : List ℕ). laid d (n + 1) later) (set-laid out n x (omega arith))
+    ∙ laid-laid out n (n + 1) (x ∷ []) later (omega arith) refl
+    ∙ ap (λ (y : ℕ). laid out n (y ∷ later))
+    (ap (λ (j : ℕ). c / 2 ^ j % 256) (let e : have - 8 ≡ have - 8 - 8 * 0 = omega arith in e) ∙ each 0 (omega arith))
+
+-- so after k values eight more are laid, four and four
+pub taken-eight : (bs entry out mid exit l : List ℕ) (n k c : ℕ) → out ≡ laid entry n (characters k bs) → n + (k + 8) ≤ length entry
+    → drop (6 * k) bs ≡ l → Eight l c → mid ≡ spilled 4 out (n + k) c 64 → exit ≡ spilled 4 mid (n + k + 4) c 32
+    → exit ≡ laid entry n (characters (k + 8) bs)
+taken-eight bs entry out mid exit l n k c so-far room e eight x y =
+    let four : mid ≡ laid entry n (characters (k + 4) bs) =
+    taken-more bs entry out n k so-far (omega arith) mid 4 (n + k) refl
+    (x
+    ∙ spilled-characters 4 (drop (6 * k) bs) out (n + k) c 64 (omega (arith, taken-length bs entry out n k so-far (omega arith)))
+    (λ i h. eight i (omega arith) ∙ ap (λ (r : List ℕ). characterOf (value (take 6 (drop (6 * i) r)))) (sym e))) in
+    taken-more bs entry mid n (k + 4) four (omega arith) exit 4 (n + k + 4) (omega arith)
+    (y
+    ∙ spilled-characters 4 (drop (6 * (k + 4)) bs) mid (n + k + 4) c 32 (omega (arith, taken-length bs entry mid n (k + 4) four (omega arith)))
+    (λ i h.
+    ap (λ (j : ℕ). c / 2 ^ j % 256) (let d : 24 - 8 * i ≡ 56 - 8 * (4 + i) = omega arith in d)
+    ∙ eight (4 + i) (omega arith)
+    ∙ ap (λ (r : List ℕ). characterOf (value (take 6 r)))
+    (ap (drop (6 * (4 + i))) (sym e)
+    ∙ drop-drop (6 * (4 + i)) (6 * k) bs
+    ∙ ap (λ (j : ℕ). drop j bs) (let d : 6 * k + 6 * (4 + i) ≡ 6 * (k + 4) + 6 * i = omega arith in d)
+    ∙ sym (drop-drop (6 * i) (6 * (k + 4)) bs))))
+    ∙ ap (λ (j : ℕ). laid entry n (characters j bs)) (let d : k + 4 + 4 ≡ k + 8 = omega arith in d)
+
+-- of eight bytes that are the characters of values, those after the first `done` are at the top of c
+abbrev pub Left : List ℕ → ℕ → ℕ → Type 0
+Left bs done c = (i : ℕ) → done + i < 8 → c / 2 ^ (56 - 8 * i) % 256 ≡ characterOf (value (take 6 (drop (6 * (done + i)) bs)))
+
+pub left-all : (bs : List ℕ) (c : ℕ) → Eight bs c → Left bs 0 c
+left-all bs c eight i h =
+    eight i (omega arith) ∙ ap (λ (j : ℕ). characterOf (value (take 6 (drop (6 * j) bs)))) (let e : i ≡ 0 + i = omega arith in e)
+
+-- the first of them
+pub left-first : (bs : List ℕ) (done c : ℕ) → done < 8 → c < 2 ^ 64 → Left bs done c → c / 2 ^ 56 ≡ characterOf (value (take 6 (drop (6 * done) bs)))
+left-first bs done c h small left =
+    (let e : c / 2 ^ 56 ≡ c / 2 ^ 56 % 256 = omega arith in e)
+    ∙ left 0 (omega arith)
+    ∙ ap (λ (j : ℕ). characterOf (value (take 6 (drop (6 * j) bs)))) (let e : done + 0 ≡ done = omega arith in e)
+
+-- and then the others
+byte-up : (c i : ℕ) → i < 7 → c * 256 % 2 ^ 64 / 2 ^ (56 - 8 * i) % 256 ≡ c / 2 ^ (56 - 8 * suc i) % 256
+byte-up c =
+    each-at 7 (λ (i : ℕ). c * 256 % 2 ^ 64 / 2 ^ (56 - 8 * i) % 256 ≡ c / 2 ^ (56 - 8 * suc i) % 256)
+    (omega arith, (omega arith, (omega arith, (omega arith, (omega arith, (omega arith, (omega arith, tt)))))))
+
+pub left-next : (bs : List ℕ) (done c : ℕ) → Left bs done c → Left bs (done + 1) (c * 256 % 2 ^ 64)
+left-next bs done c left i h =
+    byte-up c i (omega arith)
+    ∙ left (suc i) (omega arith)
+    ∙ ap (λ (j : ℕ). characterOf (value (take 6 (drop (6 * j) bs)))) (let e : done + suc i ≡ done + 1 + i = omega arith in e)
+
+-- the value at bit `at`, in a buffer that starts r bits before it
+pub value-part : (s : List ℕ) (held have next q r at shift : ℕ) → ahead s held have next ≡ bits (drop q s) → q * 8 + r ≡ at → shift + 6 + r ≡ have
+    → held / 2 ^ shift % 64 ≡ value (take 6 (drop at (bits s)))
+value-part s held have next q r at shift e place size =
+    sym (value-low 6 (held / 2 ^ shift)) ∙ ap value (ahead-part s held have next q r at 6 shift e place size)
+
+-- the k-th value of 48 bits
+nth-value : (x n k : ℕ) → k < 8 → x / 2 ^ n % 2 ^ 48 / 2 ^ (42 - 6 * k) % 64 ≡ x / 2 ^ (n + (42 - 6 * k)) % 64
+nth-value x n k h =
+    ap (λ (y : ℕ). y % 64)
+    (ap (λ (j : ℕ). x / 2 ^ n % 2 ^ j / 2 ^ (42 - 6 * k)) (let e : 48 ≡ 6 * k + 6 + (42 - 6 * k) = omega arith in e)
+    ∙ field (x / 2 ^ n) (6 * k + 6) (42 - 6 * k))
+    ∙ mod-mod-pow (x / 2 ^ n / 2 ^ (42 - 6 * k)) (6 * k) 6
+    ∙ ap (λ (y : ℕ). y % 64) (shr-shr x n (42 - 6 * k))
+
+-- the eight values from bit `at` on, out of eight bytes from an even one on
+pub word-eight : (s : List ℕ) (at c : ℕ) → at / 16 * 2 + 8 ≤ length s → ((i : ℕ) → getD s i 0 < 256)
+    → Spread (eightAt s (at / 16 * 2) / 2 ^ (16 - at % 16) % 2 ^ 48) c → Eight (drop at (bits s)) c
+unfolding ahead
+word-eight s at c inside bytes spread k h =
+    let q : ℕ = at / 16 * 2 in
+    let x : ℕ = eightAt s q in
+    spread k h
+    ∙ ap characterOf
+    (nth-value x (16 - at % 16) k h
+    ∙ value-part s x 64 (q + 8) q (at % 16 + 6 * k) (at + 6 * k) (16 - at % 16 + (42 - 6 * k)) (eight-bits s q inside bytes) (omega arith) (omega arith)
+    ∙ ap (λ (l : List ℕ). value (take 6 l)) (sym (drop-drop (6 * k) at (bits s))))

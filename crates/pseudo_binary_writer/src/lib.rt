@@ -1,0 +1,361 @@
+// Compact Pseudo Binary written: the characters that have no code, how many bytes our data has, and the data.
+
+use codes::Needed;
+use codes::Uncoded;
+ghost use mathlib.Core.Path.{_≡_};
+ghost use mathlib.Core.Logic.{_⊎_};
+ghost use lib.Count.{leadingZeros};
+ghost use lib.Dec.{T};
+ghost use Prim.Native.Nat.{_+_, _*_, _/_, _≤_, _<_, _^_};
+ghost use lib.ListN.{length, take, drop, getD};
+ghost use Rattle.bits.specs.Says.{Says};
+ghost use Rattle.codes.specs.Pack.{low, written};
+ghost use Rattle.codes.specs.Size.{Searches, Needs};
+ghost use Rattle.pseudo_binary_writer.specs.Sending.{Between, FirstOf, Writes, ExtentOf, NextOf, Sends, twoValues, fourValues, eightValues};
+ghost use Rattle.pseudo_binary.specs.Table.{Kind, coded, Coded, values};
+ghost use Rattle.pseudo_binary.specs.Writer.{run, ours, Alike};
+ghost use Rattle.codes.specs.declared.Uncoded.the-variants.{Nowhere};
+
+// Whether a character has a code.
+fn is_coded(c: u8) -> bool
+    ensures { λ r. ⌜ r ≡ coded c ⌝ }
+{
+    match c {
+        b' ' => true,
+        b'/' => true,
+        64..=127 => true,
+        _ => false,
+    }
+}
+
+// Whether each character has a code. All are looked at, whatever is found.
+fn all_coded(text: &[u8]) -> bool
+    ensures { λ r. ⌜ Says r (Searches coded (now (text .entry)) Nowhere) ⌝ }
+{
+    let mut all = true;
+    let mut i: usize = 0;
+    while i < text.len() {
+        all = all & is_coded(text[i]);
+        i += 1;
+    }
+    all
+}
+
+// The index of the first character that has no code.
+pub fn first_uncoded(text: &[u8]) -> Uncoded
+    ensures { λ r. ⌜ Searches coded (now (text .entry)) r ⌝ }
+{
+    if all_coded(text) {
+        return Uncoded::Nowhere;
+    }
+    let mut i: usize = 0;
+    while i < text.len() {
+        if !is_coded(text[i]) {
+            return Uncoded::At(i);
+        }
+        i += 1;
+    }
+    Uncoded::Nowhere
+}
+
+// Codes to be sent: their bits as a number, how many they are, how many values are announced after them, and how many characters they say.
+struct Sent {
+    pub bits: u64,
+    pub width: u64,
+    pub values: usize,
+    pub count: usize,
+}
+
+impl Sent {
+    // The most values that one indicator announces.
+    pub const MOST_VALUES: usize = 128;
+    // The most spaces or slashes that one says.
+    pub const MOST_REPEATED: usize = 16;
+}
+
+// How many values stand in a row at place i, counted up to `most`. The first `known` of them are known to.
+fn values_from(text: &[u8], i: usize, most: usize, known: usize) -> usize
+    requires { ⌜ (known ≤ most) × (i + known ≤ length (now text)) × Alike values (take known (drop i (now text))) ⌝ }
+    ensures { λ r. ⌜ r ≡ run values most (drop i (now (text .entry))) ⌝ }
+{
+    let mut n = known;
+    while n < most {
+        if i + n == text.len() {
+            return n;
+        }
+        let c = text[i + n];
+        if c < 64 {
+            return n;
+        }
+        if 127 < c {
+            return n;
+        }
+        n += 1;
+    }
+    n
+}
+
+// The lesser of two numbers.
+fn lesser(a: usize, b: usize) -> usize
+    ensures { λ r. ⌜ (r ≤ a) × (r ≤ b) × ((r ≡ a) ⊎ (r ≡ b)) ⌝ }
+{
+    if a < b {
+        return a;
+    }
+    b
+}
+
+// How often a character that is a kind by itself stands in a row at place i, counted up to `most`.
+fn run_of(text: &[u8], i: usize, character: u8, most: usize) -> usize
+    requires { ⌜ (i ≤ length (now text)) × ((k : Kind) × Between k character character) ⌝ }
+    ensures { λ r. ⌜ ((k : Kind) → Between k character character → r ≡ run k most (drop i (now (text .entry)))) ⌝ }
+{
+    let end = lesser(most, text.len() - i);
+    let mut n: usize = 0;
+    while n < end {
+        if text[i + n] != character {
+            return n;
+        }
+        n += 1;
+    }
+    n
+}
+
+// What the upper two bits of the eight characters at place i differ from 01 in, which they are in a value: as many of them, from the first on, are values
+// as whole bytes of it are zeros.
+fn others_at(text: &[u8], i: usize) -> u64
+    requires { ⌜ i + 8 ≤ length (now text) ⌝ }
+    ensures { λ r. ⌜ Alike values (take (leadingZeros 64 r / 8) (drop i (now (text .entry)))) ⌝ }
+{
+    (codes::eight(text, i) & 0xC0C0_C0C0_C0C0_C0C0) ^ 0x4040_4040_4040_4040
+}
+
+// A number of values that stand in a row at place i: up to seven more may stand at the end of the text, or where `most` comes near.
+fn values_by_eight(text: &[u8], i: usize, most: usize) -> usize
+    requires { ⌜ i ≤ length (now text) ⌝ }
+    ensures { λ r. ⌜ (r ≤ most) × (i + r ≤ length (now (text .entry))) × Alike values (take r (drop i (now (text .entry)))) ⌝ }
+{
+    let mut n: usize = 0;
+    while 8 <= most - n {
+        if text.len() - i - n < 8 {
+            return n;
+        }
+        let others = others_at(text, i + n);
+        if others != 0 {
+            return n + (u64::leading_zeros(others) / 8) as usize;
+        }
+        n += 8;
+    }
+    n
+}
+
+// How many values stand in a row at place i, counted up to as many as one indicator announces.
+fn values_at(text: &[u8], i: usize) -> usize
+    requires { ⌜ i ≤ length (now text) ⌝ }
+    ensures { λ r. ⌜ r ≡ run values 128 (drop i (now (text .entry))) ⌝ }
+{
+    let known = values_by_eight(text, i, Sent::MOST_VALUES);
+    values_from(text, i, Sent::MOST_VALUES, known)
+}
+
+// The first of our indicators of the text from i on: it counts as many characters of the first one's kind as it can.
+fn next_indicator(text: &[u8], i: usize) -> Sent
+    requires { ⌜ (i < length (now text)) × T (coded (getD (now text) i 0)) ⌝ }
+    ensures { λ r. ⌜ FirstOf (drop i (now (text .entry))) r ⌝ }
+{
+    match text[i] {
+        b' ' => {
+            let count = run_of(text, i, b' ', Sent::MOST_REPEATED);
+            Sent {
+                bits: count as u64 - 1,
+                width: 6,
+                values: 0,
+                count,
+            }
+        }
+        b'/' => {
+            let count = run_of(text, i, b'/', Sent::MOST_REPEATED);
+            Sent {
+                bits: count as u64 - 1 + 0x10,
+                width: 6,
+                values: 0,
+                count,
+            }
+        }
+        _ => {
+            let values = values_at(text, i);
+            Sent {
+                bits: values as u64 - 1 + 0x80,
+                width: 8,
+                values,
+                count: 0,
+            }
+        }
+    }
+}
+
+// What an indicator and the values that it announces take: so many bits, for so many characters.
+struct Extent {
+    pub bits: usize,
+    pub count: usize,
+}
+
+// What the first of our indicators of the text from i on takes.
+fn next_extent(text: &[u8], i: usize) -> Extent
+    requires { ⌜ (i < length (now text)) × T (coded (getD (now text) i 0)) ⌝ }
+    ensures { λ r. ⌜ ExtentOf (drop i (now (text .entry))) r ⌝ }
+{
+    let c = text[i];
+    if c < 64 {
+        return Extent {
+            bits: 6,
+            count: run_of(text, i, c, Sent::MOST_REPEATED),
+        };
+    }
+    let values = values_at(text, i);
+    Extent {
+        bits: 8 + 6 * values,
+        count: values,
+    }
+}
+
+// How many bytes our data of the text has, or that one packet does not hold them: the loop ends where that is certain.
+pub fn data_length(text: &[u8]) -> Needed
+    requires { ⌜ Coded (now text) ⌝ }
+    ensures { λ r. ⌜ Needs (written (ours (now (text .entry)))) r ⌝ }
+{
+    let mut i: usize = 0;
+    let mut n: usize = 0;
+    while i < text.len() {
+        let extent = next_extent(text, i);
+        n += extent.bits;
+        if Needed::MOST < n {
+            return Needed::TooMany;
+        }
+        i += extent.count;
+    }
+    Needed::Bytes((n + 7) / 8)
+}
+
+// The values of two characters in a row, from place i on, as one number.
+fn two_values(text: &[u8], i: usize) -> u64
+    requires { ⌜ i + 2 ≤ length (now text) ⌝ }
+    ensures { λ r. ⌜ r ≡ twoValues (now (text .entry)) i ⌝ }
+{
+    (text[i] % 64) as u64 * 64 + (text[i + 1] % 64) as u64
+}
+
+// And of four.
+fn four_values(text: &[u8], i: usize) -> u64
+    requires { ⌜ i + 4 ≤ length (now text) ⌝ }
+    ensures { λ r. ⌜ r ≡ fourValues (now (text .entry)) i ⌝ }
+{
+    let two = (text[i] % 64) as u64 * 64 + (text[i + 1] % 64) as u64;
+    (two * 64 + (text[i + 2] % 64) as u64) * 64 + (text[i + 3] % 64) as u64
+}
+
+// What our writer sends next of the text from i on, where so many values are announced: four of them, two, one, or an indicator.
+fn next_codes(text: &[u8], i: usize, announced: usize) -> Sent
+    requires { ⌜ Coded (now text) × (i < length (now text)) ⌝ }
+    requires { ⌜ (i + announced ≤ length (now text)) × Alike values (take announced (drop i (now text))) ⌝ }
+    ensures { λ r. ⌜ NextOf announced (drop i (now (text .entry))) r ⌝ }
+{
+    if 4 <= announced {
+        return Sent {
+            bits: four_values(text, i),
+            width: 24,
+            values: announced - 4,
+            count: 4,
+        };
+    }
+    if 2 <= announced {
+        return Sent {
+            bits: two_values(text, i),
+            width: 12,
+            values: announced - 2,
+            count: 2,
+        };
+    }
+    if 0 < announced {
+        return Sent {
+            bits: (text[i] % 64) as u64,
+            width: 6,
+            values: announced - 1,
+            count: 1,
+        };
+    }
+    next_indicator(text, i)
+}
+
+// The values of eight characters in a row, from place i on: of the first four in the upper half of a word, of the others in the lower.
+fn gathered(text: &[u8], i: usize) -> u64
+    requires { ⌜ i + 8 ≤ length (now text) ⌝ }
+    ensures { λ r. ⌜ r ≡ fourValues (now (text .entry)) i * 4294967296 + fourValues (now (text .entry)) (i + 4) ⌝ }
+{
+    let word = codes::eight(text, i);
+    let pairs = (word & 0x3f00_3f00_3f00_3f00) / 4 + (word & 0x003f_003f_003f_003f);
+    (pairs & 0x0fff_0000_0fff_0000) / 16 + (pairs & 0x0000_0fff_0000_0fff)
+}
+
+// What is not yet in the buffer, the lowest `have` bits of `held`, and where the next byte goes.
+struct Held {
+    pub n: usize,
+    pub held: u64,
+    pub have: u64,
+}
+
+// `width` bits more, and if four bytes or more are held then, the upper four of them into the buffer.
+fn send(out: &mut [u8], b: Held, bits: u64, width: u64) -> Held
+    requires { ⌜ (b .have < 32) × (width ≤ 24) × (bits < 2 ^ width) × (b .n + (b .have + width) / 8 ≤ length (now out)) ⌝ }
+    ensures { λ r. ⌜ Sends (now (out .entry)) (now (out .exit)) b (low width bits) r ⌝ }
+{
+    let n = b.n;
+    let held = codes::push(b.held, bits, width);
+    let have = b.have + width;
+    if have < 32 {
+        return Held { n, held, have };
+    }
+    codes::spill(out, n, held, have);
+    Held {
+        n: n + 4,
+        held,
+        have: have - 32,
+    }
+}
+
+// The values of eight characters in a row, from place i on, sent at once.
+fn send_eight(text: &[u8], i: usize, out: &mut [u8], b: Held) -> Held
+    requires { ⌜ (i + 8 ≤ length (now text)) × (b .have < 32) × (b .n + (b .have + 48) / 8 ≤ length (now out)) ⌝ }
+    ensures { λ r. ⌜ Sends (now (out .entry)) (now (out .exit)) b (eightValues (now (text .entry)) i) r ⌝ }
+{
+    let values = gathered(text, i);
+    let first = send(out, b, values / 0x1_0000_0000, 24);
+    send(out, first, values % 0x1_0000_0000, 24)
+}
+
+// What our writer builds of the text, at the front of the buffer; how many bytes it is.
+pub fn write(text: &[u8], out: &mut [u8]) -> usize
+    requires { ⌜ Coded (now text) × (length (written (ours (now text))) ≤ length (now out)) ⌝ }
+    ensures { λ r. ⌜ Writes (now (text .entry)) (now (out .entry)) (now (out .exit)) r ⌝ }
+{
+    let mut b = Held {
+        n: 0,
+        held: 0,
+        have: 0,
+    };
+    let mut i: usize = 0;
+    let mut announced: usize = 0;
+    while i < text.len() {
+        if 8 <= announced {
+            b = send_eight(text, i, out, b);
+            i += 8;
+            announced -= 8;
+        } else {
+            let next = next_codes(text, i, announced);
+            b = send(out, b, next.bits, next.width);
+            i += next.count;
+            announced = next.values;
+        }
+    }
+    codes::flush(out, b.n, b.held, b.have)
+}
