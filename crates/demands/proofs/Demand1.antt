@@ -5,15 +5,18 @@
 -- Assumes nothing.
 use mathlib.Core.Bool.{Bool}
 use mathlib.Core.List.{List, [], _∷_, _++_}
-use mathlib.Core.Logic.{_⊎_, inl, inr, ⊎-elim, _↔_}
-use mathlib.Core.Path.{_≡_, refl, sym, ap, ap₂, _∙_, subst}
-use Prim.Native.Nat.{ℕ, _+_, _≤_, _<_}
+use mathlib.Core.Logic.{_⊎_, ⊎-elim, _↔_}
+use mathlib.Core.Path.{_≡_, refl, sym, ap, ap₂, _∙_, subst, subst₂}
+use Prim.Native.Nat.{ℕ, suc, _+_, _≤_, _<_}
+use native.Mathlib.Nat.{eq-or-lt-of-le, le-of-suc-le-suc}
 use native.Mathlib.Omega.{arith}
+use lib.Dec.{T}
 use lib.ListN.{length, getD, take, drop, length-append, length-drop, List·getD-append}
-use lib.Seq.{drop-at, take-append-le, drop-append-le}
+use lib.Seq.{drop-at, length-take-le, getD-take, take-append-le, drop-append-le}
 use Rattle.header.specs.declared.Format.{Format}
+use Rattle.header.specs.declared.Format.the-variants.{Open, PseudoBinary, FullAscii}
 use Rattle.header.specs.Fields.{fieldsIn, wordOf, bytesOf}
-use Rattle.header.specs.Typed.{Typed, formatNumber}
+use Rattle.header.specs.Typed.{Typed}
 use Rattle.header.specs.Valid.{lengthIn}
 use Rattle.mending.specs.Mends.{Near, distance}
 use Rattle.mending.proofs.Unique.{one-near}
@@ -26,31 +29,72 @@ use Rattle.packet.specs.declared.Refusal.{Refusal}
 use Rattle.packet.specs.declared.Refusal.the-variants.{Short, NoHeader, OtherType, OtherLength, CutOff, Checksum, Malformed, NoRoom, NoCode, Empty, TooLong, OtherFormat}
 use Rattle.packet.specs.declared.WriteAnswer.{WriteAnswer}
 use Rattle.packet.specs.declared.WriteAnswer.the-variants.{Written, Refused as NotWritten}
-use Rattle.packet.specs.Data.{Carries, Unreadable, Coded, dataOf}
+use Rattle.packet.specs.Data.{Carries, Unreadable, coded, Coded, Uncoded, dataOf}
+use Rattle.codes.specs.Reading as codes-reading
+use Rattle.codes.specs.Reading.{stuck}
 use Rattle.codes.specs.Size.{longest}
+use Rattle.full_ascii.specs.Table as ascii
+use Rattle.full_ascii.proofs.Writer as ascii-writer
+use Rattle.pseudo_binary.specs.Table as pseudo
+use Rattle.pseudo_binary.proofs.Writer as pseudo-writer
 use Rattle.packet.specs.Packet.{received, dataIn, sumIn, packetOf, headerFor}
-use Rattle.packet.specs.Reader.{Fault, Refuses, Accepts, Reads}
-use Rattle.packet.specs.Refusals.{numberOf}
-use Rattle.packet.specs.Writer.{WriteRefuses, WriteAccepts, Writes, ourPacket}
-use Rattle.packet.proofs.Formats.{readable, never-unreadable, writer-carries, no-fewer}
+use Rattle.packet.specs.Reader.{Fault, Accepts, Reads}
+use Rattle.packet.specs.Refusals.{numberOf, valueOf, Of, First, readerTurn, writerTurn}
+use Rattle.packet.specs.Writer.{WriteFault, Writes, ourPacket}
+use Rattle.packet.proofs.Formats.{carries-coded, readable, never-unreadable, writer-carries, no-fewer}
 use Rattle.packet.proofs.ReadOnce.{reads-one, under}
 use Rattle.packet.proofs.WriteOnce.{writes-one}
 
--- ---- under its stated condition, with none before it, and under no other
+-- ---- each kind of bad input has one refusal number, given under its stated condition and under no other
 
-pub refused-exactly : (packet entry exit : List ℕ) (answer : ReadAnswer) (refusal : Refusal) → Reads packet entry answer exit
-    → (answer ≡ Refused refusal) ↔ Refuses packet (length entry) refusal
-refused-exactly packet entry exit answer refusal reads = (
-  λ e. subst (λ (a : ReadAnswer). Reads packet entry a exit) e reads .0,
-  λ r. reads-one packet entry answer (Refused refusal) exit entry reads (r, refl) .0,
+-- the first match, said of numbers
+numbered : (Fault : Refusal → Type 0) (turn : ℕ → ℕ) (number value : ℕ)
+    → Of (First Fault turn) number value
+    ↔ (Of Fault number value × ((earlier other : ℕ) → turn earlier < turn number → Of Fault earlier other → ⊥))
+numbered Fault turn number value = (
+  λ f. (
+    (f .0, f .1, f .2 .fault),
+    λ earlier other lt g.
+        f .2 .first (g .0)
+        (subst₂ (λ (m n : ℕ). turn m < turn n) (sym (ap (λ (p : ℕ × ℕ). p .0) (g .1))) (sym (ap (λ (p : ℕ × ℕ). p .0) (f .1))) lt)
+        (g .2),
+  ),
+  λ f.
+      let r = f .0 .0 in
+      let e : numberOf r ≡ number = ap (λ (p : ℕ × ℕ). p .0) (f .0 .1) in (
+        r,
+        f .0 .1,
+        record {
+          fault = f .0 .2;
+          first = λ other lt g. f .1 (numberOf other) (valueOf other) (subst (λ (n : ℕ). turn (numberOf other) < turn n) e lt) (other, refl, g);
+        },
+      ),
 )
 
-pub not-written-exactly : (number : ℕ) (sync : Bool) (text entry exit : List ℕ) (answer : WriteAnswer) (refusal : Refusal)
-    → Writes number sync text entry answer exit → (answer ≡ NotWritten refusal) ↔ WriteRefuses number text (length entry) refusal
-not-written-exactly number sync text entry exit answer refusal writes = (
-  λ e. subst (λ (a : WriteAnswer). Writes number sync text entry a exit) e writes .0,
-  λ r. writes-one number sync text entry answer (NotWritten refusal) exit entry writes (r, refl) .0,
-)
+-- the reader answers a refusal number with a value exactly when the condition of that number holds, with that value, and none of a lower number
+pub refused-exactly : (packet entry exit : List ℕ) (answer : ReadAnswer) → Reads packet entry answer exit → (number value : ℕ)
+    → Of (λ refusal. answer ≡ Refused refusal) number value
+    ↔ (Of (Fault packet (length entry)) number value
+    × ((earlier other : ℕ) → readerTurn earlier < readerTurn number → Of (Fault packet (length entry)) earlier other → ⊥))
+refused-exactly packet entry exit answer reads number value =
+    let first = numbered (Fault packet (length entry)) readerTurn number value in (
+      λ a. first .0 (a .0, a .1, subst (λ (b : ReadAnswer). Reads packet entry b exit) (a .2) reads .0),
+      λ f.
+          let r = first .1 f in (r .0, r .1, reads-one packet entry answer (Refused (r .0)) exit entry reads (r .2, refl) .0),
+    )
+
+-- and the writer, where none holds that comes before that number in the order 12, 10, 9, 11, 8
+pub not-written-exactly : (number : ℕ) (sync : Bool) (text entry exit : List ℕ) (answer : WriteAnswer) → Writes number sync text entry answer exit
+    → (refused value : ℕ)
+    → Of (λ refusal. answer ≡ NotWritten refusal) refused value
+    ↔ (Of (WriteFault number text (length entry)) refused value
+    × ((earlier other : ℕ) → writerTurn earlier < writerTurn refused → Of (WriteFault number text (length entry)) earlier other → ⊥))
+not-written-exactly number sync text entry exit answer writes refused value =
+    let first = numbered (WriteFault number text (length entry)) writerTurn refused value in (
+      λ a. first .0 (a .0, a .1, subst (λ (b : WriteAnswer). Writes number sync text entry b exit) (a .2) writes .0),
+      λ f.
+          let r = first .1 f in (r .0, r .1, writes-one number sync text entry answer (NotWritten (r .0)) exit entry writes (r .2, refl) .0),
+    )
 
 -- refusal 7: data that has such a place carries no text, and data that carries no text has such a place
 pub malformed-means : (format : Format) (carried : List ℕ)
@@ -60,6 +104,59 @@ malformed-means format carried = (
   λ none. ⊎-elim (λ r. absurd (none (r .0) (r .1))) (λ u. u) (readable format carried),
 )
 
+-- and its bit is where reading the data, as 01 has it read, is stuck
+abbrev Stops : Format → List ℕ → ℕ → Type 0
+Stops Open carried bit = ⊥
+Stops PseudoBinary carried bit = codes-reading.Reads pseudo.tables carried (stuck bit)
+Stops FullAscii carried bit = codes-reading.Reads ascii.tables carried (stuck bit)
+
+pub malformed-bit : (format : Format) (carried : List ℕ) (bit : ℕ) → Unreadable format carried bit ↔ Stops format carried bit
+malformed-bit Open carried bit = (λ u. u, λ s. s)
+malformed-bit PseudoBinary carried bit = (pseudo-writer.agree .malformed-is-stuck bit carried, pseudo-writer.agree .stuck-is-malformed bit carried)
+malformed-bit FullAscii carried bit = (ascii-writer.agree .malformed-is-stuck bit carried, ascii-writer.agree .stuck-is-malformed bit carried)
+
+-- refusal 9: a text has codes exactly when some data carries it
+pub no-code-means : (format : Format) (text : List ℕ) → Coded format text (length text) ↔ ((carried : List ℕ) × Carries format text carried)
+no-code-means format text =
+    (λ coded. (dataOf format text, writer-carries format text coded), λ c. carries-coded format text (c .0) (c .1))
+
+-- and its index is where the text stops having codes: some data carries what is before it, and none carries that and the character there
+module _ (format : Format) (text : List ℕ) where
+  coded-front : (n : ℕ) → n ≤ length text → Coded format text n ↔ Coded format (take n text) (length (take n text))
+  coded-front n le = (
+    λ h i lt.
+        let below : i < n = omega (arith, length-take-le n text le) in
+        subst (λ (c : ℕ). T (coded format c)) (sym (getD-take n text i 0 below)) (h i below),
+    λ h i lt. subst (λ (c : ℕ). T (coded format c)) (getD-take n text i 0 lt) (h i (omega (arith, length-take-le n text le))),
+  )
+
+  pub no-code-index : (index : ℕ)
+      → Uncoded format text index
+      ↔ ((index < length text) × ((carried : List ℕ) × Carries format (take index text) carried)
+      × ((carried : List ℕ) → Carries format (take (suc index) text) carried → ⊥))
+  no-code-index index = (
+    λ u. (
+      u .there,
+      no-code-means format (take index text) .0 (coded-front index (omega (arith, u .there)) .0 (u .before)),
+      λ carried c. u .none (coded-front (suc index) (u .there) .1 (carries-coded format (take (suc index) text) carried c) index (omega arith)),
+    ),
+    λ p.
+        record {
+          there = p .0;
+          before = coded-front index (omega (arith, p .0)) .1 (no-code-means format (take index text) .1 (p .1));
+          none = λ has.
+              let all = no-code-means format (take (suc index) text) .0 (coded-front (suc index) (p .0) .0 (also p has)) in p .2 (all .0) (all .1);
+        },
+  )
+    where
+      also : (index < length text) × ((carried : List ℕ) × Carries format (take index text) carried)
+          × ((carried : List ℕ) → Carries format (take (suc index) text) carried → ⊥)
+          → T (coded format (getD text index 0)) → Coded format text (suc index)
+      also p has i lt =
+          ⊎-elim (λ e. subst (λ (k : ℕ). T (coded format (getD text k 0))) (sym e) has)
+          (λ less. coded-front index (omega (arith, p .0)) .1 (no-code-means format (take index text) .1 (p .1)) i less)
+          (eq-or-lt-of-le (le-of-suc-le-suc lt))
+
 -- refusal 11: the text fits in no single packet of the format
 pub too-long-means : (format : Format) (text : List ℕ) → Coded format text (length text)
     → (longest < length (dataOf format text)) ↔ ((carried : List ℕ) → Carries format text carried → longest < length carried)
@@ -68,7 +165,7 @@ too-long-means format text coded = (
   λ all. all (dataOf format text) (writer-carries format text coded),
 )
 
--- ---- the lent buffers
+-- ---- a refusal changes no byte of a lent buffer
 
 pub refusal-changes-nothing : (packet entry exit : List ℕ) (refusal : Refusal) → Reads packet entry (Refused refusal) exit → exit ≡ entry
 refusal-changes-nothing packet entry exit refusal reads = reads .1
@@ -77,7 +174,8 @@ pub refusal-writes-nothing : (number : ℕ) (sync : Bool) (text entry exit : Lis
     → Writes number sync text entry (NotWritten refusal) exit → exit ≡ entry
 refusal-writes-nothing number sync text entry exit refusal writes = writes .1
 
--- behind the counted bytes the buffer is as it was
+-- ---- an accepted call writes only the bytes that it counts: behind them the buffer is as it was
+
 pub reads-only-counted : (packet entry exit : List ℕ) (reading : Reading) → Reads packet entry (Accepted reading) exit
     → drop (reading .«text_length») exit ≡ drop (reading .«text_length») entry
 reads-only-counted packet entry exit reading (text, a, e) =
@@ -157,14 +255,16 @@ module _ (packet after : List ℕ) (header : ℕ) (near : Near 2 (received packe
 
   accepts-behind : (room : ℕ) (reading : Reading) (text : List ℕ) → Accepts packet room reading text → Accepts (packet ++ after) room reading text
   accepts-behind room reading text a =
-      let head : a .header ≡ header = one-near (received packet) (a .header) header (a .near) near in
+      let head : a .header ≡ header = one-near (received packet) (a .header) header (a .framed .near) near in
       record {
         header = header;
-        near = near-behind;
-        typed = subst (λ (h : ℕ). Typed (fieldsIn h) (reading .format)) head (a .typed);
-        some = subst (λ (h : ℕ). 1 ≤ lengthIn h) head (a .some);
-        few = subst (λ (h : ℕ). lengthIn h ≤ longest) head (a .few);
-        whole = omega (arith, longer);
+        framed = record {
+          near = near-behind;
+          typed = subst (λ (h : ℕ). Typed (fieldsIn h) (reading .format)) head (a .framed .typed);
+          some = subst (λ (h : ℕ). 1 ≤ lengthIn h) head (a .framed .some);
+          few = subst (λ (h : ℕ). lengthIn h ≤ longest) head (a .framed .few);
+          whole = omega (arith, longer);
+        };
         summed = same-sum ∙ subst (λ (h : ℕ). sumIn h packet ≡ sent (dataIn h packet)) head (a .summed) ∙ ap sent (sym same-data);
         carries = subst (Carries (reading .format) text) (ap (λ (h : ℕ). dataIn h packet) head ∙ sym same-data) (a .carries);
         held = a .held;

@@ -7,7 +7,7 @@ use mathlib.Core.Bool.{Bool}
 use mathlib.Core.List.{List, [], _∷_, _++_, append-assoc}
 use mathlib.Core.Logic.{_≢_}
 use mathlib.Core.Path.{_≡_, refl, sym, ap, _∙_, subst}
-use Prim.Native.Nat.{ℕ, _+_, _/_, _%_, _^_, _≤_, _<_}
+use Prim.Native.Nat.{ℕ, _/_, _%_, _≤_}
 use lib.ListN.{length, drop}
 use Rattle.bits.specs.Row.{Bytes}
 use Rattle.header.specs.declared.Format.{Format}
@@ -16,7 +16,6 @@ use Rattle.mending.specs.Mends.{distance}
 use Rattle.checksum.specs.Alike.{AlikeBut}
 use Rattle.checksum.specs.Checksum.{checksumOf, sent}
 use Rattle.checksum.proofs.Detect.{sent-detects}
-use Rattle.packet.specs.declared.Reading.{Reading}
 use Rattle.packet.specs.declared.ReadAnswer.{ReadAnswer}
 use Rattle.packet.specs.declared.ReadAnswer.the-variants.{Accepted, Refused}
 use Rattle.packet.specs.declared.Refusal.the-variants.{Checksum}
@@ -25,11 +24,11 @@ use Rattle.packet.specs.Packet.{received, packetOf, headerFor}
 use Rattle.packet.specs.Reader.{Refuses, Reads}
 use Rattle.packet.proofs.ReadOnce.{reads-one}
 use Rattle.packet.proofs.Sent.{arrived, received-is, header-valid, sentReading, sent-accepted, sent-refused}
-use Rattle.demands.specs.Makers.{Made, Flipped, arriving}
+use Rattle.demands.specs.Makers.{Made, Flipped, arriving, readingOf}
 
 module _ (format : Format) (sync : Bool) (text packet : List ℕ) (made : Made format sync text packet) where
   -- the packet is the header that was sent, the data and the checksum
-  packet-header : received packet ≡ headerFor format sync (length (made .carried))
+  pub packet-header : received packet ≡ headerFor format sync (length (made .carried))
   unfolding packetOf sent
   packet-header =
       ap received (made .is)
@@ -49,15 +48,7 @@ module _ (format : Format) (sync : Bool) (text packet : List ℕ) (made : Made f
     (after entry exit : List ℕ) (answer : ReadAnswer) where
   -- with data and checksum intact and room for the text: exactly the text, format and sync bit, and the number of changed bits
   pub intact : length text ≤ length entry → Reads (arriving word packet after) entry answer exit
-      → (answer ≡ Accepted
-      (record {
-        format = format;
-        sync = sync;
-        mended = distance word (received packet);
-        «data_length» = length (made .carried);
-        «text_length» = length text;
-        used = length (made .carried) + 6;
-      }))
+      → (answer ≡ Accepted (readingOf format sync (distance word (received packet)) (length (made .carried)) (length text)))
       × (exit ≡ text ++ drop (length text) entry)
   unfolding sent
   intact held reads =
@@ -70,17 +61,7 @@ module _ (format : Format) (sync : Bool) (text packet : List ℕ) (made : Made f
       (Accepted (sentReading format sync word (made .carried) low high after (made .some) (made .few) (flipped .bits) (near format sync text packet made word flipped) (length text))) exit
       (text ++ drop (length text) entry) (subst (λ (p : List ℕ). Reads p entry answer exit) (arrives format sync text packet made word after) reads) (text, accepts, refl) in (
         once .0
-            ∙ ap
-            (λ (h : ℕ).
-            Accepted
-            (record {
-              format = format;
-              sync = sync;
-              mended = distance word h;
-              «data_length» = length (made .carried);
-              «text_length» = length text;
-              used = length (made .carried) + 6;
-            })) (sym (packet-header format sync text packet made)),
+            ∙ ap (λ (h : ℕ). Accepted (readingOf format sync (distance word h) (length (made .carried)) (length text))) (sym (packet-header format sync text packet made)),
         once .1,
       )
 
@@ -91,12 +72,12 @@ refused packet entry exit answer refuses reads = reads-one packet entry answer (
 
 module _ (format : Format) (sync : Bool) (text packet : List ℕ) (made : Made format sync text packet) (word : ℕ) (flipped : Flipped packet word)
     (after entry exit : List ℕ) (answer : ReadAnswer) where
-  -- one data byte changed, or two neighbouring ones
-  pub damaged-data : (place : ℕ) (other : List ℕ) → Bytes other → AlikeBut place other (made .carried) → other ≢ made .carried
+  -- one data byte changed, or two neighbouring ones, and what was sent and what came are bytes
+  pub damaged-data : (place : ℕ) (other : List ℕ) → Bytes (made .carried) → Bytes other → AlikeBut place other (made .carried) → other ≢ made .carried
       → Reads (bytesOf word ++ (other ++ (sent (made .carried) ++ after))) entry answer exit
       → (answer ≡ Refused Checksum) × (exit ≡ entry)
   unfolding sent
-  damaged-data place other bytes alike differs reads =
+  damaged-data place other bytes other-bytes alike differs reads =
       let low = checksumOf (made .carried) % 256 in
       let high = checksumOf (made .carried) / 256 in
       let long : length other ≡ length (made .carried) = alike .same-length in
@@ -104,7 +85,7 @@ module _ (format : Format) (sync : Bool) (text packet : List ℕ) (made : Made f
       (sent-refused format sync word other low high after (subst (λ (n : ℕ). 1 ≤ n) (sym long) (made .some))
       (subst (λ (n : ℕ). n ≤ longest) (sym long) (made .few)) (flipped .bits)
       (subst (λ (n : ℕ). distance word (headerFor format sync n) ≤ 2) (sym long) (near format sync text packet made word flipped))
-      (λ e. differs (sent-detects alike bytes (made .bytes) (sym e))) (length entry))
+      (λ e. sent-detects alike other-bytes bytes differs (sym e)) (length entry))
       reads
 
   -- one or both checksum bytes changed

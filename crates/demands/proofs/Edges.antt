@@ -1,33 +1,39 @@
 -- Every row of the table of edges holds.
 -- Assumes nothing.
-use mathlib.Core.Bool.{Bool, true, false, not}
+use mathlib.Core.Bool.{Bool, true, false, not, _&&_}
 use mathlib.Core.List.{List, [], _∷_, _++_}
-use mathlib.Core.Path.{_≡_, refl, sym, subst}
-use Prim.Native.Nat.{ℕ, zero, suc, _+_, _*_, _%_, _^_, _<_, _≤_}
-use lib.Bits.{bitXor, xor-lt}
+use mathlib.Core.Path.{_≡_, refl, sym, ap₂, subst}
+use Prim.Native.Nat.{ℕ, zero, suc, _%_, _^_, _<_, _≤_}
+use native.Mathlib.Omega.{arith}
+use lib.Bits.{xor-lt}
 use lib.Count.{onesIn}
-use borrow.Author.Tests.{eqb-false}
-use lib.Dec.{T, T-not, eqb, eqb→eq, eqb-refl, lit<, lit≤}
-use lib.ListN.{length, replicate}
+use lib.Dec.{T, T-not, leb, ltb, eqb, leb→le, ltb→lt, eqb→eq, eqb-refl}
+use lib.ListN.{length, length-append}
 use lib.Pow.{pow-lt}
 use Rattle.bits.specs.Row.{bits}
-use Rattle.bits.specs.Word.{bit, flip, differences}
-use Rattle.bits.proofs.Said.{both, both-left, both-right}
+use Rattle.bits.specs.Word.{bit, differences}
+use Rattle.bits.proofs.Ones.{flip}
+use Rattle.bits.proofs.Said.{and-left, and-right, and-both}
+use Rattle.header.specs.declared.Format.{Format}
 use Rattle.header.specs.declared.Format.the-variants.{Open, PseudoBinary, FullAscii}
+use Rattle.header.specs.declared.Header.{Header}
 use Rattle.header.specs.Check.{generator, remainder, checkOf}
 use Rattle.header.specs.Flag.{Odd, flagBits, spareIn, syncIn, extendedIn, messageIn, parityFor}
 use Rattle.header.specs.Valid.{Valid, flagIn, lengthIn, checkIn, informationIn}
 use Rattle.header.specs.Fields.{fieldsIn, headerOf, lowFlag, bytesOf}
-use Rattle.mending.specs.Mends.{distance, Near}
+use Rattle.header.specs.Typed.{Typed, formatNumber}
+use Rattle.mending.specs.declared.Mending.the-variants.{Mended}
+use Rattle.mending.specs.Mends.{distance, Near, Mends}
 use Rattle.mending.proofs.All.{all, all-at}
 use Rattle.mending.proofs.Search.{none-at, none-around}
-use Rattle.codes.specs.Chain.{after, codes}
+use Rattle.codes.specs.Chain.{Tables, after, codes, Builds, Stuck}
 use Rattle.codes.specs.Pack.{low, numbers, value, bytes, packed, gap, filled, written}
+use Rattle.codes.specs.Size.{longest}
 use Rattle.codes.proofs.Begin.{begun}
 use Rattle.codes.proofs.Every.{every}
 use Rattle.codes.proofs.Fill.{fills}
 use Rattle.codes.proofs.Search.{find}
-use Rattle.codes.proofs.Reading.{Means, answer, always}
+use Rattle.codes.proofs.Reading.{Answer, text as reads-text, stuck as reads-stuck, Means, answer, always}
 use Rattle.full_ascii.specs.Table as ascii
 use Rattle.full_ascii.specs.Writer as ascii-writer
 use Rattle.full_ascii.proofs.Table as ascii-table
@@ -35,30 +41,29 @@ use Rattle.pseudo_binary.specs.Table as pseudo
 use Rattle.pseudo_binary.specs.Writer as pseudo-writer
 use Rattle.pseudo_binary.proofs.Table as pseudo-table
 use Rattle.packet.specs.declared.Refusal.the-variants.{NoHeader, OtherType}
+use Rattle.packet.specs.Data.{Carries, Unreadable, dataOf}
 use Rattle.packet.specs.Packet.{received, headerFor}
+use Rattle.packet.specs.Reader.{Refuses}
+use Rattle.packet.proofs.Sent.{header-valid, header-typed, header-length, header-sync}
 use Rattle.packet.proofs.Stages.{clear-two, clear-three}
-use Rattle.demands.specs.Edges.{checks, heads, mends, refuses, writes, carries, stops, Holds, edges, Every}
+use Rattle.demands.specs.Edges.{Edge, checks, heads, reads, hopeless, foreign, writes, carries, stops, Holds, edges, Every}
 
 -- ---- that no valid header lies near a word, as one computed test
 
 valid : ℕ → Bool
-valid h = both (eqb (onesIn 8 (flagIn h) % 2) 1) (eqb (checkIn h) (checkOf (informationIn h)))
-
-both-in : (a b : Bool) → T a → T b → T (both a b)
-both-in true b s t = t
-both-in false b s t = s
+valid h = eqb (onesIn 8 (flagIn h) % 2) 1 && eqb (checkIn h) (checkOf (informationIn h))
 
 valid-test : (h : ℕ) → Valid h → T (valid h)
 unfolding valid Odd
 valid-test h v =
-    both-in (eqb (onesIn 8 (flagIn h) % 2) 1) (eqb (checkIn h) (checkOf (informationIn h)))
+    and-both (eqb (onesIn 8 (flagIn h) % 2) 1) (eqb (checkIn h) (checkOf (informationIn h)))
     (subst (λ (n : ℕ). T (eqb n 1)) (sym (v .parity)) tt)
     (subst (λ (n : ℕ). T (eqb (checkIn h) n)) (v .checked) (eqb-refl (checkIn h)))
 
 -- no valid header within so many bits
 none : ℕ → ℕ → Bool
 none zero h = not (valid h)
-none (suc limit) h = both (not (valid h)) (all (λ k. none limit (flip k h)) 32)
+none (suc limit) h = not (valid h) && all (λ k. none limit (flip k h)) 32
 
 flip-lt : (k h : ℕ) → k < 32 → h < 2 ^ 32 → flip k h < 2 ^ 32
 unfolding flip
@@ -68,115 +73,208 @@ none-near : (limit h : ℕ) → h < 2 ^ 32 → T (none limit h) → (v : ℕ) �
 unfolding none
 none-near zero h lt t = none-at h lt (λ v. T-not (valid h) t (valid-test h v))
 none-near (suc limit) h lt t =
-    none-around limit h lt (λ v. T-not (valid h) (both-left (not (valid h)) (all (λ k. none limit (flip k h)) 32) t) (valid-test h v))
+    none-around limit h lt (λ v. T-not (valid h) (and-left (not (valid h)) (all (λ k. none limit (flip k h)) 32) t) (valid-test h v))
     (λ k below.
     none-near limit (flip k h) (flip-lt k h below lt)
-    (all-at (λ k. none limit (flip k h)) 32 (both-right (not (valid h)) (all (λ k. none limit (flip k h)) 32) t) k below))
+    (all-at (λ k. none limit (flip k h)) 32 (and-right (not (valid h)) (all (λ k. none limit (flip k h)) 32) t) k below))
 
--- ---- the rows
-
-p1 : Holds (checks 0xC4 107 0x285 (0x01 ∷ 0xAE ∷ 0x85 ∷ []))
-unfolding checkOf remainder generator bytesOf
-p1 = (refl, refl)
-
-p2 : Holds (heads Open false 1 (0x40 ∷ 0x00 ∷ 0x04 ∷ 0xDD ∷ []))
-unfolding checkOf remainder generator bytesOf headerFor headerOf lowFlag parityFor onesIn
-p2 = refl
-
-p3 : Holds (heads Open false 4000 (0x40 ∷ 0x3E ∷ 0x80 ∷ 0xD1 ∷ []))
-unfolding checkOf remainder generator bytesOf headerFor headerOf lowFlag parityFor onesIn
-p3 = refl
-
-p4 : Holds (heads FullAscii false 1 (0xD0 ∷ 0x00 ∷ 0x04 ∷ 0x30 ∷ []))
-unfolding checkOf remainder generator bytesOf headerFor headerOf lowFlag parityFor onesIn
-p4 = refl
+-- ---- headers, by computed tests
 
 valid-by-test : (h : ℕ) → h < 2 ^ 32 → T (valid h) → Valid h
 unfolding valid Odd
 valid-by-test h lt t =
     record {
       bits = lt;
-      checked = eqb→eq (checkIn h) (checkOf (informationIn h)) (both-right (eqb (onesIn 8 (flagIn h) % 2) 1) (eqb (checkIn h) (checkOf (informationIn h))) t);
-      parity = eqb→eq (onesIn 8 (flagIn h) % 2) 1 (both-left (eqb (onesIn 8 (flagIn h) % 2) 1) (eqb (checkIn h) (checkOf (informationIn h))) t);
+      checked = eqb→eq (checkIn h) (checkOf (informationIn h)) (and-right (eqb (onesIn 8 (flagIn h) % 2) 1) (eqb (checkIn h) (checkOf (informationIn h))) t);
+      parity = eqb→eq (onesIn 8 (flagIn h) % 2) 1 (and-left (eqb (onesIn 8 (flagIn h) % 2) 1) (eqb (checkIn h) (checkOf (informationIn h))) t);
     }
 
-p5 : Holds (mends 0xC10004DD 0x400004DD 2)
-unfolding valid onesIn flagIn checkIn checkOf informationIn lengthIn remainder generator distance differences
-p5 = (record { valid = valid-by-test 0x400004DD (lit< tt) tt; near = lit≤ tt }, refl)
+mends-by-test : (h v bits : ℕ) → Valid v → T (_&&_ (leb (distance h v) 2) (eqb bits (distance h v))) → Mends h (Mended v bits)
+mends-by-test h v bits valid t = (
+  record { valid = valid; near = leb→le (distance h v) 2 (and-left (leb (distance h v) 2) (eqb bits (distance h v)) t) },
+  eqb→eq bits (distance h v) (and-right (leb (distance h v) 2) (eqb bits (distance h v)) t),
+)
 
-p7 : Holds (mends 0x00000000 0x80000000 1)
-unfolding valid onesIn flagIn checkIn checkOf informationIn lengthIn remainder generator distance differences
-p7 = (record { valid = valid-by-test 0x80000000 (lit< tt) tt; near = lit≤ tt }, refl)
+-- a header of this format
+ours : Header → Format → Bool
+ours f format = _&&_ (not (f .spare)) (_&&_ (eqb (f .message) 2) (eqb (f .extended) (formatNumber format)))
 
-p6-computed : T (none 2 0x400004DA)
-unfolding none all valid flip onesIn flagIn checkIn checkOf informationIn lengthIn remainder generator
-p6-computed = tt
+ours-test : (f : Header) (format : Format) → Typed f format → T (ours f format)
+unfolding ours
+ours-test f format t =
+    and-both (not (f .spare)) (_&&_ (eqb (f .message) 2) (eqb (f .extended) (formatNumber format))) (subst (λ (b : Bool). T (not b)) (sym (t .spare)) tt)
+    (and-both (eqb (f .message) 2) (eqb (f .extended) (formatNumber format)) (subst (λ (n : ℕ). T (eqb n 2)) (sym (t .message)) tt)
+    (subst (λ (n : ℕ). T (eqb n (formatNumber format))) (sym (t .extended)) (eqb-refl (formatNumber format))))
 
-p6 : Holds (refuses (0x40 ∷ 0x00 ∷ 0x04 ∷ 0xDA ∷ []) NoHeader)
+-- or of none of ours
+other : Header → Bool
+other f = _&&_ (not (ours f Open)) (_&&_ (not (ours f PseudoBinary)) (not (ours f FullAscii)))
+
+other-none : (f : Header) → T (other f) → (format : Format) → Typed f format → ⊥
+unfolding other
+other-none f t Open typed =
+    T-not (ours f Open) (and-left (not (ours f Open)) (_&&_ (not (ours f PseudoBinary)) (not (ours f FullAscii))) t) (ours-test f Open typed)
+other-none f t PseudoBinary typed =
+    let two = and-right (not (ours f Open)) (_&&_ (not (ours f PseudoBinary)) (not (ours f FullAscii))) t in
+    T-not (ours f PseudoBinary) (and-left (not (ours f PseudoBinary)) (not (ours f FullAscii)) two) (ours-test f PseudoBinary typed)
+other-none f t FullAscii typed =
+    let two = and-right (not (ours f Open)) (_&&_ (not (ours f PseudoBinary)) (not (ours f FullAscii))) t in
+    T-not (ours f FullAscii) (and-right (not (ours f PseudoBinary)) (not (ours f FullAscii)) two) (ours-test f FullAscii typed)
+
+-- what starts with four bytes has their word
+front-word : (head after : List ℕ) → length head ≡ 4 → received (head ++ after) ≡ received head
 unfolding received
-p6 room =
-    record {
-      fault = none-near 2 0x400004DA (lit< tt) p6-computed;
-      first = clear-two (0x40 ∷ 0x00 ∷ 0x04 ∷ 0xDA ∷ []) room (lit≤ tt);
-    }
+front-word (a ∷ b ∷ c ∷ d ∷ []) after e = refl
+front-word (a ∷ b ∷ c ∷ d ∷ x ∷ l) after e = absurd (let no′ : ⊥ = omega arith in no′)
+front-word (a ∷ b ∷ c ∷ []) after e = absurd (let no′ : ⊥ = omega arith in no′)
+front-word (a ∷ b ∷ []) after e = absurd (let no′ : ⊥ = omega arith in no′)
+front-word (a ∷ []) after e = absurd (let no′ : ⊥ = omega arith in no′)
+front-word [] after e = absurd (let no′ : ⊥ = omega arith in no′)
 
-p7-refused : Holds (refuses (0x00 ∷ 0x00 ∷ 0x00 ∷ 0x00 ∷ []) OtherType)
-unfolding received fieldsIn flagIn messageIn flagBits
-p7-refused room =
-    record {
-      fault = (0x80000000, p7 .0, λ format o. eqb-false 0 2 refl (o .message));
-      first = clear-three (0x00 ∷ 0x00 ∷ 0x00 ∷ 0x00 ∷ []) room 0x80000000 (p7 .0) (lit≤ tt);
-    }
+module _ (head : List ℕ) (four : length head ≡ 4) (after : List ℕ) (room : ℕ) where
+  enough : 4 ≤ length (head ++ after)
+  enough = omega (arith, length-append head after)
 
--- ---- data of the compact kinds: a reading that computes, and what our writer makes of the text that was read
+  refuses-hopeless : ((header : ℕ) → Near 2 (received head) header → ⊥) → Refuses (head ++ after) room NoHeader
+  refuses-hopeless far =
+      record {
+        fault = λ header near. far header (subst (λ (w : ℕ). Near 2 w header) (front-word head after four) near);
+        first = clear-two (head ++ after) room enough;
+      }
 
-pseudo-read : (sent : List ℕ) → Means pseudo.tables 0 (bits sent) (answer pseudo.tables (length (bits sent)) 0 (bits sent))
-pseudo-read sent = always pseudo-table.laws 0 (bits sent)
+  refuses-foreign : (header : ℕ) → Near 2 (received head) header → ((format : Format) → Typed (fieldsIn header) format → ⊥)
+      → Refuses (head ++ after) room OtherType
+  refuses-foreign header near none =
+      let near′ : Near 2 (received (head ++ after)) header = subst (λ (w : ℕ). Near 2 w header) (sym (front-word head after four)) near in
+      record { fault = (header, near′, none); first = clear-three (head ++ after) room header near′ enough }
 
-ascii-read : (sent : List ℕ) → Means ascii.tables 0 (bits sent) (answer ascii.tables (length (bits sent)) 0 (bits sent))
-ascii-read sent = always ascii-table.laws 0 (bits sent)
+-- ---- data, by a reading that computes
 
-p8 : Holds (writes PseudoBinary (65 ∷ 66 ∷ []) (0x81 ∷ 0x04 ∷ 0x2F ∷ []))
-unfolding bits bit low numbers every begun fills find answer after codes value bytes packed gap filled written pseudo.of pseudo.valueOf pseudo.characterOf pseudo.indicator pseudo.most pseudo.indicators pseudo.six pseudo.tables pseudo-writer.kind pseudo-writer.run pseudo-writer.besides pseudo-writer.oursAfter pseudo-writer.ours
-p8 = (refl, pseudo-read (0x81 ∷ 0x04 ∷ 0x2F ∷ []))
+same : List ℕ → List ℕ → Bool
+same [] [] = true
+same [] (d ∷ m) = false
+same (c ∷ l) [] = false
+same (c ∷ l) (d ∷ m) = _&&_ (eqb c d) (same l m)
 
-p9-sixteen : Holds (writes PseudoBinary (replicate 16 47) (0x7F ∷ []))
-unfolding bits bit low numbers every begun fills find answer after codes value bytes packed gap filled written pseudo.of pseudo.valueOf pseudo.characterOf pseudo.indicator pseudo.most pseudo.indicators pseudo.six pseudo.tables pseudo-writer.kind pseudo-writer.run pseudo-writer.besides pseudo-writer.oursAfter pseudo-writer.ours
-p9-sixteen = (refl, pseudo-read (0x7F ∷ []))
+same-is : (l m : List ℕ) → T (same l m) → l ≡ m
+unfolding same
+same-is [] [] t = refl
+same-is [] (d ∷ m) t = absurd t
+same-is (c ∷ l) [] t = absurd t
+same-is (c ∷ l) (d ∷ m) t =
+    ap₂ (λ (x : ℕ) (y : List ℕ). x ∷ y) (eqb→eq c d (and-left (eqb c d) (same l m) t)) (same-is l m (and-right (eqb c d) (same l m) t))
 
-p9-seventeen : Holds (writes PseudoBinary (replicate 17 47) (0x7D ∷ 0x0F ∷ []))
-unfolding bits bit low numbers every begun fills find answer after codes value bytes packed gap filled written pseudo.of pseudo.valueOf pseudo.characterOf pseudo.indicator pseudo.most pseudo.indicators pseudo.six pseudo.tables pseudo-writer.kind pseudo-writer.run pseudo-writer.besides pseudo-writer.oursAfter pseudo-writer.ours
-p9-seventeen = (refl, pseudo-read (0x7D ∷ 0x0F ∷ []))
+reading : Format → List ℕ → Answer
+reading Open carried = reads-text carried
+reading PseudoBinary carried = answer pseudo.tables (length (bits carried)) 0 (bits carried)
+reading FullAscii carried = answer ascii.tables (length (bits carried)) 0 (bits carried)
 
-p10 : Holds (carries PseudoBinary (replicate 4 47 ++ (replicate 4 32 ++ (replicate 4 47 ++ replicate 4 32))) (0x4C ∷ 0x34 ∷ 0xC3 ∷ []))
-unfolding bits bit low numbers every begun fills find answer after codes value bytes packed gap filled written pseudo.of pseudo.valueOf pseudo.characterOf pseudo.indicator pseudo.most pseudo.indicators pseudo.six pseudo.tables pseudo-writer.kind pseudo-writer.run pseudo-writer.besides pseudo-writer.oursAfter pseudo-writer.ours
-p10 = pseudo-read (0x4C ∷ 0x34 ∷ 0xC3 ∷ [])
+comes-to : Answer → List ℕ → Bool
+comes-to (reads-text t) text = same t text
+comes-to (reads-stuck i) text = false
 
-p11 : Holds (stops PseudoBinary (0xFF ∷ []) 8)
-unfolding bits bit low numbers every begun fills find answer after codes value bytes packed gap filled written pseudo.of pseudo.valueOf pseudo.characterOf pseudo.indicator pseudo.most pseudo.indicators pseudo.six pseudo.tables pseudo-writer.kind pseudo-writer.run pseudo-writer.besides pseudo-writer.oursAfter pseudo-writer.ours
-p11 = pseudo-read (0xFF ∷ [])
+stuck-at : Answer → ℕ → Bool
+stuck-at (reads-text t) bit = false
+stuck-at (reads-stuck i) bit = eqb i bit
 
-p12-one : Holds (writes FullAscii (65 ∷ []) (0x83 ∷ []))
-unfolding bits bit low numbers every begun fills find answer after codes value bytes packed gap filled written ascii.six ascii.seven ascii.special ascii.pair ascii.table ascii-writer.own ascii-writer.ours
-p12-one = (refl, ascii-read (0x83 ∷ []))
+to-text : (tables : Tables) (bs : List ℕ) (a : Answer) (text : List ℕ) → Means tables 0 bs a → T (comes-to a text) → Builds tables 0 bs text
+unfolding comes-to
+to-text tables bs (reads-text t) text m p = subst (Builds tables 0 bs) (same-is t text p) m
+to-text tables bs (reads-stuck i) text m p = absurd p
 
-p12-two : Holds (writes FullAscii (65 ∷ 66 ∷ []) (0x83 ∷ 0x0B ∷ []))
-unfolding bits bit low numbers every begun fills find answer after codes value bytes packed gap filled written ascii.six ascii.seven ascii.special ascii.pair ascii.table ascii-writer.own ascii-writer.ours
-p12-two = (refl, ascii-read (0x83 ∷ 0x0B ∷ []))
+to-place : (tables : Tables) (bs : List ℕ) (a : Answer) (bit : ℕ) → Means tables 0 bs a → T (stuck-at a bit) → Stuck tables 0 bs bit
+unfolding stuck-at
+to-place tables bs (reads-text t) bit m p = absurd p
+to-place tables bs (reads-stuck i) bit m p = subst (Stuck tables 0 bs) (eqb→eq i bit p) m
 
-p13 : Holds (writes FullAscii (65 ∷ 13 ∷ 10 ∷ []) (0x83 ∷ 0xFF ∷ []))
-unfolding bits bit low numbers every begun fills find answer after codes value bytes packed gap filled written ascii.six ascii.seven ascii.special ascii.pair ascii.table ascii-writer.own ascii-writer.ours
-p13 = (refl, ascii-read (0x83 ∷ 0xFF ∷ []))
+carries-by-test : (format : Format) (text carried : List ℕ) → T (comes-to (reading format carried) text) → Carries format text carried
+unfolding reading comes-to
+carries-by-test Open text carried p = same-is carried text p
+carries-by-test PseudoBinary text carried p = to-text pseudo.tables (bits carried) (reading PseudoBinary carried) text (always pseudo-table.laws 0 (bits carried)) p
+carries-by-test FullAscii text carried p = to-text ascii.tables (bits carried) (reading FullAscii carried) text (always ascii-table.laws 0 (bits carried)) p
 
-p14 : Holds (writes FullAscii (13 ∷ 10 ∷ []) (0xFF ∷ 0xFF ∷ []))
-unfolding bits bit low numbers every begun fills find answer after codes value bytes packed gap filled written ascii.six ascii.seven ascii.special ascii.pair ascii.table ascii-writer.own ascii-writer.ours
-p14 = (refl, ascii-read (0xFF ∷ 0xFF ∷ []))
+stops-by-test : (format : Format) (carried : List ℕ) (bit : ℕ) → T (stuck-at (reading format carried) bit) → Unreadable format carried bit
+unfolding reading stuck-at
+stops-by-test Open carried bit p = p
+stops-by-test PseudoBinary carried bit p = to-place pseudo.tables (bits carried) (reading PseudoBinary carried) bit (always pseudo-table.laws 0 (bits carried)) p
+stops-by-test FullAscii carried bit p = to-place ascii.tables (bits carried) (reading FullAscii carried) bit (always ascii-table.laws 0 (bits carried)) p
 
-p15 : Holds (stops FullAscii (0xFF ∷ []) 0)
-unfolding bits bit low numbers every begun fills find answer after codes value bytes packed gap filled written ascii.six ascii.seven ascii.special ascii.pair ascii.table ascii-writer.own ascii-writer.ours
-p15 = ascii-read (0xFF ∷ [])
+-- ---- the rows
+
+-- tests that pass, one after the other
+every-test : List Bool → Bool
+every-test [] = true
+every-test (b ∷ bs) = b && every-test bs
+
+tests : Edge → List Bool
+tests (checks flag length check bytes) =
+    let h = received (flag ∷ bytes) in
+    ltb h (2 ^ 32) ∷ valid h ∷ eqb (flagIn h) flag ∷ eqb (lengthIn h) length ∷ eqb (checkIn h) check ∷ []
+tests (heads format sync length bytes) = same (bytesOf (headerFor format sync length)) bytes ∷ []
+tests (reads head format sync length mended) =
+    let d = distance (received head) (headerFor format sync length) in leb length longest ∷ _&&_ (leb d 2) (eqb mended d) ∷ []
+tests (hopeless head) = eqb (length head) 4 ∷ ltb (received head) (2 ^ 32) ∷ none 2 (received head) ∷ []
+tests (foreign head header mended) =
+    let h = received header in
+    let d = distance (received head) h in
+    eqb (length head) 4 ∷ ltb h (2 ^ 32) ∷ valid h ∷ _&&_ (leb d 2) (eqb mended d) ∷ other (fieldsIn h) ∷ []
+tests (writes format text carried) = same (dataOf format text) carried ∷ comes-to (reading format carried) text ∷ []
+tests (carries format text carried) = comes-to (reading format carried) text ∷ []
+tests (stops format carried bit) = stuck-at (reading format carried) bit ∷ []
+
+Passed : List Bool → Type 0
+Passed [] = Unit {0}
+Passed (b ∷ bs) = T b × Passed bs
+
+passed : (bs : List Bool) → T (every-test bs) → Passed bs
+unfolding every-test Passed
+passed [] t = tt
+passed (b ∷ bs) t = (and-left b (every-test bs) t, passed bs (and-right b (every-test bs) t))
+
+-- a row whose tests pass holds
+row-holds : (e : Edge) → Passed (tests e) → Holds e
+unfolding tests Passed
+row-holds (checks flag length check bytes) (small, (v, (f, (l, (c, t))))) =
+    let h = received (flag ∷ bytes) in
+    (valid-by-test h (ltb→lt h (2 ^ 32) small) v, eqb→eq (flagIn h) flag f, eqb→eq (lengthIn h) length l, eqb→eq (checkIn h) check c)
+row-holds (heads format sync length bytes) (p, t) = same-is (bytesOf (headerFor format sync length)) bytes p
+row-holds (reads head format sync length mended) (small, (near, t)) =
+    let few = leb→le length longest small in
+    let header = headerFor format sync length in (
+      mends-by-test (received head) header mended (header-valid format sync length few) near,
+      header-typed format sync length few,
+      header-sync format sync length few,
+      header-length format sync length few,
+    )
+row-holds (hopeless head) (four, (small, (far, t))) = λ after room.
+    refuses-hopeless head (eqb→eq (length head) 4 four) after room (none-near 2 (received head) (ltb→lt (received head) (2 ^ 32) small) far)
+row-holds (foreign head header mended) (four, (small, (v, (near, (none, t))))) =
+    let h = received header in
+    let mends = mends-by-test (received head) h mended (valid-by-test h (ltb→lt h (2 ^ 32) small) v) near in
+    (mends, λ after room. refuses-foreign head (eqb→eq (length head) 4 four) after room h (mends .0) (other-none (fieldsIn h) none))
+row-holds (writes format text carried) (made, (read, t)) = (same-is (dataOf format text) carried made, carries-by-test format text carried read)
+row-holds (carries format text carried) (read, t) = carries-by-test format text carried read
+row-holds (stops format carried bit) (read, t) = stops-by-test format carried bit read
+
+every-row : List Edge → List Bool
+every-row [] = []
+every-row (e ∷ es) = every-test (tests e) ∷ every-row es
+
+rows-hold : (es : List Edge) → Passed (every-row es) → Every es
+unfolding every-row Passed
+rows-hold [] t = tt
+rows-hold (e ∷ es) (p, t) = (row-holds e (passed (tests e) p), rows-hold es t)
+
+-- every row's tests, computed: one `tt` a row
+computed : Passed (every-row edges)
+unfolding Passed every-row every-test tests same other ours reading comes-to stuck-at none all valid flip onesIn Odd received distance differences
+    flagIn checkIn checkOf informationIn lengthIn remainder generator bytesOf headerFor headerOf lowFlag parityFor fieldsIn messageIn extendedIn spareIn syncIn flagBits
+    bits bit low numbers every begun fills find answer after codes value bytes packed gap filled written
+    pseudo.of pseudo.valueOf pseudo.characterOf pseudo.indicator pseudo.most pseudo.indicators pseudo.six pseudo.tables
+    pseudo-writer.kind pseudo-writer.run pseudo-writer.besides pseudo-writer.oursAfter pseudo-writer.ours
+    ascii.six ascii.seven ascii.special ascii.pair ascii.table ascii-writer.own ascii-writer.ours
+computed = (tt, (tt, (tt, (tt, (tt, (tt, (tt, (tt, (tt, (tt, (tt, (tt, (tt, (tt, (tt, (tt, (tt, tt)))))))))))))))))
 
 -- the one statement: every row of the table
 pub edges-hold : Every edges
-edges-hold =
-    (p1, (p2, (p3, (p4, (p5, (p6, (p7, (p7-refused, (p8, (p9-sixteen, (p9-seventeen, (p10, (p11, (p12-one, (p12-two, (p13, (p14, (p15, tt))))))))))))))))))
+edges-hold = rows-hold edges computed

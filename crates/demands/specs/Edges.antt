@@ -1,20 +1,23 @@
 -- Both sides of each edge (01): the table, a row a line, and what a row says. `edges-hold` proves every row.
 -- Assumes nothing.
-use mathlib.Core.Bool.{Bool, true, false}
+use mathlib.Core.Bool.{Bool, false}
 use mathlib.Core.List.{List, [], _∷_, _++_}
 use mathlib.Core.Path.{_≡_}
-use Prim.Native.Nat.{ℕ, _+_, _*_, _%_, _^_}
+use Prim.Native.Nat.{ℕ}
 use lib.ListN.{replicate}
 use Rattle.header.specs.declared.Format.{Format}
 use Rattle.header.specs.declared.Format.the-variants.{Open, PseudoBinary, FullAscii}
-use Rattle.header.specs.Check.{checkOf}
-use Rattle.header.specs.Fields.{bytesOf}
+use Rattle.header.specs.Fields.{fieldsIn, bytesOf}
+use Rattle.header.specs.Typed.{Typed}
+use Rattle.header.specs.Valid.{Valid, flagIn, lengthIn, checkIn}
 use Rattle.mending.specs.declared.Mending.the-variants.{Mended}
 use Rattle.mending.specs.Mends.{Mends}
+use Rattle.full_ascii.specs.Table.{CR, LF}
+use Rattle.pseudo_binary.specs.Table.{SPACE, SLASH}
 use Rattle.packet.specs.declared.Refusal.{Refusal}
 use Rattle.packet.specs.declared.Refusal.the-variants.{NoHeader, OtherType}
 use Rattle.packet.specs.Data.{Carries, Unreadable, dataOf}
-use Rattle.packet.specs.Packet.{headerFor}
+use Rattle.packet.specs.Packet.{received, headerFor}
 use Rattle.packet.specs.Reader.{Refuses}
 
 pub data Edge : Type 0 where
@@ -22,38 +25,36 @@ pub data Edge : Type 0 where
   checks : (flag length check : ℕ) → List ℕ → Edge
   -- the header that we send for a format, a sync bit and a length
   heads : Format → (sync : Bool) (length : ℕ) → List ℕ → Edge
-  -- a received header is read as a valid one, with so many bits mended
-  mends : (received header bits : ℕ) → Edge
-  -- the packet is refused, whatever the room
-  refuses : List ℕ → Refusal → Edge
+  -- a received header is read as this format, sync bit and length, with so many bits mended
+  reads : List ℕ → Format → (sync : Bool) (length mended : ℕ) → Edge
+  -- a received header is too far from any valid one: refusal 2, whatever follows it
+  hopeless : List ℕ → Edge
+  -- a received header is mended to one, with so many bits, whose type is none of ours: refusal 3, whatever follows it
+  foreign : (head header : List ℕ) (mended : ℕ) → Edge
   -- our writer makes this data of the text, and the data carries the text
-  writes : Format → (text sent : List ℕ) → Edge
+  writes : Format → (text carried : List ℕ) → Edge
   -- the data carries the text
-  carries : Format → (text sent : List ℕ) → Edge
+  carries : Format → (text carried : List ℕ) → Edge
   -- the data is malformed at this bit
-  stops : Format → (sent : List ℕ) (bit : ℕ) → Edge
+  stops : Format → (carried : List ℕ) (bit : ℕ) → Edge
+
+-- a packet that starts with these bytes is refused, whatever follows and whatever the room
+abbrev pub RefusesAll : List ℕ → Refusal → Type 0
+RefusesAll head refusal = (after : List ℕ) (room : ℕ) → Refuses (head ++ after) room refusal
 
 abbrev pub Holds : Edge → Type 0
 Holds (checks flag length check bytes) =
-    (checkOf (flag % 2 ^ 7 * 2 ^ 14 + length) ≡ check) × (bytesOf (flag * 2 ^ 24 + length * 2 ^ 10 + check) ≡ flag ∷ bytes)
+    let header = received (flag ∷ bytes) in
+    Valid header × (flagIn header ≡ flag) × (lengthIn header ≡ length) × (checkIn header ≡ check)
 Holds (heads format sync length bytes) = bytesOf (headerFor format sync length) ≡ bytes
-Holds (mends received header bits) = Mends received (Mended header bits)
-Holds (refuses packet refusal) = (room : ℕ) → Refuses packet room refusal
-Holds (writes format text sent) = (dataOf format text ≡ sent) × Carries format text sent
-Holds (carries format text sent) = Carries format text sent
-Holds (stops format sent bit) = Unreadable format sent bit
-
-abbrev SPACE : ℕ
-SPACE = 32
-
-abbrev SLASH : ℕ
-SLASH = 47
-
-abbrev CR : ℕ
-CR = 13
-
-abbrev LF : ℕ
-LF = 10
+Holds (reads head format sync length mended) =
+    let header = headerFor format sync length in
+    Mends (received head) (Mended header mended) × Typed (fieldsIn header) format × (fieldsIn header .sync ≡ sync) × (lengthIn header ≡ length)
+Holds (hopeless head) = RefusesAll head NoHeader
+Holds (foreign head header mended) = Mends (received head) (Mended (received header) mended) × RefusesAll head OtherType
+Holds (writes format text carried) = (dataOf format text ≡ carried) × Carries format text carried
+Holds (carries format text carried) = Carries format text carried
+Holds (stops format carried bit) = Unreadable format carried bit
 
 abbrev A : ℕ
 A = 65
@@ -70,12 +71,11 @@ edges =
     ∷ heads Open false 4000 (0x40 ∷ 0x3E ∷ 0x80 ∷ 0xD1 ∷ [])
     ∷ heads FullAscii false 1 (0xD0 ∷ 0x00 ∷ 0x04 ∷ 0x30 ∷ [])
     -- P5
-    ∷ mends 0xC10004DD 0x400004DD 2
+    ∷ reads (0xC1 ∷ 0x00 ∷ 0x04 ∷ 0xDD ∷ []) Open false 1 2
     -- P6
-    ∷ refuses (0x40 ∷ 0x00 ∷ 0x04 ∷ 0xDA ∷ []) NoHeader
+    ∷ hopeless (0x40 ∷ 0x00 ∷ 0x04 ∷ 0xDA ∷ [])
     -- P7
-    ∷ mends 0x00000000 0x80000000 1
-    ∷ refuses (0x00 ∷ 0x00 ∷ 0x00 ∷ 0x00 ∷ []) OtherType
+    ∷ foreign (0x00 ∷ 0x00 ∷ 0x00 ∷ 0x00 ∷ []) (0x80 ∷ 0x00 ∷ 0x00 ∷ 0x00 ∷ []) 1
     -- P8
     ∷ writes PseudoBinary (A ∷ B ∷ []) (0x81 ∷ 0x04 ∷ 0x2F ∷ [])
     -- P9

@@ -10,7 +10,6 @@ use Rattle.bits.specs.Says.{Says}
 use Rattle.header.specs.Valid.{lengthIn}
 use Rattle.checksum.specs.Checksum.{sent}
 use Rattle.packet.specs.declared.Refusal.the-variants.{Checksum, Malformed, NoRoom}
-use Rattle.packet.specs.declared.Reading.{Reading}
 use Rattle.packet.specs.declared.Opened.{Opened}
 use Rattle.packet.specs.Data.{Carries, Unreadable}
 use Rattle.packet.specs.Packet.{dataIn, sumIn}
@@ -44,24 +43,24 @@ module _ (packet : List ℕ) (opened : Opened) (h : Headed packet opened) where
     pub refused-sum : (sumIn (h .header) packet ≡ sent (dataIn (h .header) packet) → ⊥) → Refuses packet room Checksum
     refused-sum bad =
         record {
-          fault = (h .header, h .near, bad);
-          first = clear-six packet room (h .header) (h .near) (opened .format) (h .typed) (h .some) (h .few) (h .whole);
+          fault = (h .header, h .framed .near, bad);
+          first = clear-six packet room (h .header) (opened .format) (h .framed);
         }
 
     module _ (summed : sumIn (h .header) packet ≡ sent (dataIn (h .header) packet)) where
       pub refused-place : (bit : ℕ) → Unreadable (opened .format) (dataIn (h .header) packet) bit → Refuses packet room (Malformed bit)
       refused-place bit stuck =
           record {
-            fault = (h .header, h .near, (opened .format, h .typed, stuck));
-            first = clear-seven packet room (h .header) (h .near) (opened .format) (h .typed) (h .some) (h .few) (h .whole) summed;
+            fault = (h .header, h .framed .near, (opened .format, h .framed .typed, stuck));
+            first = clear-seven packet room (h .header) (opened .format) (h .framed) summed;
           }
 
       pub refused-room : (needed : ℕ) (text : List ℕ) → Carries (opened .format) text (dataIn (h .header) packet) → length text ≡ needed
           → room < needed → Refuses packet room (NoRoom needed)
       refused-room needed text carries long short =
           record {
-            fault = (h .header, h .near, (opened .format, h .typed, (text, carries, long, short)));
-            first = clear-eight packet room (h .header) (h .near) (opened .format) (h .typed) (h .some) (h .few) (h .whole) summed text carries;
+            fault = (h .header, h .framed .near, (opened .format, h .framed .typed, (text, carries, long, short)));
+            first = clear-eight packet room (h .header) (opened .format) (h .framed) summed text carries;
           }
 
       pub accepted : (n : ℕ) (text : List ℕ) → Carries (opened .format) text (dataIn (h .header) packet) → length text ≤ room → n ≡ length text
@@ -77,11 +76,7 @@ module _ (packet : List ℕ) (opened : Opened) (h : Headed packet opened) where
       accepted n text carries held long =
           record {
             header = h .header;
-            near = h .near;
-            typed = h .typed;
-            some = h .some;
-            few = h .few;
-            whole = h .whole;
+            framed = h .framed;
             summed = summed;
             carries = carries;
             held = held;

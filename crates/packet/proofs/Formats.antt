@@ -12,7 +12,7 @@ use Rattle.bits.specs.Row.{bits}
 use Rattle.header.specs.declared.Format.{Format}
 use Rattle.header.specs.declared.Format.the-variants.{Open, PseudoBinary, FullAscii}
 use Rattle.codes.specs.Chain.{Tables, Fill}
-use Rattle.codes.proofs.Reading.{Answer, text as reads-text, stuck as reads-stuck, Means, answer, always, reads-end, one-text, one-place, never-both}
+use Rattle.codes.proofs.Reading.{Answer, text as reads-text, stuck as reads-stuck, Means, answer, always, builds-end, one-text, one-place, never-both}
 use Rattle.full_ascii.specs.Table as ascii
 use Rattle.full_ascii.proofs.Table as ascii-table
 use Rattle.full_ascii.proofs.Writer as ascii-built
@@ -32,32 +32,32 @@ either : (tables : Tables) (bs : List ℕ) (a : Answer) → Means tables 0 bs a
 either tables bs (reads-text t) m = inl (t, m)
 either tables bs (reads-stuck i) m = inr (i, m)
 
-pub carries-one : (format : Format) (t u sent : List ℕ) → Carries format t sent → Carries format u sent → t ≡ u
-carries-one Open t u sent p q = sym p ∙ q
-carries-one PseudoBinary t u sent p q = one-text pseudo-table.laws p q
-carries-one FullAscii t u sent p q = one-text ascii-table.laws p q
+pub carries-one : (format : Format) (t u carried : List ℕ) → Carries format t carried → Carries format u carried → t ≡ u
+carries-one Open t u carried p q = sym p ∙ q
+carries-one PseudoBinary t u carried p q = one-text pseudo-table.laws p q
+carries-one FullAscii t u carried p q = one-text ascii-table.laws p q
 
-pub unreadable-one : (format : Format) (i j : ℕ) (sent : List ℕ) → Unreadable format sent i → Unreadable format sent j → i ≡ j
-unreadable-one Open i j sent p q = absurd p
-unreadable-one PseudoBinary i j sent p q = one-place pseudo-table.laws p q
-unreadable-one FullAscii i j sent p q = one-place ascii-table.laws p q
+pub unreadable-one : (format : Format) (i j : ℕ) (carried : List ℕ) → Unreadable format carried i → Unreadable format carried j → i ≡ j
+unreadable-one Open i j carried p q = absurd p
+unreadable-one PseudoBinary i j carried p q = one-place pseudo-table.laws p q
+unreadable-one FullAscii i j carried p q = one-place ascii-table.laws p q
 
-pub never-unreadable : (format : Format) (t sent : List ℕ) (i : ℕ) → Carries format t sent → Unreadable format sent i → ⊥
-never-unreadable Open t sent i p q = q
-never-unreadable PseudoBinary t sent i p q = never-both pseudo-table.laws p q
-never-unreadable FullAscii t sent i p q = never-both ascii-table.laws p q
+pub never-unreadable : (format : Format) (t carried : List ℕ) (i : ℕ) → Carries format t carried → Unreadable format carried i → ⊥
+never-unreadable Open t carried i p q = q
+never-unreadable PseudoBinary t carried i p q = never-both pseudo-table.laws p q
+never-unreadable FullAscii t carried i p q = never-both ascii-table.laws p q
 
 -- data is readable or it is not
-pub readable : (format : Format) (sent : List ℕ) → ((t : List ℕ) × Carries format t sent) ⊎ ((bit : ℕ) × Unreadable format sent bit)
-readable Open sent = inl (sent, refl)
-readable PseudoBinary sent = either pseudo.tables (bits sent) (answer pseudo.tables (length (bits sent)) 0 (bits sent)) (always pseudo-table.laws 0 (bits sent))
-readable FullAscii sent = either ascii.tables (bits sent) (answer ascii.tables (length (bits sent)) 0 (bits sent)) (always ascii-table.laws 0 (bits sent))
+pub readable : (format : Format) (carried : List ℕ) → ((t : List ℕ) × Carries format t carried) ⊎ ((bit : ℕ) × Unreadable format carried bit)
+readable Open carried = inl (carried, refl)
+readable PseudoBinary carried = either pseudo.tables (bits carried) (answer pseudo.tables (length (bits carried)) 0 (bits carried)) (always pseudo-table.laws 0 (bits carried))
+readable FullAscii carried = either ascii.tables (bits carried) (answer ascii.tables (length (bits carried)) 0 (bits carried)) (always ascii-table.laws 0 (bits carried))
 
 -- a text that is carried has codes
-pub carries-coded : (format : Format) (text sent : List ℕ) → Carries format text sent → Coded format text (length text)
-carries-coded Open text sent p = λ i lt. tt
-carries-coded PseudoBinary text sent p = pseudo-built.built-coded sent p
-carries-coded FullAscii text sent p = ascii-built.built-coded sent p
+pub carries-coded : (format : Format) (text carried : List ℕ) → Carries format text carried → Coded format text (length text)
+carries-coded Open text carried p = λ i lt. tt
+carries-coded PseudoBinary text carried p = pseudo-built.built-coded carried p
+carries-coded FullAscii text carried p = ascii-built.built-coded carried p
 
 -- what our writer makes of a text that has codes carries it
 pub writer-carries : (format : Format) (text : List ℕ) → Coded format text (length text) → Carries format text (dataOf format text)
@@ -66,22 +66,22 @@ writer-carries PseudoBinary text h = pseudo-built.ours-built text h
 writer-carries FullAscii text h = ascii-built.ours-built text h
 
 -- and nothing that carries it has fewer bytes
-pub no-fewer : (format : Format) (text sent : List ℕ) → Carries format text sent → length (dataOf format text) ≤ length sent
-no-fewer Open text sent p = le-of-eq (ap length (sym p))
-no-fewer PseudoBinary text sent p = pseudo-least.no-fewer-bytes sent p
-no-fewer FullAscii text sent p = ascii-built.no-fewer-bytes sent p
+pub no-fewer : (format : Format) (text carried : List ℕ) → Carries format text carried → length (dataOf format text) ≤ length carried
+no-fewer Open text carried p = le-of-eq (ap length (sym p))
+no-fewer PseudoBinary text carried p = pseudo-least.no-fewer-bytes carried p
+no-fewer FullAscii text carried p = ascii-built.no-fewer-bytes carried p
 
 -- some data, some text; and some text, some data
-pub carries-some : (format : Format) (text sent : List ℕ) → 0 < length sent → Carries format text sent → 0 < length text
-carries-some Open text sent some p = omega (arith, ap length p)
-carries-some PseudoBinary text sent some p = pseudo-built.built-nonempty sent some p
-carries-some FullAscii text sent some p = ascii-built.built-nonempty sent some p
+pub carries-some : (format : Format) (text carried : List ℕ) → 0 < length carried → Carries format text carried → 0 < length text
+carries-some Open text carried some p = omega (arith, ap length p)
+carries-some PseudoBinary text carried some p = pseudo-built.built-nonempty carried some p
+carries-some FullAscii text carried some p = ascii-built.built-nonempty carried some p
 
 no-data : (format : Format) (text : List ℕ) → Carries format text [] → text ≡ []
 unfolding bits
 no-data Open text p = sym p
-no-data PseudoBinary text p = one-text pseudo-table.laws p (reads-end pseudo.tables no-fill)
-no-data FullAscii text p = one-text ascii-table.laws p (reads-end ascii.tables no-fill)
+no-data PseudoBinary text p = one-text pseudo-table.laws p (builds-end pseudo.tables no-fill)
+no-data FullAscii text p = one-text ascii-table.laws p (builds-end ascii.tables no-fill)
 
 pub data-some : (format : Format) (text : List ℕ) → 0 < length text → Coded format text (length text) → 0 < length (dataOf format text)
 data-some format t some coded = pick (dataOf format t) refl

@@ -1,11 +1,11 @@
 -- A packet that is written in three steps, the data from byte 4 on, the checksum behind it, the header in front, is the header, the data and the
 -- checksum, and behind these the buffer as it was.
 -- Assumes nothing.
-use mathlib.Core.List.{List, [], _∷_, _++_, append-assoc}
+use mathlib.Core.List.{List, _++_, append-assoc}
 use mathlib.Core.Path.{_≡_, refl, sym, ap, ap₂, _∙_}
-use Prim.Native.Nat.{ℕ, _+_, _-_, _≤_}
+use Prim.Native.Nat.{ℕ, _+_, _≤_}
 use native.Mathlib.Omega.{arith}
-use lib.ListN.{length, take, drop, length-append, length-take, length-drop, take-append-drop}
+use lib.ListN.{length, take, drop, length-append, take-append-drop}
 use lib.Seq.{take-at, drop-at, drop-append-le, drop-drop, length-take-le}
 use Rattle.checksum.specs.Checksum.{sent}
 

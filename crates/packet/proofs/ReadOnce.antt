@@ -1,7 +1,7 @@
 -- The reader's promise leaves one answer and one content of the text buffer.
 -- Assumes nothing.
 use mathlib.Core.List.{List, _++_}
-use mathlib.Core.Logic.{_⊎_, inl, inr, ⊎-elim}
+use mathlib.Core.Logic.{_⊎_, ⊎-elim}
 use mathlib.Core.Path.{_≡_, refl, sym, ap, ap₂, _∙_, subst}
 use Prim.Native.Nat.{ℕ, _+_, _<_}
 use native.Mathlib.Omega.{arith}
@@ -23,7 +23,7 @@ use Rattle.packet.specs.Data.{Carries, Unreadable}
 use Rattle.codes.specs.Size.{longest}
 use Rattle.packet.specs.Packet.{received, dataIn, sumIn}
 use Rattle.packet.specs.Reader.{Under, Fault, Refuses, Accepts, Reads}
-use Rattle.packet.specs.Refusals.{numberOf, valueOf}
+use Rattle.packet.specs.Refusals.{numberOf, valueOf, readerTurn}
 use Rattle.packet.proofs.Refused.{refusalFrom, from-both, same-number, plain, first-one}
 use Rattle.packet.proofs.Formats.{carries-one, unreadable-one, never-unreadable}
 
@@ -71,36 +71,36 @@ module _ (packet : List ℕ) (room : ℕ) where
 
   pub refuses-one : (r s : Refusal) → Refuses packet room r → Refuses packet room s → r ≡ s
   refuses-one =
-      first-one (Fault packet room) numberOf
+      first-one (Fault packet room) readerTurn
       (λ r s e f g. sym (from-both r) ∙ ap₂ refusalFrom e (same-value r s e f g) ∙ from-both s)
 
   -- ---- what is accepted meets no refusal's condition
 
   pub accepts-no-fault : (reading : Reading) (text : List ℕ) → Accepts packet room reading text → (r : Refusal) → Fault packet room r → ⊥
-  accepts-no-fault reading text a Short f = omega (arith, a .whole)
-  accepts-no-fault reading text a NoHeader f = f (a .header) (a .near)
+  accepts-no-fault reading text a Short f = omega (arith, a .framed .whole)
+  accepts-no-fault reading text a NoHeader f = f (a .header) (a .framed .near)
   accepts-no-fault reading text a OtherType f =
-      under (λ (h : ℕ). (k : Format) → Typed (fieldsIn h) k → ⊥) (a .header) (a .near) f (reading .format) (a .typed)
+      under (λ (h : ℕ). (k : Format) → Typed (fieldsIn h) k → ⊥) (a .header) (a .framed .near) f (reading .format) (a .framed .typed)
   accepts-no-fault reading text a OtherLength f =
-      ⊎-elim (λ none. omega (arith, a .some)) (λ many. omega (arith, a .few))
-      (under (λ (h : ℕ). (lengthIn h ≡ 0) ⊎ (longest < lengthIn h)) (a .header) (a .near) f)
+      ⊎-elim (λ none. omega (arith, a .framed .some)) (λ many. omega (arith, a .framed .few))
+      (under (λ (h : ℕ). (lengthIn h ≡ 0) ⊎ (longest < lengthIn h)) (a .header) (a .framed .near) f)
   accepts-no-fault reading text a CutOff f =
-      let short = under (λ (h : ℕ). length packet < lengthIn h + 6) (a .header) (a .near) f in omega (arith, a .whole)
+      let short = under (λ (h : ℕ). length packet < lengthIn h + 6) (a .header) (a .framed .near) f in omega (arith, a .framed .whole)
   accepts-no-fault reading text a Checksum f =
-      under (λ (h : ℕ). sumIn h packet ≡ sent (dataIn h packet) → ⊥) (a .header) (a .near) f (a .summed)
+      under (λ (h : ℕ). sumIn h packet ≡ sent (dataIn h packet) → ⊥) (a .header) (a .framed .near) f (a .summed)
   accepts-no-fault reading text a (Malformed i) f =
-      let other = under (λ (h : ℕ). (k : Format) × Typed (fieldsIn h) k × Unreadable k (dataIn h packet) i) (a .header) (a .near) f in
+      let other = under (λ (h : ℕ). (k : Format) × Typed (fieldsIn h) k × Unreadable k (dataIn h packet) i) (a .header) (a .framed .near) f in
       never-unreadable (reading .format) text (dataIn (a .header) packet) i (a .carries)
-      (subst (λ (k : Format). Unreadable k (dataIn (a .header) packet) i) (one-format (other .1) (a .typed)) (other .2))
+      (subst (λ (k : Format). Unreadable k (dataIn (a .header) packet) i) (one-format (other .1) (a .framed .typed)) (other .2))
   accepts-no-fault reading text a (NoRoom n) f =
       let other =
       under
       (λ (h : ℕ).
       (k : Format) × Typed (fieldsIn h) k × ((t : List ℕ) × Carries k t (dataIn h packet) × (length t ≡ n) × (room < n)))
-      (a .header) (a .near) f in
+      (a .header) (a .framed .near) f in
       let same : text ≡ other .2 .0 =
       carries-one (reading .format) text (other .2 .0) (dataIn (a .header) packet) (a .carries)
-      (subst (λ (k : Format). Carries k (other .2 .0) (dataIn (a .header) packet)) (one-format (other .1) (a .typed)) (other .2 .1)) in
+      (subst (λ (k : Format). Carries k (other .2 .0) (dataIn (a .header) packet)) (one-format (other .1) (a .framed .typed)) (other .2 .1)) in
       omega (arith, a .held, ap length same, other .2 .2, other .2 .3)
   accepts-no-fault reading text a (NoCode i) f = f
   accepts-no-fault reading text a Empty f = f
@@ -124,10 +124,10 @@ module _ (packet : List ℕ) (room : ℕ) where
   )
     where
       head : a .header ≡ b .header
-      head = one-near (received packet) (a .header) (b .header) (a .near) (b .near)
+      head = one-near (received packet) (a .header) (b .header) (a .framed .near) (b .framed .near)
 
       kind : r .format ≡ s .format
-      kind = one-format (a .typed) (subst (λ (h : ℕ). Typed (fieldsIn h) (s .format)) (sym head) (b .typed))
+      kind = one-format (a .framed .typed) (subst (λ (h : ℕ). Typed (fieldsIn h) (s .format)) (sym head) (b .framed .typed))
 
       same : t ≡ u
       same =

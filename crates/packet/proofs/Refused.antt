@@ -49,26 +49,30 @@ pub plain : (r s : Refusal) → numberOf r ≡ numberOf s → valueOf (refusalFr
 plain r s e z = sym (ap valueOf (same-number r s e) ∙ z)
 
 -- two first matches are of one turn, so they are the same where no two conditions of one turn hold of different refusals
-pub first-one : (Fault : Refusal → Type 0) (turn : Refusal → ℕ)
-    → ((r s : Refusal) → turn r ≡ turn s → Fault r → Fault s → r ≡ s)
+pub first-one : (Fault : Refusal → Type 0) (turn : ℕ → ℕ)
+    → ((r s : Refusal) → turn (numberOf r) ≡ turn (numberOf s) → Fault r → Fault s → r ≡ s)
     → (r s : Refusal) → First Fault turn r → First Fault turn s → r ≡ s
-first-one Fault turn same r s p q = same r s (pick (decLt (turn r) (turn s)) (decLt (turn s) (turn r))) (p .fault) (q .fault)
+first-one Fault turn same r s p q =
+    same r s (pick (decLt (turn (numberOf r)) (turn (numberOf s))) (decLt (turn (numberOf s)) (turn (numberOf r)))) (p .fault) (q .fault)
   where
-    pick : Dec (turn r < turn s) → Dec (turn s < turn r) → turn r ≡ turn s
+    pick : Dec (turn (numberOf r) < turn (numberOf s)) → Dec (turn (numberOf s) < turn (numberOf r)) → turn (numberOf r) ≡ turn (numberOf s)
     pick (yes lt) d = absurd (q .first r lt (p .fault))
     pick (no ge) (yes lt) = absurd (p .first s lt (q .fault))
     pick (no ge) (no le) = omega arith
 
 -- ---- tests in turn
 
--- no condition of an earlier turn holds
-abbrev pub Clear : (Refusal → Type 0) → (Refusal → ℕ) → ℕ → Type 0
-Clear Fault turn k = (other : Refusal) → turn other < k → Fault other → ⊥
+-- no condition holds that is tested before that of this number
+abbrev pub Clear : (Refusal → Type 0) → (ℕ → ℕ) → ℕ → Type 0
+Clear Fault turn number = (other : Refusal) → turn (numberOf other) < turn number → Fault other → ⊥
 
--- one test more that is passed, where a refusal is told by its turn and its value
-pub clear-next : (Fault : Refusal → Type 0) (turn : Refusal → ℕ) (from : ℕ → ℕ → Refusal)
-    → ((r : Refusal) → Fault r → r ≡ from (turn r) (valueOf r))
-    → (k : ℕ) → Clear Fault turn k → ((v : ℕ) → Fault (from k v) → ⊥) → Clear Fault turn (suc k)
-clear-next Fault turn from told k clear none other lt f =
-    ⊎-elim (λ e. none (valueOf other) (subst Fault (told other f ∙ ap (λ (n : ℕ). from n (valueOf other)) e) f)) (λ less. clear other less f)
-    (eq-or-lt-of-le (le-of-suc-le-suc lt))
+-- one test more that is passed, that of number k, and the next one's number is l
+pub clear-next : (Fault : Refusal → Type 0) (turn : ℕ → ℕ) (k l : ℕ)
+    → ((r : Refusal) → Fault r → turn (numberOf r) ≡ turn k → numberOf r ≡ k) → turn l ≡ suc (turn k)
+    → Clear Fault turn k → ((v : ℕ) → Fault (refusalFrom k v) → ⊥) → Clear Fault turn l
+clear-next Fault turn k l alone next clear none other lt f =
+    ⊎-elim
+    (λ e.
+    none (valueOf other) (subst Fault (sym (from-both other) ∙ ap (λ (n : ℕ). refusalFrom n (valueOf other)) (alone other f e)) f))
+    (λ less. clear other less f)
+    (eq-or-lt-of-le (le-of-suc-le-suc (subst (λ (n : ℕ). turn (numberOf other) < n) next lt)))

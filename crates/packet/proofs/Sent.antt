@@ -9,10 +9,11 @@ use lib.ListN.{length, getD, take, drop, length-append}
 use lib.Seq.{take-at, getD-drop, getD-append-add}
 use Rattle.header.specs.declared.Format.{Format}
 use Rattle.header.specs.declared.Header.{Header}
-use Rattle.header.specs.Fields.{Fit, fieldsIn, headerOf, sentFields, bytesOf}
+use Rattle.header.specs.Fields.{Fit, fieldsIn, sentFields, bytesOf}
 use Rattle.header.specs.Typed.{Typed, formatNumber}
 use Rattle.header.specs.Valid.{Valid, lengthIn}
-use Rattle.header.proofs.Made.{made-valid, made-reads-back, word-bytes}
+use Rattle.header.proofs.Bytes.{word-bytes}
+use Rattle.header.proofs.Made.{made-valid, made-reads-back}
 use Rattle.header.proofs.Typed.{number-lt}
 use Rattle.mending.specs.Mends.{Near, distance}
 use Rattle.checksum.specs.Checksum.{sent}
@@ -21,7 +22,7 @@ use Rattle.packet.specs.Data.{Carries}
 use Rattle.codes.specs.Size.{longest}
 use Rattle.packet.specs.Packet.{received, dataIn, sumIn, headerFor}
 use Rattle.packet.specs.declared.Refusal.the-variants.{Checksum}
-use Rattle.packet.specs.Reader.{Accepts, Refuses}
+use Rattle.packet.specs.Reader.{Framed, Accepts, Refuses}
 use Rattle.packet.proofs.Stages.{clear-six}
 
 -- ---- the header of a packet of n data bytes
@@ -105,6 +106,16 @@ module _ (format : Format) (sync : Bool) (word : ℕ) (carried : List ℕ) (low 
   long : lengthIn header ≡ length carried
   long = header-length format sync (length carried) few
 
+  framed : Framed packet format header
+  framed =
+      record {
+        near = header-near;
+        typed = header-typed format sync (length carried) few;
+        some = omega (arith, long);
+        few = omega (arith, long);
+        whole = omega (arith, long, long-enough word carried low high after);
+      }
+
   -- the reading of a packet whose text is so long
   abbrev pub sentReading : ℕ → Reading
   sentReading n =
@@ -122,11 +133,7 @@ module _ (format : Format) (sync : Bool) (word : ℕ) (carried : List ℕ) (low 
   sent-accepted summed text carries room held =
       record {
         header = header;
-        near = header-near;
-        typed = header-typed format sync (length carried) few;
-        some = omega (arith, long);
-        few = omega (arith, long);
-        whole = omega (arith, long, long-enough word carried low high after);
+        framed = framed;
         summed = sum-is word carried low high after header long ∙ summed ∙ ap sent (sym (data-is word carried low high after header long));
         carries = subst (Carries format text) (sym (data-is word carried low high after header long)) carries;
         held = held;
@@ -146,7 +153,5 @@ module _ (format : Format) (sync : Bool) (word : ℕ) (carried : List ℕ) (low 
           header-near,
           λ e. bad (sym (sum-is word carried low high after header long) ∙ e ∙ ap sent (data-is word carried low high after header long)),
         );
-        first =
-            clear-six packet room header header-near format (header-typed format sync (length carried) few) (omega (arith, long)) (omega (arith, long))
-            (omega (arith, long, long-enough word carried low high after));
+        first = clear-six packet room header format framed;
       }

@@ -2,7 +2,7 @@
 -- Assumes nothing.
 use mathlib.Core.List.{List}
 use mathlib.Core.Logic.{_⊎_, ⊎-elim}
-use mathlib.Core.Path.{_≡_, sym, subst}
+use mathlib.Core.Path.{_≡_, refl, subst}
 use Prim.Native.Nat.{ℕ, suc, _+_, _≤_, _<_}
 use native.Mathlib.Omega.{arith}
 use lib.ListN.{length}
@@ -18,11 +18,11 @@ use Rattle.packet.specs.declared.Refusal.the-variants.{Short, NoHeader, 
 use Rattle.packet.specs.Data.{Carries, Unreadable}
 use Rattle.codes.specs.Size.{longest}
 use Rattle.packet.specs.Packet.{received, dataIn, sumIn}
-use Rattle.packet.specs.Reader.{Fault}
-use Rattle.packet.specs.Refusals.{numberOf}
+use Rattle.packet.specs.Reader.{Fault, Framed}
+use Rattle.packet.specs.Refusals.{numberOf, readerTurn}
 use Rattle.packet.proofs.Formats.{never-unreadable}
 use Rattle.packet.proofs.ReadOnce.{under}
-use Rattle.packet.proofs.Refused.{refusalFrom, from-both, Clear, clear-next}
+use Rattle.packet.proofs.Refused.{refusalFrom, Clear, clear-next}
 
 numbers-from-one : (r : Refusal) → 1 ≤ numberOf r
 numbers-from-one Short = omega arith
@@ -39,30 +39,30 @@ numbers-from-one TooLong = omega arith
 numbers-from-one OtherFormat = omega arith
 
 module _ (packet : List ℕ) (room : ℕ) where
-  pub clear-one : Clear (Fault packet room) numberOf 1
+  pub clear-one : Clear (Fault packet room) readerTurn 1
   clear-one other lt f = omega (arith, numbers-from-one other)
 
-  next : (k : ℕ) → Clear (Fault packet room) numberOf k → ((v : ℕ) → Fault packet room (refusalFrom k v) → ⊥) → Clear (Fault packet room) numberOf (suc k)
-  next = clear-next (Fault packet room) numberOf refusalFrom (λ r f. sym (from-both r))
+  next : (k : ℕ) → Clear (Fault packet room) readerTurn k → ((v : ℕ) → Fault packet room (refusalFrom k v) → ⊥) → Clear (Fault packet room) readerTurn (suc k)
+  next k = clear-next (Fault packet room) readerTurn k (suc k) (λ r f e. e) refl
 
-  pub clear-two : 4 ≤ length packet → Clear (Fault packet room) numberOf 2
+  pub clear-two : 4 ≤ length packet → Clear (Fault packet room) readerTurn 2
   unfolding refusalFrom
   clear-two four = next 1 clear-one (λ v f. omega arith)
 
   -- under the header that the packet is read as
   module _ (header : ℕ) (near : Near 2 (received packet) header) where
-    pub clear-three : 4 ≤ length packet → Clear (Fault packet room) numberOf 3
+    pub clear-three : 4 ≤ length packet → Clear (Fault packet room) readerTurn 3
     unfolding refusalFrom
     clear-three four = next 2 (clear-two four) (λ v f. f header near)
 
-    pub clear-four : 4 ≤ length packet → (format : Format) → Typed (fieldsIn header) format → Clear (Fault packet room) numberOf 4
+    pub clear-four : 4 ≤ length packet → (format : Format) → Typed (fieldsIn header) format → Clear (Fault packet room) readerTurn 4
     unfolding refusalFrom
     clear-four four format typed =
         next 3 (clear-three four)
         (λ v f. under packet room (λ (h : ℕ). (k : Format) → Typed (fieldsIn h) k → ⊥) header near f format typed)
 
     pub clear-five : 4 ≤ length packet → (format : Format) → Typed (fieldsIn header) format → 1 ≤ lengthIn header → lengthIn header ≤ longest
-        → Clear (Fault packet room) numberOf 5
+        → Clear (Fault packet room) readerTurn 5
     unfolding refusalFrom
     clear-five four format typed some few =
         next 4 (clear-four four format typed)
@@ -70,26 +70,26 @@ module _ (packet : List ℕ) (room : ℕ) where
         ⊎-elim (λ none. omega arith) (λ many. omega arith)
         (under packet room (λ (h : ℕ). (lengthIn h ≡ 0) ⊎ (longest < lengthIn h)) header near f))
 
-    -- bytes enough
-    module _ (format : Format) (typed : Typed (fieldsIn header) format) (some : 1 ≤ lengthIn header) (few : lengthIn header ≤ longest)
-        (whole : lengthIn header + 6 ≤ length packet) where
-      pub clear-six : Clear (Fault packet room) numberOf 6
-      unfolding refusalFrom
-      clear-six =
-          next 5 (clear-five (omega arith) format typed some few)
-          (λ v f. let short = under packet room (λ (h : ℕ). length packet < lengthIn h + 6) header near f in omega arith)
+  -- tests 1 to 5 are passed
+  module _ (header : ℕ) (format : Format) (framed : Framed packet format header) where
+    pub clear-six : Clear (Fault packet room) readerTurn 6
+    unfolding refusalFrom
+    clear-six =
+        next 5 (clear-five header (framed .near) (omega (arith, framed .whole)) format (framed .typed) (framed .some) (framed .few))
+        (λ v f.
+        let short = under packet room (λ (h : ℕ). length packet < lengthIn h + 6) header (framed .near) f in omega (arith, framed .whole))
 
-      pub clear-seven : sumIn header packet ≡ sent (dataIn header packet) → Clear (Fault packet room) numberOf 7
-      unfolding refusalFrom
-      clear-seven summed =
-          next 6 clear-six (λ v f. under packet room (λ (h : ℕ). sumIn h packet ≡ sent (dataIn h packet) → ⊥) header near f summed)
+    pub clear-seven : sumIn header packet ≡ sent (dataIn header packet) → Clear (Fault packet room) readerTurn 7
+    unfolding refusalFrom
+    clear-seven summed =
+        next 6 clear-six (λ v f. under packet room (λ (h : ℕ). sumIn h packet ≡ sent (dataIn h packet) → ⊥) header (framed .near) f summed)
 
-      pub clear-eight : sumIn header packet ≡ sent (dataIn header packet) → (text : List ℕ) → Carries format text (dataIn header packet)
-          → Clear (Fault packet room) numberOf 8
-      unfolding refusalFrom
-      clear-eight summed text carries =
-          next 7 (clear-seven summed)
-          (λ v f.
-          let other = under packet room (λ (h : ℕ). (k : Format) × Typed (fieldsIn h) k × Unreadable k (dataIn h packet) v) header near f in
-          never-unreadable format text (dataIn header packet) v carries
-          (subst (λ (k : Format). Unreadable k (dataIn header packet) v) (one-format (other .1) typed) (other .2)))
+    pub clear-eight : sumIn header packet ≡ sent (dataIn header packet) → (text : List ℕ) → Carries format text (dataIn header packet)
+        → Clear (Fault packet room) readerTurn 8
+    unfolding refusalFrom
+    clear-eight summed text carries =
+        next 7 (clear-seven summed)
+        (λ v f.
+        let other = under packet room (λ (h : ℕ). (k : Format) × Typed (fieldsIn h) k × Unreadable k (dataIn h packet) v) header (framed .near) f in
+        never-unreadable format text (dataIn header packet) v carries
+        (subst (λ (k : Format). Unreadable k (dataIn header packet) v) (one-format (other .1) (framed .typed)) (other .2)))

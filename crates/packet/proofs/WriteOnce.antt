@@ -1,11 +1,11 @@
 -- The writer's promise leaves one answer and one content of the packet buffer.
 -- Assumes nothing.
 use mathlib.Core.Bool.{Bool}
-use mathlib.Core.List.{List, [], _++_}
+use mathlib.Core.List.{List, _++_}
 use mathlib.Core.Path.{_≡_, refl, sym, ap, ap₂, _∙_, subst}
-use Prim.Native.Nat.{ℕ, zero, suc, _+_, _≤_, _<_}
+use Prim.Native.Nat.{ℕ, _+_, _<_}
 use native.Mathlib.Omega.{arith}
-use lib.ListN.{length, drop}
+use lib.ListN.{length, getD, drop}
 use Rattle.header.specs.declared.Format.{Format}
 use Rattle.header.specs.Typed.{formatNumber}
 use Rattle.header.proofs.Typed.{one-number}
@@ -15,18 +15,10 @@ use Rattle.packet.specs.declared.WriteAnswer.{WriteAnswer}
 use Rattle.packet.specs.declared.WriteAnswer.the-variants.{Written, Refused}
 use Rattle.packet.specs.Data.{coded, Uncoded, dataOf}
 use Rattle.codes.specs.Size.{longest}
-use Rattle.packet.specs.Refusals.{numberOf, valueOf, writerTurn, First}
+use Rattle.packet.specs.Refusals.{numberOf, valueOf, turnIn, writerOrder, writerTurn}
 use Rattle.packet.specs.Writer.{Named, WriteFault, WriteRefuses, WriteAccepts, Writes, ourPacket}
 use Rattle.codes.proofs.Only.{first-one}
 use Rattle.packet.proofs.Refused.{refusalFrom, from-both, same-number, plain, first-one as first-match}
-
--- the number of the refusal of each of the writer's turns
-unfoldable pub turnNumber : ℕ → ℕ
-turnNumber zero = 12
-turnNumber (suc zero) = 10
-turnNumber (suc (suc zero)) = 9
-turnNumber (suc (suc (suc zero))) = 11
-turnNumber (suc (suc (suc (suc n)))) = 8
 
 module _ (number : ℕ) (text : List ℕ) (room : ℕ) where
   -- the condition of a refusal, of the format that is named
@@ -35,8 +27,9 @@ module _ (number : ℕ) (text : List ℕ) (room : ℕ) where
 
   -- ---- a refusal of one turn is one
 
-  pub numbered : (r : Refusal) → WriteFault number text room r → numberOf r ≡ turnNumber (writerTurn r)
-  unfolding turnNumber
+  -- the number that is tested at the refusal's turn
+  numbered : (r : Refusal) → WriteFault number text room r → numberOf r ≡ getD writerOrder (writerTurn (numberOf r)) 0
+  unfolding turnIn
   numbered OtherFormat f = refl
   numbered Empty f = refl
   numbered (NoCode i) f = refl
@@ -49,6 +42,9 @@ module _ (number : ℕ) (text : List ℕ) (room : ℕ) where
   numbered CutOff f = absurd f
   numbered Checksum f = absurd f
   numbered (Malformed i) f = absurd f
+
+  pub at-turn : (r : Refusal) → WriteFault number text room r → (turn : ℕ) → writerTurn (numberOf r) ≡ turn → numberOf r ≡ getD writerOrder turn 0
+  at-turn r f turn e = numbered r f ∙ ap (λ (k : ℕ). getD writerOrder k 0) e
 
   same-value : (r s : Refusal) → numberOf r ≡ numberOf s → WriteFault number text room r → WriteFault number text room s → valueOf r ≡ valueOf s
   unfolding refusalFrom
@@ -73,7 +69,7 @@ module _ (number : ℕ) (text : List ℕ) (room : ℕ) where
   write-refuses-one =
       first-match (WriteFault number text room) writerTurn
       (λ r s e f g.
-      let same : numberOf r ≡ numberOf s = numbered r f ∙ ap turnNumber e ∙ sym (numbered s g) in
+      let same : numberOf r ≡ numberOf s = at-turn r f (writerTurn (numberOf s)) e ∙ sym (numbered s g) in
       sym (from-both r) ∙ ap₂ refusalFrom same (same-value r s same f g) ∙ from-both s)
 
   -- ---- what is written meets no refusal's condition

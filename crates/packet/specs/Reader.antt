@@ -20,7 +20,7 @@ use Rattle.packet.specs.declared.ReadAnswer.the-variants.{Accepted, Refu
 use Rattle.packet.specs.Data.{Carries, Unreadable}
 use Rattle.codes.specs.Size.{longest}
 use Rattle.packet.specs.Packet.{received, dataIn, sumIn}
-use Rattle.packet.specs.Refusals.{numberOf, First}
+use Rattle.packet.specs.Refusals.{readerTurn, First}
 
 -- the valid header that the packet is read as, at most two bits away, with what the condition says of it
 abbrev pub Under : List ℕ → (ℕ → Type 0) → Type 0
@@ -48,17 +48,21 @@ Fault packet room OtherFormat = ⊥
 
 -- tested in the order 1 to 8
 abbrev pub Refuses : List ℕ → ℕ → Refusal → Type 0
-Refuses packet room = First (Fault packet room) numberOf
+Refuses packet room = First (Fault packet room) readerTurn
 
--- the packet is accepted with this text: a valid header within two bits, of one of our types and lengths; bytes enough; the checksum right; the
--- data what a maker may build of the text; and room for it. The answer is taken from these
-pub record Accepts (packet : List ℕ) (room : ℕ) (reading : Reading) (text : List ℕ) : Type 0 where
-  pub header : ℕ
+-- a valid header within two bits, of this format, of our lengths; and bytes enough
+pub record Framed (packet : List ℕ) (format : Format) (header : ℕ) : Type 0 where
   pub near : Near 2 (received packet) header
-  pub typed : Typed (fieldsIn header) (reading .format)
+  pub typed : Typed (fieldsIn header) format
   pub some : 1 ≤ lengthIn header
   pub few : lengthIn header ≤ longest
   pub whole : lengthIn header + 6 ≤ length packet
+
+-- the packet is accepted with this text: it has such a header; the checksum is right; the data is what a maker may build of the text; and there is
+-- room for it. The answer is taken from these
+pub record Accepts (packet : List ℕ) (room : ℕ) (reading : Reading) (text : List ℕ) : Type 0 where
+  pub header : ℕ
+  pub framed : Framed packet (reading .format) header
   pub summed : sumIn header packet ≡ sent (dataIn header packet)
   pub carries : Carries (reading .format) text (dataIn header packet)
   pub held : length text ≤ room

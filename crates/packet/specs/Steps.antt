@@ -2,15 +2,18 @@
 -- Assumes nothing.
 use mathlib.Core.List.{List, _++_}
 use mathlib.Core.Path.{_≡_}
-use Prim.Native.Nat.{ℕ, _+_, _^_, _≤_, _<_}
+use Prim.Native.Nat.{ℕ, _+_, _≤_, _<_}
 use lib.ListN.{length, drop}
 use Rattle.header.specs.declared.Format.{Format}
+use Rattle.header.specs.declared.Format.the-variants.{Open, PseudoBinary, FullAscii}
 use Rattle.header.specs.Fields.{fieldsIn}
-use Rattle.header.specs.Typed.{Typed}
 use Rattle.header.specs.Valid.{lengthIn}
-use Rattle.mending.specs.Mends.{Near, distance}
+use Rattle.mending.specs.Mends.{distance}
+use Rattle.codes.specs.Measure.{Comes}
 use Rattle.codes.specs.declared.Outcome.{Outcome}
 use Rattle.codes.specs.declared.Outcome.the-variants as Outcome
+use Rattle.full_ascii.specs.Table as ascii
+use Rattle.pseudo_binary.specs.Table as pseudo
 use Rattle.packet.specs.declared.Head.{Head}
 use Rattle.packet.specs.declared.Head.the-variants.{Found, Refused}
 use Rattle.packet.specs.declared.Opened.{Opened}
@@ -19,16 +22,12 @@ use Rattle.packet.specs.declared.Taken.the-variants.{Text, Malformed, No
 use Rattle.packet.specs.Data.{Carries, Unreadable, Coded, dataOf}
 use Rattle.codes.specs.Size.{longest}
 use Rattle.packet.specs.Packet.{received}
-use Rattle.packet.specs.Reader.{Refuses}
+use Rattle.packet.specs.Reader.{Framed, Refuses}
 
 -- tests 1 to 5 are passed: the header that the packet is read as
 pub record Headed (packet : List ℕ) (opened : Opened) : Type 0 where
   pub header : ℕ
-  pub near : Near 2 (received packet) header
-  pub typed : Typed (fieldsIn header) (opened .format)
-  pub some : 1 ≤ lengthIn header
-  pub few : lengthIn header ≤ longest
-  pub whole : lengthIn header + 6 ≤ length packet
+  pub framed : Framed packet (opened .format) header
   pub sync : opened .sync ≡ fieldsIn header .sync
   pub mended : opened .mended ≡ distance (received packet) header
   pub long : opened .length ≡ lengthIn header
@@ -37,32 +36,34 @@ abbrev pub Heads : List ℕ → Head → Type 0
 Heads packet (Found opened) = Headed packet opened
 Heads packet (Refused refusal) = (room : ℕ) → Refuses packet room refusal
 
--- what the data comes to: a text of this length, or the place where it is malformed; or it is 2^40 bytes long or more
+-- what the data comes to: a text of this length, or the place where it is malformed; or, in a compact format, that it is 2^40 bytes long or more
 abbrev pub Measures : Format → List ℕ → Outcome → Type 0
-Measures format sent (Outcome.Text n) = (text : List ℕ) × (length text ≡ n) × Carries format text sent
-Measures format sent (Outcome.Malformed bit) = Unreadable format sent bit
-Measures format sent Outcome.TooLong = 2 ^ 40 ≤ length sent
+Measures Open carried (Outcome.Text n) = n ≡ length carried
+Measures Open carried (Outcome.Malformed bit) = ⊥
+Measures Open carried Outcome.TooLong = ⊥
+Measures PseudoBinary carried outcome = Comes pseudo.tables carried outcome
+Measures FullAscii carried outcome = Comes ascii.tables carried outcome
 
 -- the data carries a text that there is room for
-pub record Readable (format : Format) (sent : List ℕ) (room : ℕ) : Type 0 where
+pub record Readable (format : Format) (carried : List ℕ) (room : ℕ) : Type 0 where
   pub text : List ℕ
-  pub carries : Carries format text sent
+  pub carries : Carries format text carried
   pub held : length text ≤ room
 
 -- the text of the data at the front of the buffer, n characters, and nothing else changed
-pub record Placed (format : Format) (sent entry exit : List ℕ) (n : ℕ) : Type 0 where
+pub record Placed (format : Format) (carried entry exit : List ℕ) (n : ℕ) : Type 0 where
   pub text : List ℕ
-  pub carries : Carries format text sent
+  pub carries : Carries format text carried
   pub long : n ≡ length text
   pub whole : exit ≡ text ++ drop (length text) entry
 
 -- tests 7 and 8, and the text in the buffer where they are passed
 abbrev pub Takes : Format → List ℕ → List ℕ → Taken → List ℕ → Type 0
-Takes format sent entry (Text n) exit =
-    (text : List ℕ) × Carries format text sent × (length text ≤ length entry) × (n ≡ length text) × (exit ≡ text ++ drop (length text) entry)
-Takes format sent entry (Malformed bit) exit = Unreadable format sent bit × (exit ≡ entry)
-Takes format sent entry (NoRoom needed) exit =
-    ((text : List ℕ) × Carries format text sent × (length text ≡ needed) × (length entry < needed)) × (exit ≡ entry)
+Takes format carried entry (Text n) exit =
+    (text : List ℕ) × Carries format text carried × (length text ≤ length entry) × (n ≡ length text) × (exit ≡ text ++ drop (length text) entry)
+Takes format carried entry (Malformed bit) exit = Unreadable format carried bit × (exit ≡ entry)
+Takes format carried entry (NoRoom needed) exit =
+    ((text : List ℕ) × Carries format text carried × (length text ≡ needed) × (length entry < needed)) × (exit ≡ entry)
 
 -- ---- the writer's
 

@@ -161,8 +161,8 @@ fn measure(format: Format, data: &[u8]) -> Outcome
 {
     match format {
         Format::Open => Outcome::Text(data.len()),
-        Format::PseudoBinary => pseudo_binary::take_apart(data),
-        Format::FullAscii => full_ascii::take_apart(data),
+        Format::PseudoBinary => pseudo_binary_reader::take_apart(data),
+        Format::FullAscii => full_ascii_reader::take_apart(data),
     }
 }
 
@@ -173,8 +173,8 @@ fn unpack(format: Format, data: &[u8], text: &mut [u8]) -> usize
 {
     match format {
         Format::Open => bytes::copy(data, text),
-        Format::PseudoBinary => pseudo_binary::read(data, text),
-        Format::FullAscii => full_ascii::read(data, text),
+        Format::PseudoBinary => pseudo_binary_reader::read(data, text),
+        Format::FullAscii => full_ascii_reader::read(data, text),
     }
 }
 
@@ -239,8 +239,8 @@ fn first_uncoded(format: Format, text: &[u8]) -> Uncoded
 {
     match format {
         Format::Open => Uncoded::Nowhere,
-        Format::PseudoBinary => pseudo_binary::first_uncoded(text),
-        Format::FullAscii => full_ascii::first_uncoded(text),
+        Format::PseudoBinary => pseudo_binary_writer::first_uncoded(text),
+        Format::FullAscii => full_ascii_writer::first_uncoded(text),
     }
 }
 
@@ -260,8 +260,8 @@ fn data_length(format: Format, text: &[u8]) -> Needed
 {
     match format {
         Format::Open => open_length(text),
-        Format::PseudoBinary => pseudo_binary::data_length(text),
-        Format::FullAscii => full_ascii::data_length(text),
+        Format::PseudoBinary => pseudo_binary_writer::data_length(text),
+        Format::FullAscii => full_ascii_writer::data_length(text),
     }
 }
 
@@ -272,8 +272,8 @@ fn pack(format: Format, text: &[u8], data: &mut [u8]) -> usize
 {
     match format {
         Format::Open => bytes::copy(text, data),
-        Format::PseudoBinary => pseudo_binary::write(text, data),
-        Format::FullAscii => full_ascii::write(text, data),
+        Format::PseudoBinary => pseudo_binary_writer::write(text, data),
+        Format::FullAscii => full_ascii_writer::write(text, data),
     }
 }
 

@@ -1,6 +1,6 @@
 -- `packet::first_uncoded` meets its contract.
 -- Assumes nothing.
-use mathlib.Core.Path.{_≡_, sym, subst}
+use mathlib.Core.Path.{sym, subst}
 use borrow.Author.Needs.{needs}
 use Rattle.header.specs.declared.Format.{Format}
 use Rattle.codes.specs.declared.Uncoded.the-variants.{Nowhere}

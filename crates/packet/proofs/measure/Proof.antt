@@ -1,12 +1,10 @@
 -- `packet::measure` meets its contract.
 -- Assumes nothing.
-use mathlib.Core.List.{List}
-use mathlib.Core.Path.{_≡_, refl, sym, subst}
+use mathlib.Core.Path.{refl, sym, subst}
 use borrow.Author.Needs.{needs}
 use Rattle.header.specs.declared.Format.{Format}
 use Rattle.codes.specs.declared.Outcome.the-variants.{Text}
 use Rattle.packet.specs.Steps.{Measures}
-use Rattle.packet.proofs.Dispatch.{measures-pseudo, measures-ascii}
 use lib.ListN.{length}
 use Rattle.packet.proofs.measure.Statement.{statement}
 use Rattle.packet.proofs.measure.Tie as tie
@@ -28,18 +26,18 @@ take-apart-requires-2 c κs = search needs
 
 returns : tie.Need-returns
 returns c =
-    let sent = c .before .before .before .args .«data» .now in
-    subst (λ (k : Format). Measures k sent (Text (length sent))) (sym (c .enum-told .given .1)) (sent, refl, refl)
+    let carried = c .before .before .before .args .«data» .now in
+    subst (λ (k : Format). Measures k carried (Text (length carried))) (sym (c .enum-told .given .1)) refl
 
 returns-2 : tie.Need-returns-2
 returns-2 c =
-    let sent = c .before .before .before .before .args .«data» .now in
-    subst (λ (k : Format). Measures k sent (c .take-apart .result)) (sym (c .before .enum-told2 .given .1)) (measures-pseudo sent (c .take-apart .result) (c .take-apart .ensures))
+    let carried = c .before .before .before .before .args .«data» .now in
+    subst (λ (k : Format). Measures k carried (c .take-apart .result)) (sym (c .before .enum-told2 .given .1)) (c .take-apart .ensures)
 
 returns-3 : tie.Need-returns-3
 returns-3 c =
-    let sent = c .before .before .before .before .args .«data» .now in
-    subst (λ (k : Format). Measures k sent (c .take-apart2 .result)) (sym (c .before .enum-told3 .given .1)) (measures-ascii sent (c .take-apart2 .result) (c .take-apart2 .ensures))
+    let carried = c .before .before .before .before .args .«data» .now in
+    subst (λ (k : Format). Measures k carried (c .take-apart2 .result)) (sym (c .before .enum-told3 .given .1)) (c .take-apart2 .ensures)
 
 pub measure-spec : {M : Type 1} → statement M
 measure-spec =

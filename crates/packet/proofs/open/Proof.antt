@@ -1,9 +1,9 @@
 -- `packet::open` meets its contract: at each return the conditions of the tests passed do not hold, and the next one's does.
 -- Assumes nothing.
 use mathlib.Core.List.{List}
-use mathlib.Core.Logic.{_⊎_, inl, inr}
-use mathlib.Core.Path.{_≡_, refl, sym, ap, _∙_, subst}
-use Prim.Native.Nat.{ℕ, _+_, _≤_, _<_}
+use mathlib.Core.Logic.{inl, inr}
+use mathlib.Core.Path.{_≡_, sym, ap, _∙_, subst}
+use Prim.Native.Nat.{ℕ, _≤_}
 use native.Mathlib.Omega.{arith}
 use borrow.Author.Needs.{needs}
 use lib.ListN.{length}
@@ -17,8 +17,11 @@ use Rattle.header.specs.Valid.{lengthIn}
 use Rattle.mending.specs.declared.Mending.{Mending}
 use Rattle.mending.specs.declared.Mending.the-variants.{Mended, Hopeless}
 use Rattle.mending.specs.Mends.{Near, Mends, distance}
+use Rattle.codes.specs.Size.{longest}
 use Rattle.packet.specs.Packet.{received}
-use Rattle.packet.specs.Steps.{Headed}
+use Rattle.packet.specs.Reader.{Fault}
+use Rattle.packet.specs.Refusals.{readerTurn}
+use Rattle.packet.proofs.Refused.{Clear}
 use Rattle.packet.proofs.Stages.{clear-one, clear-two, clear-three, clear-four, clear-five}
 use Rattle.packet.proofs.open.Statement.{statement}
 use Rattle.packet.proofs.open.Tie as tie
@@ -154,25 +157,28 @@ cast-most c = search needs
 add-end : tie.Need-add-end
 add-end c = search needs
 
+-- no condition of a number below 4 holds; and none below 5, where the length is ours
+below-four : (c : tie.After-known-told2) (room : ℕ) → Clear (Fault (packet-at (word-at c)) room) readerTurn 4
+below-four c room =
+    clear-four (packet-at (word-at c)) room (bits-at (told-at c)) (near-at (told-at c) .0) (four (word-at c)) (c .before .typing2 .given .0 .0) (typed-at c)
+
+below-five : (c : tie.After-known-told2) (room : ℕ) → 1 ≤ lengthIn (bits-at (told-at c)) → lengthIn (bits-at (told-at c)) ≤ longest
+    → Clear (Fault (packet-at (word-at c)) room) readerTurn 5
+below-five c room =
+    clear-five (packet-at (word-at c)) room (bits-at (told-at c)) (near-at (told-at c) .0) (four (word-at c)) (c .before .typing2 .given .0 .0) (typed-at c)
+
 returns-4 : tie.Need-returns-4
 returns-4 c = λ room.
     let k = c .before .before in
-    let h = bits-at (told-at k) in
     let near = near-at (told-at k) .0 in
-    record {
-      fault = (h, near, inl (sym (long-at k) ∙ c .if2 .taken));
-      first = clear-four (packet-at (word-at k)) room h near (four (word-at k)) (k .before .typing2 .given .0 .0) (typed-at k);
-    }
+    record { fault = (bits-at (told-at k), near, inl (sym (long-at k) ∙ c .if2 .taken)); first = below-four k room }
 
 returns-5 : tie.Need-returns-5
 returns-5 c = λ room.
     let k = c .before .before .before in
     let h = bits-at (told-at k) in
     let near = near-at (told-at k) .0 in
-    record {
-      fault = (h, near, inr (omega (arith, long-at k, c .if3 .taken)));
-      first = clear-four (packet-at (word-at k)) room h near (four (word-at k)) (k .before .typing2 .given .0 .0) (typed-at k);
-    }
+    record { fault = (h, near, inr (omega (arith, long-at k, c .if3 .taken))); first = below-four k room }
 
 returns-6 : tie.Need-returns-6
 returns-6 c = λ room.
@@ -181,9 +187,7 @@ returns-6 c = λ room.
     let near = near-at (told-at k) .0 in
     record {
       fault = (h, near, omega (arith, long-at k, c .if4 .taken));
-      first =
-          clear-five (packet-at (word-at k)) room h near (four (word-at k)) (k .before .typing2 .given .0 .0) (typed-at k)
-          (omega (arith, long-at k, c .before .before .if2 .left)) (omega (arith, long-at k, c .before .if3 .left));
+      first = below-five k room (omega (arith, long-at k, c .before .before .if2 .left)) (omega (arith, long-at k, c .before .if3 .left));
     }
 
 returns-7 : tie.Need-returns-7
@@ -193,11 +197,13 @@ returns-7 c =
     let h = bits-at (told-at k) in
     record {
       header = h;
-      near = near-at (told-at k) .0;
-      typed = typed-at k;
-      some = omega (arith, long-at k, c .before .before .if2 .left);
-      few = omega (arith, long-at k, c .before .if3 .left);
-      whole = omega (arith, long-at k, c .if4 .left);
+      framed = record {
+        near = near-at (told-at k) .0;
+        typed = typed-at k;
+        some = omega (arith, long-at k, c .before .before .if2 .left);
+        few = omega (arith, long-at k, c .before .if3 .left);
+        whole = omega (arith, long-at k, c .if4 .left);
+      };
       sync = ap (λ (f : Header). f .sync) (k .before .before .before .before .from-bits .ensures);
       mended = near-at (told-at k) .1;
       long = long-at k;

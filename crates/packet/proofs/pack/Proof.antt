@@ -2,7 +2,7 @@
 -- Assumes nothing.
 use mathlib.Core.List.{List, _++_}
 use mathlib.Core.Path.{_≡_, sym, ap, _∙_, subst}
-use Prim.Native.Nat.{ℕ, _≤_}
+use Prim.Native.Nat.{ℕ}
 use native.Mathlib.Omega.{arith}
 use borrow.Author.Needs.{needs}
 use lib.ListN.{length, take, drop}
@@ -10,9 +10,9 @@ use lib.Seq.{take-length}
 use Rattle.header.specs.declared.Format.{Format}
 use Rattle.header.specs.declared.Format.the-variants.{Open, PseudoBinary, FullAscii}
 use Rattle.codes.proofs.Pack.{length-written}
-use Rattle.full_ascii.specs.Sending as ascii
+use Rattle.full_ascii_writer.specs.Sending as ascii
 use Rattle.full_ascii.specs.Writer as ascii-writer
-use Rattle.pseudo_binary.specs.Sending as pseudo
+use Rattle.pseudo_binary_writer.specs.Sending as pseudo
 use Rattle.packet.specs.Data.{dataOf}
 use Rattle.packet.specs.Steps.{Fits, Packed}
 use Rattle.packet.proofs.pack.Statement.{statement}

@@ -1,19 +1,18 @@
 -- `packet::read_data` meets its contract.
 -- Assumes nothing.
-use mathlib.Core.Bool.{Bool, true, false, not}
-use mathlib.Core.List.{List, [], _∷_}
-use mathlib.Core.Path.{_≡_, refl, sym, ap, ap₂, _∙_, subst}
-use Prim.Native.Nat.{ℕ, _+_, _-_}
+use mathlib.Core.List.{List}
+use mathlib.Core.Path.{_≡_, refl, subst}
+use Prim.Native.Nat.{ℕ}
 use borrow.Author.Needs.{needs}
 use borrow.Author.Tests.{not-true, not-false}
-use lib.ListN.{length, getD, take, drop}
+use lib.ListN.{length, take}
 use Rattle.bits.specs.Says.{Says}
 use Rattle.bits.proofs.Said.{said-yes, said-no}
 use Rattle.checksum.specs.Checksum.{sent}
 use Rattle.packet.specs.declared.Taken.{Taken}
 use Rattle.packet.specs.declared.Taken.the-variants.{Text, Malformed, NoRoom}
 use Rattle.packet.specs.Packet.{dataIn, sumIn}
-use Rattle.packet.specs.Steps.{Headed, Takes}
+use Rattle.packet.specs.Steps.{Takes}
 use Rattle.packet.proofs.Answers.{part-is, tested, refused-sum, refused-place, refused-room, accepted}
 use Rattle.packet.proofs.read_data.Statement.{statement}
 use Rattle.packet.proofs.read_data.Tie as tie
@@ -36,7 +35,7 @@ taken-at : (c : tie.After-take)
 taken-at c =
     let a = start (agreed c) in
     subst
-    (λ (sent : List ℕ). Takes (a .args .opened .format) sent (a .args .text .now) (c .take .result) (c .take .last .1 .1 .0))
+    (λ (carried : List ℕ). Takes (a .args .opened .format) carried (a .args .text .now) (c .take .result) (c .take .last .1 .1 .0))
     (part-is (a .args .packet .now) (a .args .opened) (a .pre)) (c .take .ensures)
 
 summed-at : (c : tie.After-take)

@@ -1,14 +1,16 @@
 -- `packet::take` meets its contract.
 -- Assumes nothing.
 use mathlib.Core.List.{List}
-use mathlib.Core.Path.{_≡_, refl, sym, ap, _∙_, subst}
-use Prim.Native.Nat.{ℕ, _≤_}
+use mathlib.Core.Path.{_≡_, refl, sym, ap, subst}
+use Prim.Native.Nat.{ℕ}
 use native.Mathlib.Omega.{arith}
 use borrow.Author.Needs.{needs}
 use lib.ListN.{length}
 use Rattle.codes.specs.declared.Outcome.{Outcome}
 use Rattle.codes.specs.declared.Outcome.the-variants.{Text, Malformed, TooLong}
+use Rattle.packet.specs.Data.{Carries}
 use Rattle.packet.specs.Steps.{Measures}
+use Rattle.packet.proofs.Dispatch.{measures-text, measures-place, measures-long}
 use Rattle.packet.proofs.Formats.{carries-one}
 use Rattle.packet.proofs.take.Statement.{statement}
 use Rattle.packet.proofs.take.Tie as tie
@@ -20,6 +22,10 @@ start c = c .before .before .before
 
 measured : (c : tie.After-measure) (r : Outcome) → c .measure .result ≡ r → Measures (start c .args .format) (start c .args .«data» .now) r
 measured c r e = subst (Measures (start c .args .format) (start c .args .«data» .now)) e (c .measure .ensures)
+
+found-at : (c : tie.After-measure) (n : ℕ) → c .measure .result ≡ Text n
+    → (text : List ℕ) × (length text ≡ n) × Carries (start c .args .format) text (start c .args .«data» .now)
+found-at c n e = measures-text (start c .args .format) (start c .args .«data» .now) n (measured c (Text n) e)
 
 measure-requires : tie.Need-measure-requires
 measure-requires c κs = search needs
@@ -37,27 +43,28 @@ returns : tie.Need-returns
 returns c =
     let m = c .before .before .before .before in
     let n = c .before .before .measured2 .given .0 .0 in
-    let found = measured m (Text n) (c .before .before .measured2 .given .1) in
+    let found = found-at m n (c .before .before .measured2 .given .1) in
     ((found .0, found .2, found .1, c .if1 .taken), refl)
 
 unpack-requires : tie.Need-unpack-requires
 unpack-requires c κs =
     let k = c .before .before in
     let m = k .before .before .before in
-    let found = measured m (Text (k .before .measured2 .given .0 .0)) (k .before .measured2 .given .1) in
+    let found = found-at m (k .before .measured2 .given .0 .0) (k .before .measured2 .given .1) in
     (start m .pre, record { text = found .0; carries = found .2; held = omega (arith, found .1, c .before .if1 .left) })
 
 -- a packet's data is short
 returns-2 : tie.Need-returns-2
 returns-2 c =
     let m = c .before .before in
-    let long = measured m TooLong (c .enum-told .given .1) in
+    let long = measures-long (start m .args .format) (start m .args .«data» .now) (measured m TooLong (c .enum-told .given .1)) in
     absurd (let no′ : ⊥ = omega (arith, start m .pre) in no′)
 
 returns-3 : tie.Need-returns-3
 returns-3 c =
     let i = c .before .measured .given .0 .0 in
-    (measured (c .before .before .before) (Malformed i) (c .before .measured .given .1), refl)
+    let m = c .before .before .before in
+    (measures-place (start m .args .format) (start m .args .«data» .now) i (measured m (Malformed i) (c .before .measured .given .1)), refl)
 
 same-length : tie.Need-same-length
 same-length c = search needs
@@ -69,7 +76,7 @@ returns-4 c =
     let m = k .before .before .before in
     let a = start m .args in
     let p = u .unpack .ensures in
-    let found = measured m (Text (k .before .measured2 .given .0 .0)) (k .before .measured2 .given .1) in
+    let found = found-at m (k .before .measured2 .given .0 .0) (k .before .measured2 .given .1) in
     let same = carries-one (a .format) (p .text) (found .0) (a .«data» .now) (p .carries) (found .2) in
     (p .text, p .carries, omega (arith, ap length same, found .1, u .before .before .if1 .left), p .long, p .whole)
 

@@ -8,18 +8,18 @@ use borrow.Author.Needs.{needs}
 use lib.ListN.{length, take, drop}
 use lib.Seq.{take-length}
 use Rattle.header.specs.declared.Format.{Format}
-use Rattle.header.specs.declared.Format.the-variants.{Open, PseudoBinary, FullAscii}
+use Rattle.header.specs.declared.Format.the-variants.{Open}
 use Rattle.packet.specs.Steps.{Readable, Placed}
 use Rattle.packet.proofs.Dispatch.{readable-pseudo, readable-ascii, placed-pseudo, placed-ascii}
 use Rattle.packet.proofs.unpack.Statement.{statement}
 use Rattle.packet.proofs.unpack.Tie as tie
 
-open-held : (sent : List ℕ) (room : ℕ) → Readable Open sent room → length sent ≤ room
-open-held sent room r = omega (arith, ap length (r .carries), r .held)
+open-held : (carried : List ℕ) (room : ℕ) → Readable Open carried room → length carried ≤ room
+open-held carried room r = omega (arith, ap length (r .carries), r .held)
 
-open-placed : (sent entry exit : List ℕ) (n : ℕ) → n ≡ length sent → exit ≡ take (length sent) sent ++ drop (length sent) entry → Placed Open sent entry exit n
-open-placed sent entry exit n long whole =
-    record { text = sent; carries = refl; long = long; whole = whole ∙ ap (λ (l : List ℕ). l ++ drop (length sent) entry) (take-length sent) }
+open-placed : (carried entry exit : List ℕ) (n : ℕ) → n ≡ length carried → exit ≡ take (length carried) carried ++ drop (length carried) entry → Placed Open carried entry exit n
+open-placed carried entry exit n long whole =
+    record { text = carried; carries = refl; long = long; whole = whole ∙ ap (λ (l : List ℕ). l ++ drop (length carried) entry) (take-length carried) }
 
 enum-told : tie.Need-enum-told
 enum-told c = search needs

@@ -1,18 +1,17 @@
 -- `packet::write` meets its contract: at each return the conditions of the tests passed do not hold, and the next one's does.
 -- Assumes nothing.
 use mathlib.Core.List.{List, [], _∷_}
-use mathlib.Core.Path.{_≡_, refl, sym, ap, _∙_, subst}
+use mathlib.Core.Path.{_≡_, refl, ap, subst}
 use Prim.Native.Nat.{ℕ, _+_, _≤_, _<_}
 use native.Mathlib.Omega.{arith}
 use borrow.Author.Needs.{needs}
 use lib.ListN.{length}
 use Rattle.header.specs.declared.Format.{Format}
-use Rattle.header.specs.declared.Typing.{Typing}
 use Rattle.header.specs.Typed.{Names, formatNumber}
 use Rattle.packet.specs.Data.{coded, Coded, dataOf}
 use Rattle.codes.specs.Size.{longest}
 use Rattle.codes.specs.Size.{Searches, Needs}
-use Rattle.packet.proofs.WriteStages.{clear-zero, clear-one, clear-two, clear-three, clear-four}
+use Rattle.packet.proofs.WriteStages.{clear-twelve, clear-ten, clear-nine, clear-eleven, clear-eight}
 use Rattle.packet.proofs.write.Statement.{statement}
 use Rattle.packet.proofs.write.Tie as tie
 
@@ -65,7 +64,7 @@ returns c =
     let a = c .before .before .before .before .before .args in (
       record {
         fault = subst (Names (a .format)) (c .enum-told .given .1) (c .before .before .named .ensures);
-        first = clear-zero (a .format) (a .text .now) (length (a .packet .now));
+        first = clear-twelve (a .format) (a .text .now) (length (a .packet .now));
       },
       refl,
     )
@@ -76,7 +75,7 @@ returns-2 c =
     let a = start k .args in (
       record {
         fault = no-text (a .text .now) (c .if1 .taken);
-        first = clear-one (a .format) (a .text .now) (length (a .packet .now)) (format-at k) (named-at k);
+        first = clear-ten (a .format) (a .text .now) (length (a .packet .now)) (format-at k) (named-at k);
       },
       refl,
     )
@@ -98,7 +97,7 @@ returns-3 c =
           named-at k,
           subst (Searches (coded (format-at k)) (a .text .now)) (c .before .uncoded .given .1) (u .first-uncoded .ensures),
         );
-        first = clear-two (a .format) (a .text .now) (length (a .packet .now)) (format-at k) (named-at k) (some-at (u .before));
+        first = clear-nine (a .format) (a .text .now) (length (a .packet .now)) (format-at k) (named-at k) (some-at (u .before));
       },
       refl,
     )
@@ -124,7 +123,7 @@ returns-4 c =
         fault =
             (format-at k, named-at k, subst (Needs (dataOf (format-at k) (a .text .now))) (c .enum-told3 .given .1) (d .data-length .ensures));
         first =
-            clear-three (a .format) (a .text .now) (length (a .packet .now)) (format-at k) (named-at k) (some-at (d .before .before .before .before))
+            clear-eleven (a .format) (a .text .now) (length (a .packet .now)) (format-at k) (named-at k) (some-at (d .before .before .before .before))
             (coded-at (d .before));
       },
       refl,
@@ -144,7 +143,7 @@ returns-5 c =
       record {
         fault = (format-at k, named-at k, (ap (λ (m : ℕ). m + 6) (needed-at n .0), c .if2 .taken));
         first =
-            clear-four (a .format) (a .text .now) (length (a .packet .now)) (format-at k) (named-at k)
+            clear-eight (a .format) (a .text .now) (length (a .packet .now)) (format-at k) (named-at k)
             (some-at (n .before .before .before .before .before .before .before)) (coded-at (n .before .before .before .before))
             (omega (arith, needed-at n .0, needed-at n .1));
       },
