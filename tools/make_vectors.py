@@ -5,12 +5,14 @@ Written from the documents alone: 01 (what is to be made) and source document 00
 (tests/vectors/section5.txt) the expectation is the published packet and the message beside it; for the edges P1 to P15 it is the line of 01's table; for
 all others it is worked out here, in the plainest way: bits are strings of 0 and 1, a header is mended by trying every pattern of at most two bits.
 
-    python3 tools/make_vectors.py
+    python3 tools/make_vectors.py            writes both files
+    python3 tools/make_vectors.py --check    writes nothing: are they what would be written?
 """
 import itertools
 import pathlib
 import random
 import re
+import sys
 import zlib
 
 ROOT = pathlib.Path(__file__).resolve().parent.parent
@@ -249,12 +251,19 @@ def flipped(received, places):
     return word.to_bytes(4, "big") + received[4:]
 
 
-def published():
-    """001's section 5: the packets, and the messages beside them."""
+def sections():
+    """001's section 5, by number: the packet, and the text of the message beside it."""
+    found = {}
     for section in (ROOT / "tests/vectors/section5.txt").read_text().split("\n## ")[1:]:
-        name = section.split()[0]
         sent = bytes.fromhex("".join(re.findall(r"^packet (\w+)", section, re.M)))
         message = bytes.fromhex("".join(re.findall(r"^text (\w+)", section, re.M)))
+        found[section.split()[0]] = sent, message
+    return found
+
+
+def published():
+    """001's section 5: the packets, and the messages beside them."""
+    for name, (sent, message) in sections().items():
         if name in ("5.3", "5.4"):  # Numeric and SHEF: refused
             reads(sent, 400, ("refused 3", 0, b""))
             continue
@@ -274,6 +283,22 @@ def published():
         writes(format, text, used + 3, answer=written)
         writes(format, text, used, answer=written)
         writes(format, text, used - 1, answer=("refused 8", used, b""))
+
+
+def messages():
+    """The text of every message of section 5, in formats 4 and 1 where it has codes there, and read back; 2 and 3 are not ours."""
+    for sent, text in sections().values():
+        for extended in 2, 3:
+            writes(extended, text, 500, answer=("refused 12", 0, b""))
+        for format in ASCII, PSEUDO:
+            uncoded = [index for index, character in enumerate(text) if not CODE[format](character)]
+            if not text or uncoded:
+                writes(format, text, 500, answer=("refused 9", uncoded[0], b"") if text else ("refused 10", 0, b""))
+                continue
+            for sync in 0, 1:
+                whole = packet_of(format, WRITE[format](text), sync)
+                writes(format, text, 500, sync, (f"written {len(whole)}", len(whole), whole))
+                reads(whole, len(text) + 1, (f"ok {format} {sync} 0 {len(whole) - 6} {len(text)}", len(whole), text))
 
 
 def edges():
@@ -344,8 +369,46 @@ def reader_refusals():
         reads(whole[:6] + whole[7:8] + whole[6:7], 40)
 
 
+def bit_strings(longest):
+    return ["".join(bits) for length in range(longest + 1) for bits in itertools.product("01", repeat=length)]
+
+
+def begins_code(format, rest):
+    """Whether the bits start with a whole code (Pseudo Binary: with a whole indicator)."""
+    if rest[:1] == "0":
+        return len(rest) >= 6
+    if format == PSEUDO:
+        return len(rest) >= 8
+    return len(rest) >= (9 if rest[:7] == "1" * 7 else 7)
+
+
+def endings():
+    """Every remainder that cannot be read, each at two distances from the start."""
+    bad = {format: [rest for rest in bit_strings(8) if not is_end(rest) and not begins_code(format, rest)] for format in (ASCII, PSEUDO)}
+    bad[PSEUDO] = [rest for rest in bad[PSEUDO] if len(rest) % 2 == 0]  # its codes have 6 and 8 bits
+    values = [rest for rest in bit_strings(5) if len(rest) % 2 == 0]  # where a value of six bits is announced, ones are no fill
+    assert (len(bad[ASCII]), len(bad[PSEUDO]), len(values)) == (90, 49, 21)
+
+    def malformed(format, front, rest):
+        assert len(front + rest) % 8 == 0
+        reads(packet_of(format, bytes_of(front + rest)), 20, ("refused 7", len(front), b""))
+
+    for rest in bad[ASCII]:
+        to_byte = -len(rest) % 8  # seven bits are one less than a byte
+        malformed(ASCII, "1000001" * (8 - to_byte), rest)
+        malformed(ASCII, "111111111" + "010000" * 12 + "1111110" * (17 - to_byte), rest)
+    for rest in bad[PSEUDO]:
+        sixes = len(rest) // 2 % 4  # six bits are two less than a byte
+        malformed(PSEUDO, "010010" * sixes, rest)
+        malformed(PSEUDO, "10010011" + "101010" * 20 + "001111" * (8 + sixes), rest)
+    for rest in values:
+        sixes = len(rest) // 2 % 4
+        malformed(PSEUDO, f"1{sixes:07b}" + "110011" * sixes, rest)
+        malformed(PSEUDO, "010000" * 4 + "11111111" + "000111" * (28 + sixes), rest)
+
+
 def compact_data():
-    """Every data byte alone, and what ends in every way."""
+    """Every data byte alone, and others by chance."""
     generator = random.Random(2)
     for format in PSEUDO, ASCII:
         for byte in range(256):
@@ -423,10 +486,25 @@ def texts():
         reads(whole + generator.randbytes(generator.randrange(3)), len(text) + generator.randrange(-1, 3))
 
 
-for group in published, edges, headers, reader_refusals, compact_data, longest, writer_refusals, texts:
-    before = COUNT
-    group()
-    print(f"{group.__name__}: {COUNT - before} cases")
-print(f"{COUNT} cases, {len(STDIN)} bytes")
-(ROOT / "crates/vectors/stdin").write_bytes(STDIN)
-(ROOT / "crates/vectors/stdout").write_text("".join(STDOUT))
+def make():
+    for group in published, messages, edges, headers, reader_refusals, endings, compact_data, longest, writer_refusals, texts:
+        before = COUNT
+        group()
+        print(f"{group.__name__}: {COUNT - before} cases")
+    print(f"{COUNT} cases, {len(STDIN)} bytes")
+    return {"stdin": bytes(STDIN), "stdout": "".join(STDOUT).encode()}
+
+
+def main(words):
+    if words not in ([], ["--check"]):
+        sys.exit("usage: make_vectors.py [--check]")
+    for name, made in make().items():
+        file = ROOT / "crates/vectors" / name
+        if not words:
+            file.write_bytes(made)
+        elif file.read_bytes() != made:
+            sys.exit(f"crates/vectors/{name} is not what tools/make_vectors.py makes")
+
+
+if __name__ == "__main__":
+    main(sys.argv[1:])

@@ -1,40 +1,35 @@
--- The promises of `put_line`, `line` and `report` leave one answer and one content of each buffer; and the line of a packet that is refused.
+-- The promise of `report` leaves one answer and one content of each buffer (that of `line` by `one-front` of `codes`); and the line of a packet that is refused.
 -- Assumes nothing.
-use mathlib.Core.List.{List, [], _∷_, _++_}
-use mathlib.Core.Path.{_≡_, refl, sym, ap, _∙_, subst}
+use mathlib.Core.List.{List, [], _∷_}
+use mathlib.Core.Path.{_≡_, refl, sym, subst}
 use Prim.Native.Nat.{ℕ}
-use lib.ListN.{length, drop}
+use lib.ListN.{length}
+use Rattle.codes.specs.Laid.{Fronted}
+use Rattle.codes.proofs.Only.{one-front}
 use Rattle.packet.specs.declared.ReadAnswer.{ReadAnswer}
 use Rattle.packet.specs.declared.ReadAnswer.the-variants.{Refused}
 use Rattle.packet.specs.declared.Refusal.{Refusal}
 use Rattle.packet.specs.declared.Refusal.the-variants.{NoHeader}
 use Rattle.packet.specs.Reader.{Refuses}
 use Rattle.packet.proofs.ReadOnce.{reads-one}
-use Rattle.report.specs.Line.{decimalIn, decimal, spaced, line, lineOf, Fronts}
+use Rattle.report.specs.Line.{decimalIn, decimal, spaced, line, lineOf}
 use Rattle.report.specs.Report.{Reports}
-
--- a row at the front of a buffer: of `put_line` and `line`
-pub fronts-one : {row entry exit exit′ : List ℕ} {r s : ℕ} → Fronts row entry exit r → Fronts row entry exit′ s
-    → (r ≡ s) × (exit ≡ exit′)
-fronts-one {row} {entry} p q =
-    let same = p .long ∙ sym (q .long) in
-    (same, p .whole ∙ ap (λ (k : ℕ). row ++ drop k entry) same ∙ sym (q .whole))
 
 pub reports-one : {packet text text′ text″ out out′ out″ : List ℕ} {r s : ℕ} → Reports packet text text′ out out′ r
     → Reports packet text text″ out out″ s → (r ≡ s) × (out′ ≡ out″) × (text′ ≡ text″)
 reports-one {packet} {text} {text′} {text″} {out} {out′} {out″} {r} {s} p q =
     let one = reads-one packet text (p .answer) (q .answer) text′ text″ (p .reads) (q .reads) in
-    let same = fronts-one (p .line) (subst (λ (answer : ReadAnswer). Fronts (lineOf answer) out out″ s) (sym (one .0)) (q .line)) in
-    (same .0, same .1, one .1)
+    let same = one-front (p .line) (subst (λ (answer : ReadAnswer). Fronted (lineOf answer) out out″ s) (sym (one .0)) (q .line)) in
+    (same .1, same .0, one .1)
 
 -- ---- a packet that is refused
 
 -- the line says so, and the text buffer is as it was
 pub reports-refused : {packet text text′ out out′ : List ℕ} {r : ℕ} {refusal : Refusal} → Refuses packet (length text) refusal
-    → Reports packet text text′ out out′ r → Fronts (lineOf (Refused refusal)) out out′ r × (text′ ≡ text)
+    → Reports packet text text′ out out′ r → Fronted (lineOf (Refused refusal)) out out′ r × (text′ ≡ text)
 reports-refused {packet} {text} {text′} {out} {out′} {r} {refusal} f p =
     let one = reads-one packet text (p .answer) (Refused refusal) text′ text (p .reads) (f, refl) in
-    (subst (λ (answer : ReadAnswer). Fronts (lineOf answer) out out′ r) (one .0) (p .line), one .1)
+    (subst (λ (answer : ReadAnswer). Fronted (lineOf answer) out out′ r) (one .0) (p .line), one .1)
 
 -- `refused 2` and a newline: the line of P6
 pub refused-two : lineOf (Refused NoHeader)

@@ -8,9 +8,9 @@ use native.Mathlib.Nat.{add-zero, zero-add}
 use native.Mathlib.Numerals.{add-one}
 use lib.ListN.{length, getD, take, drop, set, length-append, drop-of-length-le}
 use lib.Seq.{drop-cons, take-length}
-use Rattle.codes.specs.Laid.{laid}
+use Rattle.codes.specs.Laid.{laid, Fronted}
 use Rattle.codes.proofs.Laid.{laid-nil, laid-laid, length-laid, set-laid}
-use Rattle.report.specs.Line.{digit, decimal, spaced, line, Puts, Fronts}
+use Rattle.report.specs.Line.{digit, decimal, spaced, line, Puts}
 use Rattle.report.proofs.Decimal.{decimal-small, decimal-large}
 
 -- nothing else changed, the length neither
@@ -94,11 +94,11 @@ module _ {numbers entry : List ℕ} {at : ℕ} {out : List ℕ} {end i : ℕ} (l
 -- ---- a line
 
 -- a row laid at place 0 stands at the front
-front : {row entry exit : List ℕ} {r : ℕ} → Puts row entry exit 0 r → Fronts row entry exit r
+front : {row entry exit : List ℕ} {r : ℕ} → Puts row entry exit 0 r → Fronted row entry exit r
 unfolding laid
 front {row} {entry} p =
     let long = p .place ∙ zero-add (length row) in
-    record { long = long; whole = p .whole ∙ ap (λ (k : ℕ). row ++ drop k entry) (sym (p .place)) }
+    record { size = long; whole = p .whole ∙ ap (λ (k : ℕ). row ++ drop k entry) (sym (p .place)) }
 
 module _ (word numbers entry : List ℕ) (held : length (line word numbers) ≤ length entry) where
   pub line-held : length word + length (spaced numbers) + 1 ≤ length entry
@@ -119,7 +119,7 @@ module _ (word numbers entry : List ℕ) (held : length (line word numbers) ≤ 
     spaced-held = omega (arith, line-held, puts-length word-put (omega (arith, line-held)))
 
     pub line-put : (late : List ℕ) (end : ℕ) → Puts (spaced numbers) mid late at end
-        → (end < length late) × Fronts (line word numbers) entry (set late end 10) (end + 1)
+        → (end < length late) × Fronted (line word numbers) entry (set late end 10) (end + 1)
     unfolding line
     line-put late end p =
         let here : end < length late = omega (arith, p .place, spaced-held, puts-length p (omega (arith, spaced-held))) in (
@@ -129,5 +129,5 @@ module _ (word numbers entry : List ℕ) (held : length (line word numbers) ≤ 
         )
 
 -- what stands at the front is a part of the buffer
-pub front-within : {row entry exit : List ℕ} {r : ℕ} → Fronts row entry exit r → r ≤ length exit
-front-within {row} {entry} {exit} {r} p = omega (arith, p .long, ap length (p .whole), length-append row (drop r entry))
+pub front-within : {row entry exit : List ℕ} {r : ℕ} → Fronted row entry exit r → r ≤ length exit
+front-within {row} {entry} {exit} {r} p = omega (arith, p .size, ap length (p .whole), length-append row (drop r entry))

@@ -6,7 +6,7 @@ use mathlib.Core.List.{List, [], _∷_, _++_}
 use mathlib.Core.Path.{_≡_}
 use Prim.Native.Nat.{ℕ, zero, suc, _+_, _/_, _%_}
 use lib.Dec.{ltb}
-use lib.ListN.{length, drop}
+use lib.ListN.{length}
 use Rattle.header.specs.Fields.{oneIf}
 use Rattle.header.specs.Typed.{formatNumber}
 use Rattle.codes.specs.Laid.{laid}
@@ -62,8 +62,3 @@ room = 128
 pub record Puts (row entry exit : List ℕ) (n r : ℕ) : Type 0 where
   pub place : r ≡ n + length row
   pub whole : exit ≡ laid entry n row
-
--- the row stands at the front of the buffer, r bytes, and behind it nothing changed
-pub record Fronts (row entry exit : List ℕ) (r : ℕ) : Type 0 where
-  pub long : r ≡ length row
-  pub whole : exit ≡ row ++ drop r entry

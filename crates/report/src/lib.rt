@@ -3,7 +3,8 @@ use header::Header;
 use packet::ReadAnswer;
 ghost use Prim.Native.Nat.{_+_, _≤_};
 ghost use lib.ListN.{length};
-ghost use Rattle.report.specs.Line.{decimal, spaced, line as lineWith, lineOf, room, Puts, Fronts};
+ghost use Rattle.report.specs.Line.{decimal, spaced, line as lineWith, lineOf, room, Puts};
+ghost use Rattle.codes.specs.Laid.{Fronted};
 ghost use Rattle.report.specs.Report.{Reports};
 
 // A number in decimal, from place `at` on; the place behind it.
@@ -36,9 +37,9 @@ fn put_spaced(numbers: &[usize], out: &mut [u8], at: usize) -> usize
 }
 
 // A word, numbers, and the end of the line, at the front of `out`; how many bytes that is.
-pub fn put_line(word: &[u8], numbers: &[usize], out: &mut [u8]) -> usize
+fn put_line(word: &[u8], numbers: &[usize], out: &mut [u8]) -> usize
     requires { ⌜ length (lineWith (now word) (now numbers)) ≤ length (now out) ⌝ }
-    ensures { λ r. ⌜ Fronts (lineWith (now (word .entry)) (now (numbers .entry))) (now (out .entry)) (now (out .exit)) r ⌝ }
+    ensures { λ r. ⌜ Fronted (lineWith (now (word .entry)) (now (numbers .entry))) (now (out .entry)) (now (out .exit)) r ⌝ }
 {
     let at = bytes::copy(word, out);
     let end = put_spaced(numbers, out, at);
@@ -49,7 +50,7 @@ pub fn put_line(word: &[u8], numbers: &[usize], out: &mut [u8]) -> usize
 // The line of an answer, at the front of `out`.
 pub fn line(answer: ReadAnswer, out: &mut [u8]) -> usize
     requires { ⌜ room ≤ length (now out) ⌝ }
-    ensures { λ r. ⌜ Fronts (lineOf answer) (now (out .entry)) (now (out .exit)) r ⌝ }
+    ensures { λ r. ⌜ Fronted (lineOf answer) (now (out .entry)) (now (out .exit)) r ⌝ }
 {
     match answer {
         ReadAnswer::Accepted(reading) => {

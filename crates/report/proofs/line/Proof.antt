@@ -6,7 +6,8 @@ use Prim.Native.Nat.{ℕ}
 use native.Mathlib.Nat.{le-trans}
 use native.Mathlib.Omega.{arith}
 use borrow.Author.Needs.{needs}
-use Rattle.report.specs.Line.{ok, refused, line, lineOf, Fronts}
+use Rattle.report.specs.Line.{ok, refused, line, lineOf}
+use Rattle.codes.specs.Laid.{Fronted}
 use Rattle.report.proofs.Decimal.{line-within}
 use Rattle.report.proofs.line.Statement.{statement}
 use Rattle.report.proofs.line.Tie as tie
@@ -67,7 +68,7 @@ returns c =
     let put = c .before .before .put-line in
     let reading = read .answer .given .0 .0 in
     let synced = c .before .before .before .before .before .before .before in
-    subst (λ (l : List ℕ). Fronts l (start .args .out .now) (put .last .1 .1 .0) (put .result))
+    subst (λ (l : List ℕ). Fronted l (start .args .out .now) (put .last .1 .1 .0) (put .result))
     (ap₂
     (λ (format sync : ℕ). line ok (format ∷ sync ∷ reading .mended ∷ reading .«data_length» ∷ reading .«text_length» ∷ []))
     (synced .before .number .ensures) (synced .one-if .ensures)
@@ -82,7 +83,7 @@ returns-2 c =
     let read = c .before .before .before .before .before .before .before .before in
     let start = read .before .before .before in
     let put = c .before .before .put-line2 in
-    subst (λ (l : List ℕ). Fronts l (start .args .out .now) (put .last .1 .1 .0) (put .result))
+    subst (λ (l : List ℕ). Fronted l (start .args .out .now) (put .last .1 .1 .0) (put .result))
     (ap (λ (number : ℕ). line refused (number ∷ [])) (c .before .before .before .before .before .number2 .ensures)
     ∙ sym (ap lineOf (read .answer2 .given .1)))
     (put .ensures)

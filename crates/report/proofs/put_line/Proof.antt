@@ -1,11 +1,11 @@
 -- `report::put_line` meets its contract.
 -- Assumes nothing.
 use native.Mathlib.Omega.{arith}
-use borrow.Author.Needs.{needs}
 use mathlib.Core.Path.{_∙_}
 use Prim.Native.Nat.{_+_, _<_}
 use lib.ListN.{length, set, length-set}
-use Rattle.report.specs.Line.{line, Fronts}
+use Rattle.codes.specs.Laid.{Fronted}
+use Rattle.report.specs.Line.{line}
 use Rattle.report.proofs.Putting.{line-held, spaced-held, line-put}
 use Rattle.report.proofs.put_line.Statement.{statement}
 use Rattle.report.proofs.put_line.Tie as tie
@@ -28,7 +28,7 @@ put-spaced-requires c κs =
 -- the line stands once its end does
 whole : (c : tie.After-slice-known3)
     → (c .before .before .put-spaced .result < length (c .before .before .put-spaced .last .1 .0))
-    × Fronts
+    × Fronted
     (line (c .before .before .before .before .before .before .before .before .before .before .before .args .word .now)
     (c .before .before .before .before .before .before .before .before .before .before .before .args .numbers .now))
     (c .before .before .before .before .before .before .before .before .before .before .before .args .out .now)

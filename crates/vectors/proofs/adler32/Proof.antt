@@ -2,7 +2,7 @@
 -- Assumes nothing.
 use borrow.Author.Needs.{needs}
 use native.Mathlib.Omega.{arith}
-use Prim.Native.Nat.{_≤_, _<_, _-_}
+use Prim.Native.Nat.{_<_, _-_}
 use lib.ListN.{length}
 use Rattle.vectors.proofs.adler32.Statement.{statement}
 use Rattle.vectors.proofs.adler32.Tie as tie

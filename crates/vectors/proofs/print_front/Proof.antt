@@ -2,8 +2,7 @@
 -- Assumes nothing.
 use borrow.Author.Needs.{needs}
 use native.Mathlib.Omega.{arith}
-use Prim.Native.Nat.{_≤_, _<_, _-_}
-use lib.ListN.{length}
+use Prim.Native.Nat.{_-_}
 use Rattle.vectors.proofs.print_front.Statement.{statement}
 use Rattle.vectors.proofs.print_front.Tie as tie
 

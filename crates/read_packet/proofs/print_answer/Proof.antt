@@ -1,11 +1,11 @@
--- `read_packet::main` is safe and ends: the line is a part of its buffer.
+-- `read_packet::print_answer` is safe and ends: the line is a part of its buffer.
 -- Assumes nothing.
 use mathlib.Core.Path.{sym}
 use borrow.Author.Needs.{needs}
 use lib.Seq.{length-take-le}
 use Rattle.report.proofs.Putting.{front-within}
-use Rattle.read_packet.proofs.main.Statement.{statement}
-use Rattle.read_packet.proofs.main.Tie as tie
+use Rattle.read_packet.proofs.print_answer.Statement.{statement}
+use Rattle.read_packet.proofs.print_answer.Tie as tie
 
 slice-aggregate-read-full : tie.Need-slice-aggregate-read-full
 slice-aggregate-read-full c = search needs
@@ -41,8 +41,8 @@ write-all-requires c κs = search needs
 returns : tie.Need-returns
 returns c = search needs
 
-pub main-spec : {M : Type 1} → statement M
-main-spec =
+pub print-answer-spec : {M : Type 1} → statement M
+print-answer-spec =
     tie.close
     (tie.spec
     slice-aggregate-read-full
