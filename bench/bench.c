@@ -127,7 +127,7 @@ static void same_outputs(const struct job *job)
         if (who == 0)
             memcpy(first_output, output, sizeof output);
         if (refusal != job->refusal || memcmp(first_output, output, sizeof output) != 0) {
-            printf("the implementations differ\n");
+            fprintf(stderr, "the implementations differ\n");
             exit(1);
         }
     }

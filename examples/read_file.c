@@ -1,4 +1,4 @@
-/* Reads a packet from a file and prints its text: read_file FILE. */
+/* Reads a packet from a file and prints its text: read_file FILE. Status 0: printed; 1: refused; 2: a file could not be read or written. */
 #include "rosopyat.h"
 
 #include <stdio.h>
@@ -6,12 +6,20 @@
 int main(int count, char **words)
 {
     static uint8_t packet[ROSOPYAT_MOST_PACKET], text[ROSOPYAT_MOST_TEXT];
-    FILE *file = count == 2 ? fopen(words[1], "rb") : NULL;
-    if (!file) {
+    if (count != 2) {
         fprintf(stderr, "usage: read_file FILE\n");
         return 2;
     }
+    FILE *file = fopen(words[1], "rb");
+    if (!file) {
+        perror(words[1]);
+        return 2;
+    }
     size_t length = fread(packet, 1, sizeof packet, file);
+    if (ferror(file)) { /* as of a directory */
+        perror(words[1]);
+        return 2;
+    }
     fclose(file);
 
     rosopyat_read_answer answer = rosopyat_read(packet, length, text, sizeof text);
@@ -19,5 +27,9 @@ int main(int count, char **words)
         fprintf(stderr, "refused %u, number %zu\n", answer.refusal, answer.number);
         return 1;
     }
-    return fwrite(text, 1, answer.text_length, stdout) != answer.text_length;
+    if (fwrite(text, 1, answer.text_length, stdout) != answer.text_length || fflush(stdout) != 0) {
+        perror("standard output");
+        return 2;
+    }
+    return 0;
 }

@@ -43,20 +43,20 @@ enum rosopyat_format {
 enum rosopyat_refusal {
     ROSOPYAT_ACCEPTED = 0,
     /* the reader's */
-    ROSOPYAT_NO_HEADER = 1,        /* fewer than 4 bytes */
-    ROSOPYAT_BAD_HEADER = 2,       /* no valid header within two bits */
-    ROSOPYAT_UNKNOWN_TYPE = 3,     /* the spare bit is 1, or the type is not one of the three formats */
-    ROSOPYAT_BAD_LENGTH = 4,       /* the length is 0 or above 4,000 */
-    ROSOPYAT_CUT_SHORT = 5,        /* fewer bytes than the length and 6 */
-    ROSOPYAT_CHECKSUM_DIFFERS = 6, /* the data is not what was sent */
-    ROSOPYAT_MALFORMED = 7,        /* number: the data bit at which the first unreadable indicator, value or code starts */
+    ROSOPYAT_SHORT = 1,        /* fewer than 4 bytes */
+    ROSOPYAT_NO_HEADER = 2,    /* no valid header within two bits of the one received */
+    ROSOPYAT_OTHER_TYPE = 3,   /* the header's type is none of the three formats, or its spare bit is 1 */
+    ROSOPYAT_OTHER_LENGTH = 4, /* the length is 0 or above 4,000 */
+    ROSOPYAT_CUT_OFF = 5,      /* fewer bytes than the length and 6 */
+    ROSOPYAT_CHECKSUM = 6,     /* the checksum of the data is not the one that follows it */
+    ROSOPYAT_MALFORMED = 7,    /* number: the data bit at which the first unreadable indicator, value or code starts */
     /* both */
-    ROSOPYAT_NO_ROOM = 8,          /* number: the room that is needed, for the text (reader) or the packet (writer) */
+    ROSOPYAT_NO_ROOM = 8,      /* the buffer is too short; number: the characters of the text (reader), or the bytes of the packet (writer) */
     /* the writer's */
-    ROSOPYAT_NO_CODE = 9,          /* number: the index of the first character that the format has no code for */
-    ROSOPYAT_NO_TEXT = 10,         /* the text is empty */
-    ROSOPYAT_TOO_LONG = 11,        /* the data would exceed 4,000 bytes */
-    ROSOPYAT_UNKNOWN_FORMAT = 12   /* the format is not 0, 1 or 4 */
+    ROSOPYAT_NO_CODE = 9,      /* number: the index of the first character that has no code in the format */
+    ROSOPYAT_EMPTY = 10,       /* the text is empty */
+    ROSOPYAT_TOO_LONG = 11,    /* the data would have more than 4,000 bytes */
+    ROSOPYAT_OTHER_FORMAT = 12 /* the format is not 0, 1 or 4 */
 };
 
 typedef struct rosopyat_read_answer {
@@ -81,7 +81,8 @@ typedef struct rosopyat_write_answer {
 rosopyat_read_answer rosopyat_read(const uint8_t *packet, size_t packet_length, uint8_t *text, size_t text_room);
 
 /* Writes `text` as one packet to packet[0..length], in the fullest runs and the shortest codes. Bytes of `packet` behind it stay as they were.
- * A `packet_room` of 0 asks for the packet's length (refusal 8). */
+ * A `packet_room` of 0 asks for the packet's length (refusal 8). `format` is a number of eight bits: C cuts a greater one to its low byte before the
+ * call. */
 rosopyat_write_answer rosopyat_write(uint8_t format, bool sync, const uint8_t *text, size_t text_length, uint8_t *packet, size_t packet_room);
 
 #ifdef __cplusplus

@@ -1,6 +1,10 @@
 //! Rosopyat for Rust: a safe module over the static library `librosopyat_c.a` (x86-64). See `include/rosopyat.h` for what the formats are.
 //!
-//! Put `mod rosopyat;` into a program and link with `-L FOLDER`. Nothing is allocated, kept or shared between calls.
+//! Use this folder as a crate (`rosopyat = { path = "rust" }`), from a program of any edition; or, in a program of an edition up to 2021, put this file
+//! beside your source, say `mod rosopyat;` and link with `-L FOLDER`, the folder of the library. Nothing is allocated, kept or shared between calls.
+
+use std::error::Error;
+use std::fmt;
 
 /// Data bytes that a packet has at most.
 pub const MOST_DATA: usize = 4000;
@@ -36,35 +40,94 @@ pub struct Reading<'a> {
 #[derive(Clone, Copy, Debug, PartialEq, Eq)]
 pub enum ReadRefusal {
     /// 1: fewer than 4 bytes
+    Short,
+    /// 2: no valid header within two bits of the one received
     NoHeader,
-    /// 2: no valid header within two bits
-    BadHeader,
-    /// 3: the spare bit is 1, or the type is not one of the three formats
-    UnknownType,
+    /// 3: the header's type is none of the three formats, or its spare bit is 1
+    OtherType,
     /// 4: the length is 0 or above 4,000
-    BadLength,
+    OtherLength,
     /// 5: fewer bytes than the length and 6
-    CutShort,
-    /// 6
-    ChecksumDiffers,
+    CutOff,
+    /// 6: the checksum of the data is not the one that follows it
+    Checksum,
     /// 7: with the data bit at which the first unreadable indicator, value or code starts
     Malformed(usize),
     /// 8: with the text's length
     NoRoom(usize),
 }
 
-/// Why a packet was not written. The packet buffer has not changed.
+/// Why a packet was not written. The packet buffer has not changed. (12, another format, cannot occur: a `Format` is one of the three.)
 #[derive(Clone, Copy, Debug, PartialEq, Eq)]
 pub enum WriteRefusal {
     /// 8: with the packet's length
     NoRoom(usize),
-    /// 9: with the index of the first character that the format has no code for
+    /// 9: with the index of the first character that has no code in the format
     NoCode(usize),
     /// 10: the text is empty
-    NoText,
-    /// 11: the data would exceed 4,000 bytes
+    Empty,
+    /// 11: the data would have more than 4,000 bytes
     TooLong,
 }
+
+impl ReadRefusal {
+    /// The number of the refusal, 1 to 8.
+    pub fn number(self) -> u32 {
+        match self {
+            ReadRefusal::Short => 1,
+            ReadRefusal::NoHeader => 2,
+            ReadRefusal::OtherType => 3,
+            ReadRefusal::OtherLength => 4,
+            ReadRefusal::CutOff => 5,
+            ReadRefusal::Checksum => 6,
+            ReadRefusal::Malformed(_) => 7,
+            ReadRefusal::NoRoom(_) => 8,
+        }
+    }
+}
+
+impl WriteRefusal {
+    /// The number of the refusal, 8 to 11.
+    pub fn number(self) -> u32 {
+        match self {
+            WriteRefusal::NoRoom(_) => 8,
+            WriteRefusal::NoCode(_) => 9,
+            WriteRefusal::Empty => 10,
+            WriteRefusal::TooLong => 11,
+        }
+    }
+}
+
+impl fmt::Display for ReadRefusal {
+    fn fmt(&self, to: &mut fmt::Formatter) -> fmt::Result {
+        write!(to, "refused {}: ", self.number())?;
+        match self {
+            ReadRefusal::Short => write!(to, "fewer than 4 bytes"),
+            ReadRefusal::NoHeader => write!(to, "no valid header within two bits of the one received"),
+            ReadRefusal::OtherType => write!(to, "the header's type is none of the three formats, or its spare bit is 1"),
+            ReadRefusal::OtherLength => write!(to, "the length is 0 or above 4,000"),
+            ReadRefusal::CutOff => write!(to, "fewer bytes than the length and 6"),
+            ReadRefusal::Checksum => write!(to, "the checksum of the data is not the one that follows it"),
+            ReadRefusal::Malformed(bit) => write!(to, "the data is malformed at bit {}", bit),
+            ReadRefusal::NoRoom(needed) => write!(to, "the buffer is too short for a text of {} characters", needed),
+        }
+    }
+}
+
+impl fmt::Display for WriteRefusal {
+    fn fmt(&self, to: &mut fmt::Formatter) -> fmt::Result {
+        write!(to, "refused {}: ", self.number())?;
+        match self {
+            WriteRefusal::NoRoom(needed) => write!(to, "the buffer is too short for a packet of {} bytes", needed),
+            WriteRefusal::NoCode(index) => write!(to, "the character at index {} has no code in the format", index),
+            WriteRefusal::Empty => write!(to, "the text is empty"),
+            WriteRefusal::TooLong => write!(to, "the data would have more than 4,000 bytes"),
+        }
+    }
+}
+
+impl Error for ReadRefusal {}
+impl Error for WriteRefusal {}
 
 /// Reads the packet that starts at `packet[0]` into `text`. Bytes behind the packet are not looked at.
 pub fn read<'a>(packet: &[u8], text: &'a mut [u8]) -> Result<Reading<'a>, ReadRefusal> {
@@ -75,7 +138,8 @@ pub fn read<'a>(packet: &[u8], text: &'a mut [u8]) -> Result<Reading<'a>, ReadRe
             format: match answer.format {
                 0 => Format::Open,
                 1 => Format::PseudoBinary,
-                _ => Format::FullAscii,
+                4 => Format::FullAscii,
+                other => unknown("format", other),
             },
             sync: answer.sync == 1,
             mended: answer.mended,
@@ -83,14 +147,15 @@ pub fn read<'a>(packet: &[u8], text: &'a mut [u8]) -> Result<Reading<'a>, ReadRe
             used: answer.used,
             text: &text[..answer.text_length],
         }),
-        1 => Err(ReadRefusal::NoHeader),
-        2 => Err(ReadRefusal::BadHeader),
-        3 => Err(ReadRefusal::UnknownType),
-        4 => Err(ReadRefusal::BadLength),
-        5 => Err(ReadRefusal::CutShort),
-        6 => Err(ReadRefusal::ChecksumDiffers),
+        1 => Err(ReadRefusal::Short),
+        2 => Err(ReadRefusal::NoHeader),
+        3 => Err(ReadRefusal::OtherType),
+        4 => Err(ReadRefusal::OtherLength),
+        5 => Err(ReadRefusal::CutOff),
+        6 => Err(ReadRefusal::Checksum),
         7 => Err(ReadRefusal::Malformed(answer.number)),
-        _ => Err(ReadRefusal::NoRoom(answer.number)),
+        8 => Err(ReadRefusal::NoRoom(answer.number)),
+        other => unknown("the reader's refusal", other),
     }
 }
 
@@ -101,9 +166,16 @@ pub fn write<'a>(format: Format, sync: bool, text: &[u8], packet: &'a mut [u8]) 
         0 => Ok(&packet[..answer.length]),
         8 => Err(WriteRefusal::NoRoom(answer.number)),
         9 => Err(WriteRefusal::NoCode(answer.number)),
-        10 => Err(WriteRefusal::NoText),
-        _ => Err(WriteRefusal::TooLong), // 11: a `Format` is never refused with 12
+        10 => Err(WriteRefusal::Empty),
+        11 => Err(WriteRefusal::TooLong),
+        other => unknown("the writer's refusal", other),
     }
+}
+
+/// The library is proved to answer no other number: it can only be another version of it.
+#[cold]
+fn unknown(what: &str, number: u32) -> ! {
+    panic!("librosopyat_c.a answered {} {}, which this module does not know", what, number)
 }
 
 mod library {

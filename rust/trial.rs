@@ -1,5 +1,7 @@
-//! Runs the Rust module: every answer and refusal that it has, and a published packet (its file is the argument).
+//! Runs the Rust module: every answer and refusal that it has, and a published packet (its file is the argument). It is built twice, with the module
+//! in one file of its own and, under `--cfg as_crate`, with the module as a crate.
 
+#[cfg(not(as_crate))]
 mod rosopyat;
 
 use rosopyat::{read, write, Format, ReadRefusal, WriteRefusal, MOST_DATA, MOST_PACKET, MOST_TEXT};
@@ -18,21 +20,21 @@ fn there_and_back(format: Format, sync: bool, text: &[u8]) -> usize {
 fn read_refusals() {
     let mut buffer = [0; 64];
     let mut text = [0; 8];
-    assert_eq!(read(&[], &mut text), Err(ReadRefusal::NoHeader));
-    assert_eq!(read(&[0x40, 0x00, 0x04, 0xda], &mut text), Err(ReadRefusal::BadHeader));
-    assert_eq!(read(&[0; 4], &mut text), Err(ReadRefusal::UnknownType));
+    assert_eq!(read(&[], &mut text), Err(ReadRefusal::Short));
+    assert_eq!(read(&[0x40, 0x00, 0x04, 0xda], &mut text), Err(ReadRefusal::NoHeader));
+    assert_eq!(read(&[0; 4], &mut text), Err(ReadRefusal::OtherType));
     let packet = write(Format::FullAscii, true, b"A\r\nB", &mut buffer).unwrap().to_vec();
-    assert_eq!(read(&packet[..packet.len() - 1], &mut text), Err(ReadRefusal::CutShort));
+    assert_eq!(read(&packet[..packet.len() - 1], &mut text), Err(ReadRefusal::CutOff));
     assert_eq!(read(&packet, &mut text[..3]), Err(ReadRefusal::NoRoom(4)));
     assert_eq!(read(&packet, &mut []), Err(ReadRefusal::NoRoom(4)));
     let mut damaged = packet.clone();
     damaged[4] ^= 1;
-    assert_eq!(read(&damaged, &mut text), Err(ReadRefusal::ChecksumDiffers));
+    assert_eq!(read(&damaged, &mut text), Err(ReadRefusal::Checksum));
     // An Open packet of one byte FF, its length turned to 0 (and the check with it), and its type to Full ASCII.
     let open = write(Format::Open, false, b"\xff", &mut buffer).unwrap().to_vec();
     assert_eq!(open[..4], [0x40, 0x00, 0x04, 0xdd]);
     let no_data = [&[0x40, 0x00, 0x03, 0xb4], &open[4..]].concat();
-    assert_eq!(read(&no_data, &mut text), Err(ReadRefusal::BadLength));
+    assert_eq!(read(&no_data, &mut text), Err(ReadRefusal::OtherLength));
     let malformed = [&[0xd0, 0x00, 0x04, 0x30], &open[4..]].concat();
     assert_eq!(read(&malformed, &mut text), Err(ReadRefusal::Malformed(0)));
     assert_eq!(text, [0; 8]);
@@ -46,12 +48,35 @@ fn read_refusals() {
 
 fn write_refusals() {
     let mut packet = [0; 64];
-    assert_eq!(write(Format::Open, false, b"", &mut packet), Err(WriteRefusal::NoText));
+    assert_eq!(write(Format::Open, false, b"", &mut packet), Err(WriteRefusal::Empty));
     assert_eq!(write(Format::PseudoBinary, false, b"@A!", &mut packet), Err(WriteRefusal::NoCode(2)));
     assert_eq!(write(Format::FullAscii, false, b"\x7f", &mut packet), Err(WriteRefusal::NoCode(0)));
     assert_eq!(write(Format::Open, false, &[0; MOST_DATA + 1], &mut packet), Err(WriteRefusal::TooLong));
     assert_eq!(write(Format::Open, false, b"abc", &mut packet[..8]), Err(WriteRefusal::NoRoom(9)));
     assert_eq!(packet, [0; 64]);
+}
+
+fn numbers_and_words() {
+    use ReadRefusal::*;
+    let read = [Short, NoHeader, OtherType, OtherLength, CutOff, Checksum, Malformed(70), NoRoom(80)];
+    assert_eq!(read.map(ReadRefusal::number), [1, 2, 3, 4, 5, 6, 7, 8]);
+    let write = [WriteRefusal::NoRoom(80), WriteRefusal::NoCode(90), WriteRefusal::Empty, WriteRefusal::TooLong];
+    assert_eq!(write.map(WriteRefusal::number), [8, 9, 10, 11]);
+    for refusal in read {
+        assert!(refusal.to_string().starts_with(&format!("refused {}: ", refusal.number())));
+    }
+    for refusal in write {
+        assert!(refusal.to_string().starts_with(&format!("refused {}: ", refusal.number())));
+    }
+    assert_eq!(Checksum.to_string(), "refused 6: the checksum of the data is not the one that follows it");
+    assert!(Malformed(70).to_string().ends_with("at bit 70") && NoRoom(80).to_string().ends_with("80 characters"));
+    assert!(write[0].to_string().ends_with("80 bytes") && write[1].to_string().contains("index 90"));
+}
+
+/// The refusals go where errors go.
+fn first_byte(packet: &[u8]) -> Result<u8, Box<dyn std::error::Error>> {
+    let mut text = [0; 8];
+    Ok(read(packet, &mut text)?.text[0])
 }
 
 fn main() {
@@ -62,10 +87,12 @@ fn main() {
     assert_eq!(there_and_back(Format::FullAscii, false, b"Stage 1.23 m\r\n\t~"), 19);
     read_refusals();
     write_refusals();
+    numbers_and_words();
+    assert_eq!(first_byte(&[0x40]).unwrap_err().to_string(), "refused 1: fewer than 4 bytes");
 
     let packet = std::fs::read(std::env::args().nth(1).expect("a packet's file")).unwrap();
     let mut text = [0; 4096];
     let reading = read(&packet, &mut text).unwrap();
     assert_eq!((reading.format, reading.data_length, reading.text.len()), (Format::FullAscii, 259, 306));
-    println!("Rust: all as it should be");
+    println!("Rust, the module {}: all as it should be", if cfg!(as_crate) { "as a crate" } else { "in one file" });
 }

@@ -1,5 +1,5 @@
-/* The published packets (file given) and the table of edges P1 to P15, through rosopyat.h: linked once with the independent implementation under the
- * library's names, and once with the library. */
+/* The published packets and messages (file given), the table of edges P1 to P15 and every unreadable ending, through rosopyat.h: linked once with the
+ * independent implementation under the library's names, and once with the library. */
 #include "maker.h"
 #include "rosopyat.h"
 
@@ -13,6 +13,12 @@ _Static_assert(sizeof(rosopyat_read_answer) == 56 && offsetof(rosopyat_read_answ
                    offsetof(rosopyat_read_answer, mended) == 24 && offsetof(rosopyat_read_answer, data_length) == 32,
                "layout of the reader's answer");
 _Static_assert(sizeof(rosopyat_write_answer) == 24 && offsetof(rosopyat_write_answer, number) == 8, "layout of the writer's answer");
+
+/* The names of the refusals, as the library numbers them. */
+_Static_assert(ROSOPYAT_SHORT == 1 && ROSOPYAT_NO_HEADER == 2 && ROSOPYAT_OTHER_TYPE == 3 && ROSOPYAT_OTHER_LENGTH == 4 && ROSOPYAT_CUT_OFF == 5 &&
+                   ROSOPYAT_CHECKSUM == 6 && ROSOPYAT_MALFORMED == 7 && ROSOPYAT_NO_ROOM == 8 && ROSOPYAT_NO_CODE == 9 && ROSOPYAT_EMPTY == 10 &&
+                   ROSOPYAT_TOO_LONG == 11 && ROSOPYAT_OTHER_FORMAT == 12,
+               "numbers of the refusals");
 
 static unsigned checked, failed;
 
@@ -47,10 +53,20 @@ static void expect_reading(const char *what, const uint8_t *packet, size_t packe
 
 static void expect_refused(const char *what, const uint8_t *packet, size_t packet_length, unsigned refusal, size_t number)
 {
-    uint8_t text[16];
+    uint8_t text[16] = "as it was before", before[16] = "as it was before";
     rosopyat_read_answer answer = rosopyat_read(packet, packet_length, text, sizeof text);
     expect(what, "refusal", answer.refusal, refusal);
     expect(what, "number", answer.number, number);
+    expect_bytes(what, text, before, sizeof text);
+}
+
+static void expect_not_written(const char *what, unsigned format, const uint8_t *text, size_t text_length, unsigned refusal, size_t number)
+{
+    uint8_t packet[16] = "as it was before", before[16] = "as it was before";
+    rosopyat_write_answer answer = rosopyat_write(format, false, text, text_length, packet, sizeof packet);
+    expect(what, "refusal", answer.refusal, refusal);
+    expect(what, "number", answer.number, number);
+    expect_bytes(what, packet, before, sizeof packet);
 }
 
 static void expect_writing(const char *what, unsigned format, const uint8_t *text, size_t text_length, const uint8_t *packet, size_t packet_length)
@@ -120,7 +136,92 @@ static void edges(void)
     expect_malformed("P15", 4, "\xff", 1, 0);
 }
 
-/* The published packets. */
+/* Endings. A remainder of up to eight bits is bad where it is neither fill nor the start of a whole code; where a value is announced, also fill is. */
+
+static bool bad_full_ascii(unsigned rest, unsigned width)
+{
+    bool all_ones = rest == (1u << width) - 1;
+    if (rest >> (width - 1) == 0)
+        return width < 6;
+    return width < 7 ? !all_ones : width == 8 && rest >> 1 == 0x7f;
+}
+
+static bool bad_pseudo_binary(unsigned rest, unsigned width)
+{
+    if (width % 2 == 1) /* its codes have 6 and 8 bits */
+        return false;
+    return rest >> (width - 1) == 0 ? width < 6 : width < 8 && rest != (1u << width) - 1;
+}
+
+/* Closes a packet that ends in a bad remainder, which must be refused at its first bit. */
+static void expect_bad_ending(const char *what, unsigned format, uint8_t *packet, struct maker_bits *bits, unsigned rest, unsigned width)
+{
+    size_t bit = bits->bits;
+    maker_put(bits, rest, width);
+    expect(what, "bits over a byte", bits->bits % 8, 0);
+    expect_refused(what, packet, maker_close(packet, MAKER_FLAG_OPEN | format << 2, bits->bits / 8), 7, bit);
+}
+
+static void full_ascii_ending(unsigned rest, unsigned width, bool far)
+{
+    uint8_t packet[ROSOPYAT_MOST_PACKET];
+    struct maker_bits bits = {packet + 4, 0};
+    for (unsigned i = 0; far && i < 10; i++) {
+        maker_put(&bits, 16 + i, 6);
+        maker_put(&bits, 65 + i, 7);
+        maker_put(&bits, 0x1fc | i % 4, 9);
+    }
+    while ((bits.bits + width) % 8 != 0)
+        maker_put(&bits, 'A', 7);
+    expect_bad_ending("ending of Full ASCII", 4, packet, &bits, rest, width);
+}
+
+static void put_values(struct maker_bits *bits, unsigned announced, unsigned count)
+{
+    maker_put(bits, 0x80 | (announced - 1), 8);
+    for (unsigned i = 0; i < count; i++)
+        maker_put(bits, i * 5 % 64, 6);
+}
+
+static void indicator_ending(unsigned rest, unsigned width, bool far)
+{
+    uint8_t packet[ROSOPYAT_MOST_PACKET];
+    struct maker_bits bits = {packet + 4, 0};
+    if (far)
+        put_values(&bits, 41, 41);
+    while ((bits.bits + width) % 8 != 0)
+        maker_put(&bits, 0x1a, 6);
+    expect_bad_ending("ending at an indicator", 1, packet, &bits, rest, width);
+}
+
+static void value_ending(unsigned rest, unsigned width, bool far)
+{
+    uint8_t packet[ROSOPYAT_MOST_PACKET];
+    struct maker_bits bits = {packet + 4, 0};
+    unsigned count = width / 2 % 4 + (far ? 44 : 0);
+    put_values(&bits, far ? 128 : count + 1, count);
+    expect_bad_ending("ending within values", 1, packet, &bits, rest, width);
+}
+
+static void endings(void)
+{
+    unsigned full_ascii = 0, at_indicator = 0, within_values = 0;
+    for (unsigned width = 0; width <= 8; width++)
+        for (unsigned rest = 0; rest < 1u << width; rest++)
+            for (int far = 0; far < 2; far++) {
+                if (width > 0 && bad_full_ascii(rest, width))
+                    full_ascii++, full_ascii_ending(rest, width, far);
+                if (width > 0 && bad_pseudo_binary(rest, width))
+                    at_indicator++, indicator_ending(rest, width, far);
+                if (width < 6 && width % 2 == 0)
+                    within_values++, value_ending(rest, width, far);
+            }
+    expect("endings", "of Full ASCII", full_ascii, 2 * 90);
+    expect("endings", "at an indicator", at_indicator, 2 * 49);
+    expect("endings", "within values", within_values, 2 * 21);
+}
+
+/* The published packets and messages. */
 
 static size_t hexadecimal(const char *from, uint8_t *to)
 {
@@ -152,11 +253,48 @@ static void published_packet(const char *title, uint8_t *packet, size_t packet_l
     expect_writing(title, format, text, text_length, packet, packet_length);
 }
 
+static bool has_code(unsigned format, unsigned character)
+{
+    if (format == 1)
+        return character == ' ' || character == '/' || (character >= 64 && character <= 127);
+    return character == '\t' || character == '\r' || character == '\n' || (character >= 32 && character <= 126);
+}
+
+/* Where the first character without a code is, or `length`. */
+static size_t first_uncoded(unsigned format, const uint8_t *text, size_t length)
+{
+    size_t i = 0;
+    while (i < length && has_code(format, text[i]))
+        i++;
+    return i;
+}
+
+/* The message beside a packet, in the formats that have codes for it, and read back. */
+static unsigned published_message(const char *title, const uint8_t *text, size_t length)
+{
+    unsigned written = 0;
+    expect_not_written(title, 2, text, length, 12, 0);
+    expect_not_written(title, 3, text, length, 12, 0);
+    for (unsigned format = 1; format <= 4; format += 3) {
+        uint8_t packet[ROSOPYAT_MOST_PACKET];
+        size_t index = first_uncoded(format, text, length);
+        if (index < length) {
+            expect_not_written(title, format, text, length, 9, index);
+            continue;
+        }
+        rosopyat_write_answer answer = rosopyat_write(format, false, text, length, packet, sizeof packet);
+        expect(title, "refusal", answer.refusal, 0);
+        expect_reading(title, packet, answer.length, format, 0, text, length);
+        written++;
+    }
+    return written;
+}
+
 static unsigned published(const char *path)
 {
     static uint8_t packet[4096], text[4096];
     size_t packet_length = 0, text_length = 0;
-    unsigned packets = 0;
+    unsigned packets = 0, messages = 0;
     char line[256], title[256] = "";
     FILE *file = fopen(path, "r");
     if (!file) {
@@ -166,6 +304,8 @@ static unsigned published(const char *path)
     for (;;) {
         bool more = fgets(line, sizeof line, file);
         if (packet_length > 0 && (!more || line[0] == '#')) {
+            if (text_length > 0)
+                messages += published_message(title, text, text_length);
             published_packet(title, packet, packet_length, text, text_length);
             packets++;
             packet_length = text_length = 0;
@@ -181,6 +321,7 @@ static unsigned published(const char *path)
             text_length += hexadecimal(line + 5, text + text_length);
     }
     fclose(file);
+    expect("published", "messages written", messages, 5); /* all in Full ASCII; in Pseudo Binary a question mark or a digit is in the way */
     return packets;
 }
 
@@ -191,6 +332,7 @@ int main(int count, char **words)
         return 2;
     }
     edges();
+    endings();
     expect("published", "packets", published(words[1]), 6);
     printf("%u facts checked, %u wrong\n", checked, failed);
     return failed != 0;

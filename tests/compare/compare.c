@@ -2,7 +2,7 @@
  *
  *     compare [COUNT [SEED [FIRST]]]
  *
- * Each case depends on the seed and its own number only, so `compare 1 SEED FIRST` repeats one. A difference in any member of an answer or any byte of a
+ * Each case depends on the seed and its own number only, so `tests/compare/run 1 SEED FIRST` repeats one. A difference in any member of an answer or any byte of a
  * buffer, a byte changed outside of what the answer allows, a read or write past a buffer's end, or an answer other than the one known from how the
  * packet was made ends the run with status 1. So does, in a run of MEANT_CASES or more, an outcome that never occurred. */
 #define _GNU_SOURCE
@@ -19,7 +19,7 @@
 #include <time.h>
 #include <unistd.h>
 
-enum { MEANT_CASES = 20000, GUARD = 32, REGION = 28 * 4096, LONG_TEXT = 100000, LONG_PACKET = 8192 };
+enum { MEANT_CASES = 20000, GUARD = 32, REGION = 28 * 4096, LONG_TEXT = 100000, LONG_TAIL = 8192 };
 
 /* Random numbers: one row for each case. */
 
@@ -73,8 +73,11 @@ enum outcome {
     READ_ROOM_EXACT,
     READ_ROOM_ONE_MORE,
     READ_TRAILING,
+    READ_LONG_TAIL,
     MADE_AND_READ,
-    MALFORMED_PSEUDO_BINARY,
+    DAMAGED, /* and its kind */
+    DAMAGED_MENDED = DAMAGED + 4, /* and the header bits flipped beside it */
+    MALFORMED_PSEUDO_BINARY = DAMAGED_MENDED + 3,
     MALFORMED_FULL_ASCII,
     NO_ROOM_ONE_SHORT,
     WRITE_REFUSED, /* and its number, 8 to 12 */
@@ -112,7 +115,15 @@ static const char *const outcome_name[OUTCOMES] = {
     [READ_ROOM_EXACT] = "  with exactly the room needed",
     [READ_ROOM_ONE_MORE] = "  with one byte more room",
     [READ_TRAILING] = "  with bytes behind the packet",
+    [READ_LONG_TAIL] = "  with more than 4,000 bytes behind the packet",
     [MADE_AND_READ] = "  and read as made",
+    [DAMAGED + 0] = "refused 6 for a data byte changed",
+    [DAMAGED + 1] = "refused 6 for two neighbouring data bytes changed",
+    [DAMAGED + 2] = "refused 6 for a checksum byte changed",
+    [DAMAGED + 3] = "refused 6 for both checksum bytes changed",
+    [DAMAGED_MENDED + 0] = "  under a header as sent",
+    [DAMAGED_MENDED + 1] = "  under a header with 1 bit flipped",
+    [DAMAGED_MENDED + 2] = "  under a header with 2 bits flipped",
     [MALFORMED_PSEUDO_BINARY] = "malformed Compact Pseudo Binary",
     [MALFORMED_FULL_ASCII] = "malformed Compact Full ASCII",
     [NO_ROOM_ONE_SHORT] = "text buffer one byte too short",
@@ -179,7 +190,7 @@ static void dump_bytes(const char *name, const uint8_t *bytes, size_t length)
 
 static void dump_case(void)
 {
-    printf("seed %" PRIu64 " case %" PRIu64 " (repeat it with: compare 1 %" PRIu64 " %" PRIu64 ")\n", seed, case_number, seed, case_number);
+    printf("seed %" PRIu64 " case %" PRIu64 " (repeat it with: tests/compare/run 1 %" PRIu64 " %" PRIu64 ")\n", seed, case_number, seed, case_number);
 }
 
 static void touched_outside(int signal_number)
@@ -200,6 +211,18 @@ static void dump_read_answer(const char *name, rosopyat_read_answer a)
 static void dump_write_answer(const char *name, rosopyat_write_answer a)
 {
     printf("%s: refusal %u number %zu length %zu\n", name, a.refusal, a.number, a.length);
+}
+
+static void dump_outputs(const char *name, struct place place, size_t ours, size_t theirs)
+{
+    if (ours <= place.length) {
+        printf("of the library, ");
+        dump_bytes(name, library_output + place.start, ours);
+    }
+    if (theirs <= place.length) {
+        printf("of the independent implementation, ");
+        dump_bytes(name, independent_output + place.start, theirs);
+    }
 }
 
 /* Answers what is wrong with both outputs when `written` bytes of each may have changed, or NULL; puts them back. */
@@ -267,11 +290,13 @@ static size_t some_room(size_t needed)
 /* Making packets. */
 
 struct made {
-    uint8_t packet[LONG_PACKET];
+    uint8_t packet[ROSOPYAT_MOST_PACKET + LONG_TAIL];
     size_t length;
-    bool known; /* the outcome is known from the making: this format, sync and text */
+    bool known;   /* the outcome is known from the making: this format, sync, number of mended bits, and text */
+    bool damaged; /* known too: refused by checksum, for a damage of this kind */
+    unsigned kind;
     unsigned format, sync, mended;
-    size_t text_length;
+    size_t data_length, text_length;
 };
 
 static struct made made;
@@ -447,10 +472,61 @@ static void damage_header(void)
         made.known = false;
 }
 
+/* Only a data byte or two neighbouring ones, or only one or both checksum bytes, each made any other. */
+static void damage_data(void)
+{
+    size_t length = made.data_length, first;
+    made.kind = below(length > 1 ? 4 : 3);
+    if (length == 1 && made.kind == 1)
+        made.kind = 3;
+    if (made.kind >= 2)
+        first = made.kind == 2 ? length + below(2) : length;
+    else
+        first = chance(20) ? 0 : chance(20) ? length - 1 - made.kind : below(length - made.kind);
+    for (unsigned i = 0; i <= made.kind % 2; i++)
+        made.packet[4 + first + i] ^= between(1, 255);
+    made.damaged = made.known;
+    made.known = false;
+}
+
+static void flip_data(void)
+{
+    made.known = false;
+    for (unsigned i = between(1, 3); i > 0; i--)
+        flip(made.packet, 32 + (chance(30) ? 8 * made.data_length + below(16) : below(8 * made.data_length)));
+}
+
+/* A valid header that says something else. */
+static void other_header(unsigned flag)
+{
+    static const unsigned lengths[] = {0, 0, 1, 3999, 4000, 4001, 4002, 0x3fff};
+    made.known = false;
+    if (chance(50))
+        flag = below(128);
+    types_made |= 1u << (flag >> 2);
+    uint32_t header = maker_header(flag, chance(30) ? lengths[below(8)] : chance(30) ? below(0x4000) : made.data_length);
+    for (int i = 0; i < 4; i++)
+        made.packet[i] = header >> (24 - 8 * i);
+}
+
+static void cut_packet(void)
+{
+    made.known = made.damaged = false;
+    made.length = chance(30) ? made.length - 1 : chance(30) ? below(8) % made.length : below(made.length);
+}
+
+static void add_tail(void)
+{
+    size_t more = chance(5) ? between(1, LONG_TAIL) : chance(2) ? LONG_TAIL : between(1, 40);
+    random_bytes(made.packet + made.length, more);
+    made.length += more;
+}
+
 static void make_packet(void)
 {
     static const unsigned formats[] = {0, 1, 1, 1, 4, 4, 4};
     made.known = true;
+    made.damaged = false;
     made.text_length = 0;
     if (chance(4)) { /* any bytes at all */
         made.known = false;
@@ -460,39 +536,46 @@ static void make_packet(void)
     }
     made.format = formats[below(7)];
     made.sync = below(2);
-    size_t length = make_data(made.format, made.packet + 4);
+    made.data_length = make_data(made.format, made.packet + 4);
     unsigned flag = 0x40 | made.format << 2 | made.sync << 1;
-    made.length = maker_close(made.packet, flag, length);
-    if (chance(10)) { /* a header that says something else */
-        static const unsigned lengths[] = {0, 0, 1, 3999, 4000, 4001, 4002, 0x3fff};
-        made.known = false;
-        if (chance(50))
-            flag = below(128);
-        types_made |= 1u << (flag >> 2);
-        uint32_t header = maker_header(flag, chance(30) ? lengths[below(8)] : chance(30) ? below(0x4000) : length);
-        for (int i = 0; i < 4; i++)
-            made.packet[i] = header >> (24 - 8 * i);
-    }
+    made.length = maker_close(made.packet, flag, made.data_length);
+    if (chance(10))
+        other_header(flag);
     damage_header();
-    if (chance(8)) { /* data or checksum */
-        made.known = false;
-        for (unsigned i = between(1, 3); i > 0; i--)
-            flip(made.packet, 32 + (chance(30) ? 8 * length + below(16) : below(8 * length)));
-    }
-    if (chance(8)) {
-        made.known = false;
-        made.length = chance(30) ? made.length - 1 : chance(30) ? below(8) % made.length : below(made.length);
-    } else if (chance(30)) {
-        size_t more = between(1, 40);
-        random_bytes(made.packet + made.length, more);
-        made.length += more;
-    }
+    if (chance(8))
+        flip_data();
+    else if (chance(15))
+        damage_data();
+    if (chance(8))
+        cut_packet();
+    else if (chance(30))
+        add_tail();
 }
 
 static bool read_as_made(rosopyat_read_answer answer, const uint8_t *text)
 {
-    return answer.format == made.format && answer.sync == made.sync && answer.mended == made.mended && answer.text_length == made.text_length &&
+    return answer.refusal == 0 && answer.format == made.format && answer.sync == made.sync && answer.mended == made.mended &&
+           answer.data_length == made.data_length && answer.used == made.data_length + 6 && answer.text_length == made.text_length &&
            memcmp(text, made_text, made.text_length) == 0;
+}
+
+/* What is known from the making, whatever the two implementations say; NULL where it is so. */
+static const char *compare_making(rosopyat_read_answer answer, const uint8_t *text, size_t room)
+{
+    if (made.damaged) {
+        if (answer.refusal != 6 || answer.number != 0)
+            return "the damage is not refused by checksum";
+        outcomes[DAMAGED + made.kind]++;
+        outcomes[DAMAGED_MENDED + made.mended]++;
+    }
+    if (!made.known)
+        return NULL;
+    if (room < made.text_length)
+        return answer.refusal == 8 && answer.number == made.text_length ? NULL : "the text made has no room, and that is not the answer";
+    if (!read_as_made(answer, text))
+        return "the packet is not read as made";
+    outcomes[MADE_AND_READ]++;
+    return NULL;
 }
 
 static bool same_read_answer(rosopyat_read_answer a, rosopyat_read_answer b)
@@ -519,6 +602,7 @@ static void count_reading(rosopyat_read_answer answer, size_t room, unsigned for
     outcomes[READ_ROOM_EXACT] += room == answer.text_length;
     outcomes[READ_ROOM_ONE_MORE] += room == answer.text_length + 1;
     outcomes[READ_TRAILING] += made.length > answer.used;
+    outcomes[READ_LONG_TAIL] += made.length > answer.used + 4000;
 }
 
 static bool reader_case(void)
@@ -538,12 +622,8 @@ static bool reader_case(void)
         wrong = "the answers differ";
     if (!wrong)
         wrong = compare_outputs(text, ours.text_length);
-    if (!wrong && made.known) {
-        if (ours.refusal == 8 ? ours.number != made.text_length : ours.refusal != 0 || !read_as_made(ours, library_output + text.start))
-            wrong = "the packet is not read as made";
-        else
-            outcomes[MADE_AND_READ] += ours.refusal == 0;
-    }
+    if (!wrong)
+        wrong = compare_making(ours, library_output + text.start, room);
     if (wrong) {
         printf("differs: reader: %s\n", wrong);
         dump_case();
@@ -551,10 +631,7 @@ static bool reader_case(void)
         dump_read_answer("library    ", ours);
         dump_read_answer("independent", theirs);
         dump_bytes("packet", input_copy + packet.start, packet.length);
-        if (ours.text_length > 0 && ours.text_length <= room)
-            dump_bytes("text of the library", library_output + text.start, ours.text_length);
-        if (theirs.text_length > 0 && theirs.text_length <= room)
-            dump_bytes("text of the independent implementation", independent_output + text.start, theirs.text_length);
+        dump_outputs("text", text, ours.text_length, theirs.text_length);
         if (made.known)
             dump_bytes("text as made", made_text, made.text_length);
         return false;
@@ -653,6 +730,13 @@ static bool reads_back(struct place packet, size_t length, unsigned format, bool
     return same;
 }
 
+/* One to three characters made any others, mostly without a code. */
+static void damage_text(size_t length)
+{
+    for (unsigned i = between(1, 3); i > 0; i--)
+        made_text[chance(20) ? length - 1 : below(length)] = chance(30) ? between(31, 33) : chance(30) ? between(126, 128) : random_64() >> 56;
+}
+
 static bool writer_case(void)
 {
     static const uint8_t formats[] = {0, 1, 1, 1, 4, 4, 4};
@@ -660,8 +744,7 @@ static bool writer_case(void)
     bool sync = below(2);
     size_t length = make_text(format, made_text);
     if (length > 0 && chance(10))
-        for (unsigned i = between(1, 3); i > 0; i--)
-            made_text[chance(20) ? length - 1 : below(length)] = chance(30) ? between(31, 33) : chance(30) ? between(126, 128) : random_64() >> 56;
+        damage_text(length);
     struct place text = place_input(made_text, length);
     rosopyat_write_answer needed = independent_write(format, sync, input + text.start, length, untouched + REGION, 0);
     size_t room = some_room(needed.refusal == 8 ? needed.number : below(100));
@@ -676,6 +759,8 @@ static bool writer_case(void)
         wrong = "the answers differ";
     if (!wrong)
         wrong = compare_outputs(packet, ours.length);
+    if (!wrong && ours.refusal == 0 && !reads_back(packet, ours.length, format, sync, input + text.start, length))
+        wrong = "the packet does not read back";
     if (wrong) {
         printf("differs: writer: %s\n", wrong);
         dump_case();
@@ -683,21 +768,10 @@ static bool writer_case(void)
         dump_write_answer("library    ", ours);
         dump_write_answer("independent", theirs);
         dump_bytes("text", input_copy + text.start, length);
-        if (ours.length > 0 && ours.length <= room)
-            dump_bytes("packet of the library", library_output + packet.start, ours.length);
-        if (theirs.length > 0 && theirs.length <= room)
-            dump_bytes("packet of the independent implementation", independent_output + packet.start, theirs.length);
+        dump_outputs("packet", packet, ours.length, theirs.length);
         return false;
     }
-    if (ours.refusal == 0) {
-        if (!reads_back(packet, ours.length, format, sync, input + text.start, length)) {
-            printf("differs: writer: the packet does not read back\n");
-            dump_case();
-            dump_bytes("text", input + text.start, length);
-            return false;
-        }
-        outcomes[WRITTEN_AND_READ]++;
-    }
+    outcomes[WRITTEN_AND_READ] += ours.refusal == 0;
     put_back(packet, ours.length);
     count_writing(ours, room, format, sync);
     return true;
