@@ -2,7 +2,7 @@
 -- Assumes nothing.
 use mathlib.Core.Bool.{Bool}
 use mathlib.Core.List.{List, [], _∷_}
-use mathlib.Core.Path.{_≡_, ap, ap₂, subst₂}
+use mathlib.Core.Path.{_≡_, ap, ap₂, subst₂, _∙_}
 use Prim.Native.Nat.{ℕ, _+_, _-_, _≤_, _<_}
 use native.Mathlib.Omega.{arith}
 use lib.ListN.{length, getD, take, drop}
@@ -63,17 +63,19 @@ module _ (packet : List ℕ) (opened : Opened) (h : Headed packet opened) where
             first = clear-eight packet room (h .header) (opened .format) (h .framed) summed text carries;
           }
 
-      pub accepted : (n : ℕ) (text : List ℕ) → Carries (opened .format) text (dataIn (h .header) packet) → length text ≤ room → n ≡ length text
+      -- each number of the answer with what it must be, so that a wrong one is refused where it stands
+      pub accepted : (text : List ℕ) → Carries (opened .format) text (dataIn (h .header) packet) → length text ≤ room
+          → (mended long count used : ℕ) → mended ≡ opened .mended → long ≡ opened .length → count ≡ length text → used ≡ opened .length + 6
           → Accepts packet room
           (record {
             format = opened .format;
             sync = opened .sync;
-            mended = opened .mended;
-            «data_length» = opened .length;
-            «text_length» = n;
-            used = opened .length + 6;
+            mended = mended;
+            «data_length» = long;
+            «text_length» = count;
+            used = used;
           }) text
-      accepted n text carries held long =
+      accepted text carries held mended long count used m l c u =
           record {
             header = h .header;
             framed = h .framed;
@@ -81,8 +83,8 @@ module _ (packet : List ℕ) (opened : Opened) (h : Headed packet opened) where
             carries = carries;
             held = held;
             sync = h .sync;
-            mended = h .mended;
-            data-length = h .long;
-            text-length = long;
-            used = ap (λ (m : ℕ). m + 6) (h .long);
+            mended = m ∙ h .mended;
+            data-length = l ∙ h .long;
+            text-length = c;
+            used = u ∙ ap (λ (n : ℕ). n + 6) (h .long);
           }

@@ -4,6 +4,7 @@ use mathlib.Core.List.{List}
 use mathlib.Core.Path.{_≡_, refl, subst}
 use Prim.Native.Nat.{ℕ}
 use borrow.Author.Needs.{needs}
+use native.Mathlib.Omega.{arith}
 use borrow.Author.Tests.{not-true, not-false}
 use lib.ListN.{length, take}
 use Rattle.bits.specs.Says.{Says}
@@ -117,8 +118,12 @@ returns-2 c =
     let k = c .before .before .before .before .before in
     let a = start (agreed k) in
     let n = c .before .taken .given .0 .0 in
-    let t = took k (Text n) (c .before .taken .given .1) in
-    (t .0, accepted (a .args .packet .now) (a .args .opened) (a .pre) (length (a .args .text .now)) (summed-at k) n (t .0) (t .1) (t .2) (t .3), t .4)
+    let t = took k (Text n) (c .before .taken .given .1) in (
+      t .0,
+      accepted (a .args .packet .now) (a .args .opened) (a .pre) (length (a .args .text .now)) (summed-at k) (t .0) (t .1) (t .2) _ _ _ _ (omega arith)
+          (omega arith) (omega (arith, t .3)) (omega arith),
+      t .4,
+    )
 
 same-length-2 : tie.Need-same-length-2
 same-length-2 c = search needs
