@@ -8,7 +8,7 @@ use native.Mathlib.Omega.{arith}
 use lib.Bits.{bitXor, differ, xor-lt, xor-self, xor-zero-r, xor-mod, xor-shr, xor-block}
 use lib.Pow.{pow-pos}
 use Rattle.bits.proofs.Xor.{digit, xor-odd, xor-digits, xor-cross, xor-zero, xor-cancel}
-use Rattle.checksum.specs.Checksum.{feedback, bitStep, bitSteps}
+use Rattle.checksum.specs.Checksum.{feedback, bitStep, bitSteps, byteStep}
 
 -- a zero leaves at the top: the register only moves
 pub bit-low : (r : ℕ) → r < 2 ^ 15 → bitStep r ≡ r * 2
@@ -81,6 +81,11 @@ pub steps-add : (m n r : ℕ) → bitSteps (m + n) r ≡ bitSteps n (bitSteps m 
 unfolding bitSteps
 steps-add zero n r = rw zero-add
 steps-add (suc m) n r = rw suc-add (steps-add m n (bitStep r))
+
+-- a byte at the register's top, before its eight steps
+pub byte-enters : (r b : ℕ) {top : ℕ} → top ≡ b * 2 ^ 8 → bitSteps 8 (bitXor r top) ≡ byteStep r b
+unfolding byteStep
+byte-enters r b e = ap (λ (n : ℕ). bitSteps 8 (bitXor r n)) e
 
 -- one of n steps, after i of them
 pub steps-next : (n i r : ℕ) → i < n → bitSteps (n - (i + 1)) (bitStep r) ≡ bitSteps (n - i) r

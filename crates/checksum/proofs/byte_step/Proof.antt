@@ -1,12 +1,11 @@
 -- `checksum::byte_step` meets its contract. The loop's invariant: the steps that are left take the register to where the byte takes it.
 -- Assumes nothing.
 use mathlib.Core.Path.{_≡_, sym, ap, _∙_}
-use Prim.Native.Nat.{ℕ, _*_, _%_, _^_, _+_, _-_, _≤_}
-use lib.Bits.{bitXor}
+use Prim.Native.Nat.{ℕ, _+_, _-_, _≤_}
 use borrow.Author.Needs.{needs}
 use native.Mathlib.Omega.{arith}
 use Rattle.checksum.specs.Checksum.{bitSteps, byteStep}
-use Rattle.checksum.proofs.Register.{steps-next}
+use Rattle.checksum.proofs.Register.{byte-enters, steps-next}
 use Rattle.checksum.proofs.byte_step.Statement.{statement}
 use Rattle.checksum.proofs.byte_step.Tie as tie
 
@@ -17,10 +16,7 @@ abbrev μ-loop : tie.MeasureT-loop
 μ-loop register byte moved₀ steps₀ moved steps = 8 - steps
 
 loop-holds : tie.Need-loop-holds Inv-loop μ-loop
-unfolding byteStep
-loop-holds c =
-    let whole : c .args .byte * 2 ^ 8 % 2 ^ 16 ≡ c .args .byte * 2 ^ 8 = omega arith in
-    (omega arith, ap (λ (n : ℕ). bitSteps 8 (bitXor (c .args .register) n)) whole)
+loop-holds c = (omega arith, byte-enters (c .args .register) (c .args .byte) (omega arith))
 
 bit-step-requires : tie.Need-bit-step-requires Inv-loop μ-loop
 bit-step-requires c κs = search needs

@@ -1,78 +1,41 @@
--- `checksum::checksum` meets its contract. The loop's invariant: the bytes that are left take the register to the checksum of all.
+-- `checksum::checksum` meets its contract: the bytes by words that are left out, and the rest.
 -- Assumes nothing.
-use mathlib.Core.Path.{_≡_, sym, ap, _∙_}
-use Prim.Native.Nat.{ℕ, _≤_, _+_, _*_, _-_, _/_}
-use borrow.Author.Needs.{needs}
 use native.Mathlib.Omega.{arith}
-use lib.ListN.{length, drop, drop-of-length-le}
-use Rattle.checksum.specs.Checksum.{start, checksumFrom, checksumOf}
-use Rattle.checksum.proofs.Row.{checksum-next, checksum-rest}
+use Rattle.checksum.proofs.Row.{checksum-parts}
+use borrow.Author.Needs.{needs}
 use Rattle.checksum.proofs.checksum.Statement.{statement}
 use Rattle.checksum.proofs.checksum.Tie as tie
 
-abbrev Inv-loop : tie.InvT-loop
-Inv-loop «data» register₀ i₀ register i = (i ≤ length «data») × (checksumFrom register (drop i «data») ≡ checksumOf «data»)
+leaving-out-requires : tie.Need-leaving-out-requires
+leaving-out-requires c κs = search needs
 
-abbrev μ-loop : tie.MeasureT-loop
-μ-loop «data» register₀ i₀ register i = length «data» - i
+sub-all-steps : tie.Need-sub-all-steps
+sub-all-steps c = search needs
 
-most-steps-requires : tie.Need-most-steps-requires Inv-loop μ-loop
-most-steps-requires c κs = search needs
+part-all-steps-start : tie.Need-part-all-steps-start
+part-all-steps-start c = search needs
 
-mul-i : tie.Need-mul-i Inv-loop μ-loop
-mul-i c = search needs
+part-all-steps-end : tie.Need-part-all-steps-end
+part-all-steps-end c = search needs
 
-loop-holds : tie.Need-loop-holds Inv-loop μ-loop
-unfolding checksumOf
-loop-holds c =
-    let bytes = c .before .before .args .«data» .now in
-    let most = length bytes / 8 * 8 in (
-      omega arith,
-      ap (λ (r : ℕ). checksumFrom r (drop most bytes)) (c .most-steps .ensures) ∙ checksum-rest most start bytes,
-    )
+all-steps-requires : tie.Need-all-steps-requires
+all-steps-requires c κs = search needs
 
-shared-slice-read-byte-step : tie.Need-shared-slice-read-byte-step Inv-loop μ-loop
-shared-slice-read-byte-step c = omega arith
-
-byte-step-requires : tie.Need-byte-step-requires Inv-loop μ-loop
-byte-step-requires c κs = search needs
-
-add-i : tie.Need-add-i Inv-loop μ-loop
-add-i c = omega arith
-
-loop-less : tie.Need-loop-less Inv-loop μ-loop
-loop-less c = omega arith
-
-loop-again : tie.Need-loop-again Inv-loop μ-loop
-loop-again c =
-    let at = c .before .before .before in
-    let bytes = at .before .before .before .args .«data» .now in (
-      omega arith,
-      ap (λ (r : ℕ). checksumFrom r (drop (at .loop .i + 1) bytes)) (c .byte-step .ensures)
-          ∙ checksum-next (at .loop .register) bytes (at .loop .i) (omega arith)
-          ∙ at .loop .inv .1,
-    )
-
-returns : tie.Need-returns Inv-loop μ-loop
-unfolding checksumFrom
+returns : tie.Need-returns
 returns c =
-    let at = c .before .loop in
-    let bytes = c .before .before .before .before .args .«data» .now in
-    let ended : length bytes ≤ at .i = omega arith in
-    sym (ap (checksumFrom (at .register)) (drop-of-length-le bytes ended)) ∙ at .inv .1
+    let reached = c .before .before .leaving-out in
+    let s = c .before .before .before .before .args .«data» .now in
+    let next = reached .result .next in
+    let register = reached .result .register in
+    checksum-parts s (reached .result .next) next register (omega arith) (omega (arith, reached .ensures .1)) (c .all-steps .ensures)
 
 pub checksum-spec : {M : Type 1} → statement M
 checksum-spec =
     tie.close
     (tie.spec
-    Inv-loop
-    μ-loop
-    most-steps-requires
-    mul-i
-    loop-holds
-    shared-slice-read-byte-step
-    byte-step-requires
-    add-i
-    loop-less
-    loop-again
+    leaving-out-requires
+    sub-all-steps
+    part-all-steps-start
+    part-all-steps-end
+    all-steps-requires
     returns)

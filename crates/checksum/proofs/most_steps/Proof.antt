@@ -4,19 +4,19 @@ use mathlib.Core.Path.{_≡_, refl, ap, _∙_}
 use Prim.Native.Nat.{ℕ, _≤_, _*_, _-_, _/_, _%_}
 use native.Mathlib.Omega.{arith}
 use lib.ListN.{length, take, drop}
-use Rattle.checksum.specs.Checksum.{start, checksumFrom}
+use Rattle.checksum.specs.Checksum.{checksumFrom}
 use Rattle.checksum.proofs.Row.{checksum-more}
 use Rattle.checksum.proofs.most_steps.Statement.{statement}
 use Rattle.checksum.proofs.most_steps.Tie as tie
 
 abbrev Inv-loop : tie.InvT-loop
-Inv-loop «data» register₀ i₀ register i = (i ≤ length «data») × (i % 8 ≡ 0) × (register ≡ checksumFrom start (take i «data»))
+Inv-loop register «data» moved₀ i₀ moved i = (i ≤ length «data») × (i % 8 ≡ 0) × (moved ≡ checksumFrom register (take i «data»))
 
 abbrev μ-loop : tie.MeasureT-loop
-μ-loop «data» register₀ i₀ register i = length «data» - i
+μ-loop register «data» moved₀ i₀ moved i = length «data» - i
 
 loop-holds : tie.Need-loop-holds Inv-loop μ-loop
-unfolding start checksumFrom
+unfolding checksumFrom
 loop-holds c = (omega arith, refl, refl)
 
 sub-loop : tie.Need-sub-loop Inv-loop μ-loop
@@ -39,7 +39,7 @@ loop-again c =
       omega (arith, at .inv .1),
       c .eight-steps .ensures
           ∙ ap (λ (r : ℕ). checksumFrom r (take 8 (drop (at .i) bytes))) (at .inv .2)
-          ∙ checksum-more 8 (at .i) start bytes,
+          ∙ checksum-more 8 (at .i) (c .before .before .before .before .args .register) bytes,
     )
 
 returns : tie.Need-returns Inv-loop μ-loop
@@ -47,7 +47,7 @@ returns c =
     let at = c .before .loop in
     let bytes = c .before .before .before .args .«data» .now in
     let ended : at .i ≡ length bytes / 8 * 8 = omega (arith, at .inv .0, at .inv .1) in
-    at .inv .2 ∙ ap (λ (n : ℕ). checksumFrom start (take n bytes)) ended
+    at .inv .2 ∙ ap (λ (n : ℕ). checksumFrom (c .before .before .before .args .register) (take n bytes)) ended
 
 pub most-steps-spec : {M : Type 1} → statement M
 most-steps-spec = tie.close (tie.spec Inv-loop μ-loop loop-holds sub-loop eight-steps-requires add-i loop-less loop-again returns)
