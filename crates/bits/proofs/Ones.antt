@@ -150,11 +150,7 @@ flipped : (k i a b : ℕ) → i < k → differences k (flip i a) b + bit i (bitX
 unfolding differences
 flipped k i a b h = ap (λ (n : ℕ). onesIn k n + bit i (bitXor a b)) (flip-out i a b) ∙ turned k i (bitXor a b) h
 
--- turning one bit over brings two numbers at most one bit nearer
-pub flip-near : (k i a b : ℕ) → i < k → differences k a b ≤ suc (differences k (flip i a) b)
-flip-near k i a b h = omega (arith, flipped k i a b h, bit-lt i (bitXor a b))
-
--- and of two numbers that differ there is a bit that does
+-- of two numbers that differ there is a bit that brings them nearer, turned over
 pub flip-nearer : (k a b : ℕ) → 0 < differences k a b → (i : ℕ) × (i < k) × (differences k a b ≡ suc (differences k (flip i a) b))
 unfolding differences
 flip-nearer k a b h =

@@ -1,7 +1,8 @@
 pub mod Accounts
 pub mod All
 pub mod Apart
-pub mod Columns
+pub mod Parts
+pub mod Rows
 pub mod Search
 pub mod Turned
 pub mod Unique
