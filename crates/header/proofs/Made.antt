@@ -25,6 +25,10 @@ pub oneIf-lt : (b : Bool) → oneIf b < 2
 oneIf-lt true = omega arith
 oneIf-lt false = omega arith
 
+pub bit-clear : (b : Bool) → oneIf b ≡ 0 → b ≡ false
+bit-clear true e = absurd (let no′ : ⊥ = omega arith in no′)
+bit-clear false e = refl
+
 pub low-flag-lt : (f : Header) → Fit f → lowFlag f < 2 ^ 7
 unfolding lowFlag
 low-flag-lt f fit = omega (arith, oneIf-lt (f .sync), oneIf-lt (f .spare))

@@ -1,3 +1,4 @@
 pub mod Decimal
 pub mod Once
 pub mod Putting
+pub mod Told

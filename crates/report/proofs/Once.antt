@@ -1,4 +1,5 @@
--- The promise of `report` leaves one answer and one content of each buffer (that of `line` by `one-front` of `codes`); and the line of a packet that is refused.
+-- The promise of `report` leaves one answer and one content of each buffer (that of `line` by `one-front` of `codes`); and the line of a packet that is
+-- refused.
 -- Assumes nothing.
 use mathlib.Core.List.{List, [], _∷_}
 use mathlib.Core.Path.{_≡_, refl, sym, subst}

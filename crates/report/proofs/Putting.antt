@@ -31,6 +31,11 @@ puts-more {a} {b} {entry} {mid} {exit} {n} {m} {r} p q h =
 pub puts-byte : (entry : List ℕ) (n v : ℕ) → n < length entry → Puts (v ∷ []) entry (set entry n v) n (n + 1)
 puts-byte entry n v h = record { place = refl; whole = set-laid entry n v h }
 
+-- a byte that is to be this one, and the place behind it
+puts-as : {v r : ℕ} {entry : List ℕ} {n : ℕ} (byte : ℕ) → byte ≡ v → r ≡ n + 1 → n < length entry → Puts (v ∷ []) entry (set entry n byte) n r
+puts-as {v} {r} {entry} {n} byte e f h =
+    record { place = f; whole = set-laid entry n byte h ∙ ap (λ (b : ℕ). laid entry n (b ∷ [])) e }
+
 -- ---- a number
 
 pub puts-small : (n : ℕ) (entry : List ℕ) (at : ℕ) → n < 10 → at < length entry → Puts (decimal n) entry (set entry at (digit n)) at (at + 1)
@@ -78,10 +83,10 @@ module _ {numbers entry : List ℕ} {at : ℕ} {out : List ℕ} {end i : ℕ} (l
     next-held =
         omega (arith, l .held, ap length next, length-append (32 ∷ decimal (getD numbers i 0)) (spaced (drop (i + 1) numbers)))
 
-    pub left-next : (exit : List ℕ) (r : ℕ) → Puts (decimal (getD numbers i 0)) (set out end 32) exit (end + 1) r
-        → Left numbers entry at exit r (i + 1)
-    left-next exit r p =
-        let space : Puts (32 ∷ []) out (set out end 32) end (end + 1) = puts-byte out end 32 (omega (arith, next-held)) in
+    pub left-next : (between : ℕ) (exit : List ℕ) (r : ℕ) → Puts (decimal (getD numbers i 0)) (set out end between) exit (end + 1) r
+        → between ≡ 32 → Left numbers entry at exit r (i + 1)
+    left-next between exit r p e =
+        let space : Puts (32 ∷ []) out (set out end between) end (end + 1) = puts-as between e refl (omega (arith, next-held)) in
         let both : Puts (32 ∷ decimal (getD numbers i 0)) out exit end r = puts-more space p (omega (arith, next-held)) in
         let long : length exit ≡ length out = puts-length both (omega (arith, next-held)) in
         record {
@@ -118,15 +123,16 @@ module _ (word numbers entry : List ℕ) (held : length (line word numbers) ≤ 
     pub spaced-held : at + length (spaced numbers) + 1 ≤ length mid
     spaced-held = omega (arith, line-held, puts-length word-put (omega (arith, line-held)))
 
-    pub line-put : (late : List ℕ) (end : ℕ) → Puts (spaced numbers) mid late at end
-        → (end < length late) × Fronted (line word numbers) entry (set late end 10) (end + 1)
-    unfolding line
-    line-put late end p =
-        let here : end < length late = omega (arith, p .place, spaced-held, puts-length p (omega (arith, spaced-held))) in (
-          here,
+    module _ (late : List ℕ) (end : ℕ) (p : Puts (spaced numbers) mid late at end) where
+      pub end-held : end < length late
+      end-held = omega (arith, p .place, spaced-held, puts-length p (omega (arith, spaced-held)))
+
+      pub line-put : (last r : ℕ) → last ≡ 10 → r ≡ end + 1 → Fronted (line word numbers) entry (set late end last) r
+      unfolding line
+      line-put last r e f =
           front
-              (puts-more word-put (puts-more p (puts-byte late end 10 here) (omega (arith, spaced-held))) (omega (arith, line-held))),
-        )
+          (puts-more word-put (puts-more p (puts-as last e f end-held) (omega (arith, spaced-held)))
+          (omega (arith, line-held)))
 
 -- what stands at the front is a part of the buffer
 pub front-within : {row entry exit : List ℕ} {r : ℕ} → Fronted row entry exit r → r ≤ length exit

@@ -33,10 +33,10 @@ module _ (t : ℕ) where
   add-out c = search needs
 
   slice-write-out : put-decimal-lts.Need-slice-write-out (below t, put-decimal.Post) (at-most t) put-decimal.Post
-  slice-write-out c = omega (arith, ap length (decimal-small (c .before .before .args .n) (c .if1 .taken)))
+  slice-write-out c = omega (arith, ap length (decimal-small (c .before .before .args .n) (omega arith)))
 
   add-result : put-decimal-lts.Need-add-result (below t, put-decimal.Post) (at-most t) put-decimal.Post
-  add-result c = omega (arith, ap length (decimal-small (c .before .before .args .n) (c .if1 .taken)))
+  add-result c = omega (arith, ap length (decimal-small (c .before .before .args .n) (omega arith)))
 
   same-length : put-decimal-lts.Need-same-length (below t, put-decimal.Post) (at-most t) put-decimal.Post
   same-length c = search needs
@@ -44,15 +44,15 @@ module _ (t : ℕ) where
   returns : put-decimal-lts.Need-returns (below t, put-decimal.Post) (at-most t) put-decimal.Post
   returns c =
       let a = c .before .before .args in
-      puts-small (a .n) (a .out .now) (a .at) (c .if1 .taken)
-      (omega (arith, ap length (decimal-small (a .n) (c .if1 .taken))))
+      puts-small (a .n) (a .out .now) (a .at) (omega arith)
+      (omega (arith, ap length (decimal-small (a .n) (omega arith))))
 
   put-decimal-requires : put-decimal-lts.Need-put-decimal-requires (below t, put-decimal.Post) (at-most t) put-decimal.Post
   put-decimal-requires c κs =
       let s = c .before .before .before in
       let a = s .args in (
-        omega (arith, s .pre .0, c .before .if1 .left),
-        omega (arith, tenth-held (a .n) (s .fits .n .fits) (c .before .if1 .left) (a .out .now) (a .at) (s .pre .1)),
+        omega (arith, s .pre .0),
+        omega (arith, tenth-held (a .n) (s .fits .n .fits) (omega arith) (a .out .now) (a .at) (s .pre .1)),
       )
 
   cast-out-2 : put-decimal-lts.Need-cast-out-2 (below t, put-decimal.Post) (at-most t) put-decimal.Post
@@ -72,7 +72,7 @@ module _ (t : ℕ) where
   last-digit c =
       let s = c .before .before .before .before .before .before in
       let a = s .args in
-      puts-large (a .n) (s .fits .n .fits) (c .before .before .before .before .if1 .left) (a .out .now) (a .at) (s .pre .1)
+      puts-large (a .n) (s .fits .n .fits) (omega arith) (a .out .now) (a .at) (s .pre .1)
       (c .before .before .put-decimal .last .1 .0) (c .before .before .put-decimal .result) (c .before .before .put-decimal .ensures)
 
   slice-write-out-2 : put-decimal-lts.Need-slice-write-out-2 (below t, put-decimal.Post) (at-most t) put-decimal.Post

@@ -1,14 +1,12 @@
 -- `report::line` meets its contract.
 -- Assumes nothing.
-use mathlib.Core.List.{List, [], _∷_}
-use mathlib.Core.Path.{sym, ap, ap₂, _∙_, subst}
-use Prim.Native.Nat.{ℕ}
+use mathlib.Core.Path.{sym, ap, _∙_}
 use native.Mathlib.Nat.{le-trans}
 use native.Mathlib.Omega.{arith}
 use borrow.Author.Needs.{needs}
-use Rattle.report.specs.Line.{ok, refused, line, lineOf}
-use Rattle.codes.specs.Laid.{Fronted}
+use Rattle.report.specs.Line.{lineOf}
 use Rattle.report.proofs.Decimal.{line-within}
+use Rattle.report.proofs.Told.{front-same, told-accepted, told-refused}
 use Rattle.report.proofs.line.Statement.{statement}
 use Rattle.report.proofs.line.Tie as tie
 
@@ -64,16 +62,15 @@ same-length c = search needs
 returns : tie.Need-returns
 returns c =
     let read = c .before .before .before .before .before .before .before .before .before .before in
-    let start = read .before .before .before in
-    let put = c .before .before .put-line in
-    let reading = read .answer .given .0 .0 in
     let synced = c .before .before .before .before .before .before .before in
-    subst (λ (l : List ℕ). Fronted l (start .args .out .now) (put .last .1 .1 .0) (put .result))
-    (ap₂
-    (λ (format sync : ℕ). line ok (format ∷ sync ∷ reading .mended ∷ reading .«data_length» ∷ reading .«text_length» ∷ []))
-    (synced .before .number .ensures) (synced .one-if .ensures)
+    front-same (c .before .before .put-line .ensures)
+    (told-accepted (read .answer .given .0 .0) _ _ _ _ _
+    (omega (arith, synced .before .number .ensures))
+    (omega (arith, synced .one-if .ensures))
+    (omega arith)
+    (omega arith)
+    (omega arith)
     ∙ sym (ap lineOf (read .answer .given .1)))
-    (put .ensures)
 
 same-length-2 : tie.Need-same-length-2
 same-length-2 c = search needs
@@ -81,12 +78,9 @@ same-length-2 c = search needs
 returns-2 : tie.Need-returns-2
 returns-2 c =
     let read = c .before .before .before .before .before .before .before .before in
-    let start = read .before .before .before in
-    let put = c .before .before .put-line2 in
-    subst (λ (l : List ℕ). Fronted l (start .args .out .now) (put .last .1 .1 .0) (put .result))
-    (ap (λ (number : ℕ). line refused (number ∷ [])) (c .before .before .before .before .before .number2 .ensures)
+    front-same (c .before .before .put-line2 .ensures)
+    (told-refused (read .answer2 .given .0 .0) _ (omega (arith, c .before .before .before .before .before .number2 .ensures))
     ∙ sym (ap lineOf (read .answer2 .given .1)))
-    (put .ensures)
 
 pub line-spec : {M : Type 1} → statement M
 line-spec =

@@ -1,12 +1,10 @@
 -- `report::put_line` meets its contract.
 -- Assumes nothing.
 use native.Mathlib.Omega.{arith}
-use mathlib.Core.Path.{_∙_}
-use Prim.Native.Nat.{_+_, _<_}
-use lib.ListN.{length, set, length-set}
-use Rattle.codes.specs.Laid.{Fronted}
-use Rattle.report.specs.Line.{line}
-use Rattle.report.proofs.Putting.{line-held, spaced-held, line-put}
+use mathlib.Core.Path.{refl, _∙_}
+use Prim.Native.Nat.{_<_}
+use lib.ListN.{length, length-set}
+use Rattle.report.proofs.Putting.{line-held, spaced-held, end-held, line-put}
 use Rattle.report.proofs.put_line.Statement.{statement}
 use Rattle.report.proofs.put_line.Tie as tie
 
@@ -25,33 +23,32 @@ put-spaced-requires c κs =
           (copied .ensures .1),
     )
 
--- the line stands once its end does
-whole : (c : tie.After-slice-known3)
-    → (c .before .before .put-spaced .result < length (c .before .before .put-spaced .last .1 .0))
-    × Fronted
-    (line (c .before .before .before .before .before .before .before .before .before .before .before .args .word .now)
-    (c .before .before .before .before .before .before .before .before .before .before .before .args .numbers .now))
-    (c .before .before .before .before .before .before .before .before .before .before .before .args .out .now)
-    (set (c .before .before .put-spaced .last .1 .0) (c .before .before .put-spaced .result) 10) (c .before .before .put-spaced .result + 1)
-whole c =
+-- the line's end is within the buffer
+ended : (c : tie.After-slice-known3) → c .before .before .put-spaced .result < length (c .before .before .put-spaced .last .1 .0)
+ended c =
     let s = c .before .before .before .before .before .before .before .before .before .before .before in
     let copied = c .before .before .before .before .before .before .copy in
     let put = c .before .before .put-spaced in
-    line-put (s .args .word .now) (s .args .numbers .now) (s .args .out .now) (s .pre) (copied .last .1 .0) (copied .result) (copied .ensures .0)
+    end-held (s .args .word .now) (s .args .numbers .now) (s .args .out .now) (s .pre) (copied .last .1 .0) (copied .result) (copied .ensures .0)
     (copied .ensures .1) (put .last .1 .0) (put .result) (put .ensures)
 
 slice-write-out : tie.Need-slice-write-out
-slice-write-out c = whole c .0
+slice-write-out c = ended c
 
 add-result : tie.Need-add-result
-add-result c = omega (arith, whole c .0)
+add-result c = omega (arith, ended c)
 
 same-length : tie.Need-same-length
 same-length c =
     simp length-set (c .before .before .put-spaced .kept .1 .0 ∙ c .before .before .before .before .before .before .copy .kept .1 .0)
 
 returns : tie.Need-returns
-returns c = whole c .1
+returns c =
+    let s = c .before .before .before .before .before .before .before .before .before .before .before in
+    let copied = c .before .before .before .before .before .before .copy in
+    let put = c .before .before .put-spaced in
+    line-put (s .args .word .now) (s .args .numbers .now) (s .args .out .now) (s .pre) (copied .last .1 .0) (copied .result) (copied .ensures .0)
+    (copied .ensures .1) (put .last .1 .0) (put .result) (put .ensures) _ _ refl (omega arith)
 
 pub put-line-spec : {M : Type 1} → statement M
 put-line-spec = tie.close (tie.spec copy-requires put-spaced-requires slice-write-out add-result same-length returns)

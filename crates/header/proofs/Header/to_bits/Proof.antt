@@ -13,11 +13,12 @@ use Rattle.header.proofs.Made.{low-flag-lt, parity-lt}
 use Rattle.header.proofs.Header.to_bits.Statement.{statement}
 use Rattle.header.proofs.Header.to_bits.Tie as tie
 
-built : (f : Header) (low parity check : ℕ) → low ≡ lowFlag f → parity ≡ parityFor low → check ≡ checkOf (low * 2 ^ 14 + f .length)
-    → (parity * 2 ^ 7 + low) * 2 ^ 24 + f .length * 2 ^ 10 + check ≡ headerOf f
+built : (f : Header) (low parity check word : ℕ) → low ≡ lowFlag f → parity ≡ parityFor low → check ≡ checkOf (low * 2 ^ 14 + f .length)
+    → word ≡ (parity * 2 ^ 7 + low) * 2 ^ 24 + f .length * 2 ^ 10 + check → word ≡ headerOf f
 unfolding headerOf
-built f low parity check e ep ec =
-    ap (λ (n : ℕ). (n * 2 ^ 7 + low) * 2 ^ 24 + f .length * 2 ^ 10 + check) ep
+built f low parity check word e ep ec put =
+    put
+    ∙ ap (λ (n : ℕ). (n * 2 ^ 7 + low) * 2 ^ 24 + f .length * 2 ^ 10 + check) ep
     ∙ ap (λ (n : ℕ). (parityFor low * 2 ^ 7 + low) * 2 ^ 24 + f .length * 2 ^ 10 + n) ec
     ∙ ap (λ (n : ℕ). (parityFor n * 2 ^ 7 + n) * 2 ^ 24 + f .length * 2 ^ 10 + checkOf (n * 2 ^ 14 + f .length)) e
 
@@ -71,7 +72,7 @@ add-result-2 c =
 returns : tie.Need-returns
 returns c =
     built (c .before .before .before .before .args .self) (c .before .before .before .low-flag .result) (c .before .parity-for .result) (c .check-bits .result)
-    (c .before .before .before .low-flag .ensures) (c .before .parity-for .ensures) (c .check-bits .ensures)
+    _ (c .before .before .before .low-flag .ensures) (c .before .parity-for .ensures) (c .check-bits .ensures) (omega arith)
 
 pub to-bits-spec : {M : Type 1} → statement M
 to-bits-spec =

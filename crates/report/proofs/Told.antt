@@ -1,0 +1,39 @@
+-- The line of an answer, number by number, so that a wrong one is refused where it stands; and what the line and the reading say together.
+-- Assumes nothing.
+use mathlib.Core.List.{List, [], _∷_}
+use mathlib.Core.Path.{_≡_, refl, sym, ap, ap₂, subst}
+use Prim.Native.Nat.{ℕ}
+use Rattle.header.specs.Fields.{oneIf}
+use Rattle.header.specs.Typed.{formatNumber}
+use Rattle.codes.specs.Laid.{Fronted}
+use Rattle.packet.specs.declared.Reading.{Reading}
+use Rattle.packet.specs.declared.Refusal.{Refusal}
+use Rattle.packet.specs.declared.ReadAnswer.{ReadAnswer}
+use Rattle.packet.specs.declared.ReadAnswer.the-variants.{Accepted, Refused}
+use Rattle.packet.specs.Refusals.{numberOf}
+use Rattle.packet.specs.Reader.{Reads}
+use Rattle.report.specs.Line.{ok, refused, line, lineOf}
+use Rattle.report.specs.Report.{Reports}
+
+-- another row that is the same
+pub front-same : {row row′ out out′ : List ℕ} {r : ℕ} → Fronted row out out′ r → row ≡ row′ → Fronted row′ out out′ r
+front-same {row} {row′} {out} {out′} {r} p e = subst (λ (l : List ℕ). Fronted l out out′ r) e p
+
+-- a number in front of a row
+fore : {n m : ℕ} {rest rest′ : List ℕ} → n ≡ m → rest ≡ rest′ → n ∷ rest ≡ m ∷ rest′
+fore = ap₂ (λ (n : ℕ) (rest : List ℕ). n ∷ rest)
+
+pub told-accepted : (reading : Reading) (format sync mended long count : ℕ) → format ≡ formatNumber (reading .format) → sync ≡ oneIf (reading .sync)
+    → mended ≡ reading .mended → long ≡ reading .«data_length» → count ≡ reading .«text_length»
+    → line ok (format ∷ sync ∷ mended ∷ long ∷ count ∷ []) ≡ lineOf (Accepted reading)
+told-accepted reading format sync mended long count f s m l c = ap (line ok) (fore f (fore s (fore m (fore l (fore c refl)))))
+
+pub told-refused : (refusal : Refusal) (number : ℕ) → number ≡ numberOf refusal → line refused (number ∷ []) ≡ lineOf (Refused refusal)
+told-refused refusal number e = ap (λ (n : ℕ). line refused (n ∷ [])) e
+
+-- ---- a packet's line
+
+pub reported : {packet text text′ out out′ : List ℕ} {r : ℕ} (answer : ReadAnswer) (long : ℕ) → Reads packet text answer text′
+    → Fronted (lineOf answer) out out′ long → r ≡ long → Reports packet text text′ out out′ r
+reported {packet} {text} {text′} {out} {out′} {r} answer long reads fronted e =
+    record { answer = answer; reads = reads; line = subst (λ (n : ℕ). Fronted (lineOf answer) out out′ n) (sym e) fronted }
