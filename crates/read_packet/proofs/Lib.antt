@@ -1,1 +1,2 @@
+pub mod Coming
 pub mod Six

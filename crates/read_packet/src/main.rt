@@ -1,8 +1,11 @@
-// Reads the packet at the front of standard input and prints one line. A program has no exit status: where standard input cannot be read, or the line
-// not be written, it says so on standard error.
+// Reads the packet at the front of standard input and prints one line. A program has no exit status: where a read of standard input fails, or the line
+// cannot be written, it says so on standard error, and in the first case prints no line.
 use libc::STDERR_FILENO;
 use libc::STDIN_FILENO;
 use libc::STDOUT_FILENO;
+ghost use mathlib.Core.Path.{_≡_};
+ghost use lib.ListN.{length};
+ghost use Rattle.read_packet.specs.Input.{after, Fits, Within};
 
 // The bytes of standard input that are taken, and the room for the text and for the line.
 const INPUT: usize = 8192;
@@ -11,31 +14,60 @@ const TEXT: usize = 65536;
 
 const LINE: usize = 128;
 
-// Whether standard input can be read at all: a read of no bytes fails where it cannot.
-fn is_readable() -> bool {
-    let mut none = [0u8; 1];
-    libc::read(STDIN_FILENO, &mut none[..0]) >= 0
+// Standard input so far: so many bytes and more to come, so many and no more, or a read that failed.
+enum Input {
+    More(usize),
+    Whole(usize),
+    Failed,
+}
+
+// The input after a read that answered `got`, with `done` bytes before it.
+fn taken(done: usize, got: isize) -> Input
+    requires { ⌜ Fits done got ⌝ }
+    ensures { λ r. ⌜ r ≡ after done got ⌝ }
+{
+    if got < 0 {
+        return Input::Failed;
+    }
+    if got == 0 {
+        return Input::Whole(done);
+    }
+    Input::More(done + got as usize)
+}
+
+// Reads until the buffer is full, the input ends or a read fails.
+fn read_input(buffer: &mut [u8]) -> Input
+    ensures { λ r. ⌜ Within (length (now (buffer .exit))) r ⌝ }
+{
+    let mut done: usize = 0;
+    while done < buffer.len() {
+        let input = taken(done, libc::read(STDIN_FILENO, &mut buffer[done..]));
+        let Input::More(n) = input else {
+            return input;
+        };
+        done = n;
+    }
+    Input::Whole(done)
 }
 
 // Whether the line was written.
-fn print_answer() -> bool {
-    let mut packet = [0u8; INPUT];
+fn print_answer(packet: &[u8]) -> bool {
     let mut text = [0u8; TEXT];
     let mut line = [0u8; LINE];
-    let got = io::read_full(STDIN_FILENO, &mut packet);
-    let n = report::report(&packet[..got], &mut text, &mut line);
+    let n = report::report(packet, &mut text, &mut line);
     io::write_all(STDOUT_FILENO, &line[..n])
 }
 
 fn main() {
-    if !is_readable() {
+    let mut packet = [0u8; INPUT];
+    let Input::Whole(got) = read_input(&mut packet) else {
         io::write_all(
             STDERR_FILENO,
             b"read_packet: standard input cannot be read\n",
         );
         return;
-    }
-    if !print_answer() {
+    };
+    if !print_answer(&packet[..got]) {
         io::write_all(
             STDERR_FILENO,
             b"read_packet: the line could not be written\n",

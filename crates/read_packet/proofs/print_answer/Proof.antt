@@ -7,23 +7,11 @@ use Rattle.report.proofs.Putting.{front-within}
 use Rattle.read_packet.proofs.print_answer.Statement.{statement}
 use Rattle.read_packet.proofs.print_answer.Tie as tie
 
-slice-aggregate-read-full : tie.Need-slice-aggregate-read-full
-slice-aggregate-read-full c = search needs
-
-read-full-requires : tie.Need-read-full-requires
-read-full-requires c κs = search needs
-
-array-share-prefix-packet : tie.Need-array-share-prefix-packet
-array-share-prefix-packet c = search needs
-
 slice-aggregate-report : tie.Need-slice-aggregate-report
 slice-aggregate-report c = search needs
 
 slice-aggregate-report-2 : tie.Need-slice-aggregate-report-2
 slice-aggregate-report-2 c = search needs
-
-slice-aggregate-report-3 : tie.Need-slice-aggregate-report-3
-slice-aggregate-report-3 c = search needs
 
 report-requires : tie.Need-report-requires
 report-requires c κs = search needs
@@ -45,12 +33,8 @@ pub print-answer-spec : {M : Type 1} → statement M
 print-answer-spec =
     tie.close
     (tie.spec
-    slice-aggregate-read-full
-    read-full-requires
-    array-share-prefix-packet
     slice-aggregate-report
     slice-aggregate-report-2
-    slice-aggregate-report-3
     report-requires
     array-share-prefix-line
     slice-aggregate-write-all
