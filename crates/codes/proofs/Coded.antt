@@ -9,7 +9,7 @@ use lib.Dec.{T}
 use lib.ListN.{length, getD}
 use borrow.Author.Count.{below-more}
 use Rattle.bits.specs.Says.{Says}
-use Rattle.codes.specs.Size.{Coded}
+use Rattle.codes.specs.Size.{Coded, First}
 use Rattle.bits.proofs.Said.{and-left, and-right}
 use Rattle.codes.proofs.Every.{every}
 
@@ -43,3 +43,8 @@ module _ (has : ℕ → Bool) where
   coded-more text i true true s e = below-more (λ (k : ℕ). T (has (getD text k 0))) i s (subst T e tt)
   coded-more text i true false s e = λ h. subst⁻¹ T e (h i (omega arith))
   coded-more text i false one s e = λ h. s (λ k l. h k (omega arith))
+
+  -- the first character that has none, by its index
+  pub first-at : (text : List ℕ) (index i : ℕ) → index ≡ i → i < length text → Coded has text i → has (getD text i 0) ≡ false → First has text index
+  first-at text index i e there before none =
+      subst⁻¹ (First has text) e (record { there = there; before = before; none = λ t. subst T none t })

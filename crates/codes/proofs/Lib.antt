@@ -1,6 +1,7 @@
 pub mod Ahead
 pub mod Begin
 pub mod Coded
+pub mod Entering
 pub mod Every
 pub mod Fill
 pub mod Flushing
@@ -20,6 +21,7 @@ pub mod Search
 pub mod Single
 pub mod Speaks
 pub mod Spilling
+pub mod Storing
 pub mod Within
 pub mod Words
 pub mod Writing

@@ -1,39 +1,32 @@
 -- The contracts of measuring, reading and sizing leave one answer, and one content of the buffer.
 -- Assumes nothing.
-use mathlib.Core.Path.{_≡_, refl, sym, ap, _∙_}
-use mathlib.Core.Bool.{Bool}
+use mathlib.Core.Path.{_≡_, refl, sym, ap, ap₂, _∙_}
+use mathlib.Core.Bool.{Bool, cond}
 use mathlib.Core.Logic.{by-cases}
 use mathlib.Core.List.{List, _++_}
-use Prim.Native.Nat.{ℕ, _+_}
+use Prim.Native.Nat.{ℕ}
 use native.Mathlib.Decide.{decLt}
 use native.Mathlib.Omega.{arith}
+use borrow.Author.Tests.{lt-ltb, le-ltb}
+use lib.Dec.{ltb}
 use lib.ListN.{length, drop}
-use Rattle.codes.specs.Chain.{Tables}
-use Rattle.codes.specs.Laid.{laid, Placed, Fronted}
-use Rattle.codes.specs.Measure.{Measures, Comes}
+use Rattle.codes.specs.Chain as chain
+use Rattle.codes.specs.Chain.{Tables, Built}
+use Rattle.codes.specs.Laid.{Fronted}
+use Rattle.codes.specs.Measure.{Comes, Enters, ReadsInto}
 use Rattle.codes.specs.declared.Outcome.{Outcome}
 use Rattle.codes.specs.declared.Outcome.the-variants as Outcome
-use Rattle.codes.specs.Size.{First, Searches, Needs}
+use Rattle.codes.specs.Size.{Coded, First, Searches, Needs, Stores}
 use Rattle.codes.specs.declared.Needed.{Needed}
-use Rattle.codes.specs.declared.Needed.the-variants.{Bytes, TooMany}
+use Rattle.codes.specs.declared.Needed.the-variants.{NoCode, TooMany, Bytes}
+use Rattle.codes.specs.declared.Stored.{Stored}
+use Rattle.codes.specs.declared.Stored.the-variants as Stored
+use Rattle.codes.specs.declared.Taken.{Taken}
+use Rattle.codes.specs.declared.Taken.the-variants as Taken
 use Rattle.codes.specs.declared.Uncoded.{Uncoded}
 use Rattle.codes.specs.declared.Uncoded.the-variants.{At, Nowhere}
-use Rattle.codes.specs.declared.Measured.{Measured}
-use Rattle.codes.specs.declared.Measured.the-variants.{Text, Malformed}
 use Rattle.codes.proofs.Laws.{Laws}
 use Rattle.codes.proofs.Reading.{one-text, one-place, never-both}
-
-module _ {tables : Tables} (laws : Laws tables) (bs : List ℕ) where
-  pub one-measure : (a b : Measured) → Measures tables bs a → Measures tables bs b → a ≡ b
-  one-measure (Text m) (Text n) h k = ap {B = Measured} Text (sym (h .1) ∙ ap length (one-text laws (h .2) (k .2)) ∙ k .1)
-  one-measure (Text m) (Malformed j) h k = absurd (never-both laws (h .2) k)
-  one-measure (Malformed i) (Text n) h k = absurd (never-both laws (k .2) h)
-  one-measure (Malformed i) (Malformed j) h k = ap {B = Measured} Malformed (one-place laws h k)
-
-  pub one-content : {entry x y : List ℕ} {n r q : ℕ} → Placed tables bs entry x n r → Placed tables bs entry y n q → (x ≡ y) × (r ≡ q)
-  one-content {entry} {x} {y} {n} h k =
-      let same : h .text ≡ k .text = one-text laws (h .reads) (k .reads) in
-      (h .whole ∙ ap (laid entry n) same ∙ sym (k .whole), h .place ∙ ap (λ (t : List ℕ). n + length t) same ∙ sym (k .place))
 
 module _ {tables : Tables} (laws : Laws tables) (sent : List ℕ) where
   pub one-outcome : (a b : Outcome) → Comes tables sent a → Comes tables sent b → a ≡ b
@@ -47,6 +40,41 @@ module _ {tables : Tables} (laws : Laws tables) (sent : List ℕ) where
   one-outcome Outcome.TooLong (Outcome.Text n) h k = absurd (let no′ : ⊥ = omega (arith, k .0) in no′)
   one-outcome Outcome.TooLong (Outcome.Malformed j) h k = absurd (let no′ : ⊥ = omega (arith, k .0) in no′)
   one-outcome Outcome.TooLong Outcome.TooLong h k = refl
+
+-- ---- reading into a buffer, where data carries one text or is malformed at one place, never both
+
+module _ (Carried : List ℕ → Type 0) (Place : ℕ → Type 0) (one : (t u : List ℕ) → Carried t → Carried u → t ≡ u)
+    (place : (i j : ℕ) → Place i → Place j → i ≡ j) (never : (t : List ℕ) (i : ℕ) → Carried t → Place i → ⊥) (size : ℕ) (entry : List ℕ) where
+  pub one-entry : (a b : Taken) (x y : List ℕ) → Enters Carried Place size entry a x → Enters Carried Place size entry b y → (a ≡ b) × (x ≡ y)
+  one-entry (Taken.Text m) (Taken.Text n) x y (s, (t, p, l, r, e)) (s′, (u, q, l′, r′, e′)) =
+      let same = one t u p q in
+      let long : m ≡ n = l ∙ ap length same ∙ sym l′ in
+      (ap {B = Taken} Taken.Text long, e ∙ ap₂ (λ (k : List ℕ) (z : ℕ). k ++ drop z entry) same long ∙ sym e′)
+  one-entry (Taken.Text m) (Taken.Malformed j) x y (s, (t, p, l, r, e)) (s′, q, e′) = absurd (never t j p q)
+  one-entry (Taken.Text m) (Taken.NoRoom n) x y (s, (t, p, l, r, e)) (s′, (u, q, l′, r′), e′) =
+      absurd (let no′ : ⊥ = omega (arith, l, ap length (one t u p q), l′, r, r′) in no′)
+  one-entry (Taken.Text m) Taken.TooLong x y (s, h) (s′, e′) = absurd (let no′ : ⊥ = omega (arith, s, s′) in no′)
+  one-entry (Taken.Malformed i) (Taken.Text n) x y (s, p, e) (s′, (u, q, l′, r′, e′)) = absurd (never u i q p)
+  one-entry (Taken.Malformed i) (Taken.Malformed j) x y (s, p, e) (s′, q, e′) = (ap {B = Taken} Taken.Malformed (place i j p q), e ∙ sym e′)
+  one-entry (Taken.Malformed i) (Taken.NoRoom n) x y (s, p, e) (s′, (u, q, l′, r′), e′) = absurd (never u i q p)
+  one-entry (Taken.Malformed i) Taken.TooLong x y (s, p, e) (s′, e′) = absurd (let no′ : ⊥ = omega (arith, s, s′) in no′)
+  one-entry (Taken.NoRoom m) (Taken.Text n) x y (s, (t, p, l, r), e) (s′, (u, q, l′, r′, e′)) =
+      absurd (let no′ : ⊥ = omega (arith, l, ap length (one t u p q), l′, r, r′) in no′)
+  one-entry (Taken.NoRoom m) (Taken.Malformed j) x y (s, (t, p, l, r), e) (s′, q, e′) = absurd (never t j p q)
+  one-entry (Taken.NoRoom m) (Taken.NoRoom n) x y (s, (t, p, l, r), e) (s′, (u, q, l′, r′), e′) =
+      (ap {B = Taken} Taken.NoRoom (l ∙ ap length (one t u p q) ∙ sym l′), e ∙ sym e′)
+  one-entry (Taken.NoRoom m) Taken.TooLong x y (s, h, e) (s′, e′) = absurd (let no′ : ⊥ = omega (arith, s, s′) in no′)
+  one-entry Taken.TooLong (Taken.Text n) x y (s, e) (s′, k) = absurd (let no′ : ⊥ = omega (arith, s, s′) in no′)
+  one-entry Taken.TooLong (Taken.Malformed j) x y (s, e) (s′, q, e′) = absurd (let no′ : ⊥ = omega (arith, s, s′) in no′)
+  one-entry Taken.TooLong (Taken.NoRoom n) x y (s, e) (s′, k, e′) = absurd (let no′ : ⊥ = omega (arith, s, s′) in no′)
+  one-entry Taken.TooLong Taken.TooLong x y (s, e) (s′, e′) = (refl, e ∙ sym e′)
+
+-- of a format whose table has the laws
+pub one-reading : {tables : Tables} → Laws tables → (sent entry : List ℕ) (a b : Taken) (x y : List ℕ)
+    → ReadsInto tables sent entry a x → ReadsInto tables sent entry b y → (a ≡ b) × (x ≡ y)
+one-reading {tables} laws sent entry =
+    one-entry (λ (text : List ℕ). Built tables text sent) (chain.Malformed tables sent) (λ t u p q. one-text laws p q) (λ i j p q. one-place laws p q)
+    (λ t i p q. never-both laws p q) (length sent) entry
 
 -- ---- the contracts of what a text asks before it is written
 
@@ -62,11 +90,48 @@ module _ (has : ℕ → Bool) (text : List ℕ) where
   one-search Nowhere (At j) h k = absurd (k .none (h j (k .there)))
   one-search Nowhere Nowhere h k = refl
 
-pub one-need : (carried : List ℕ) (a b : Needed) → Needs carried a → Needs carried b → a ≡ b
-one-need carried (Bytes m) (Bytes n) h k = ap {B = Needed} Bytes (h .0 ∙ sym (k .0))
-one-need carried (Bytes m) TooMany h k = absurd (let no′ : ⊥ = omega (arith, h .0, h .1) in no′)
-one-need carried TooMany (Bytes n) h k = absurd (let no′ : ⊥ = omega (arith, k .0, k .1) in no′)
-one-need carried TooMany TooMany h k = refl
+  -- a text that has codes has no character without one
+  all-coded : (i : ℕ) → First has text i → Coded has text (length text) → ⊥
+  all-coded i f c = f .none (c i (f .there))
+
+  module _ (carried : List ℕ) where
+    pub one-need : (a b : Needed) → Needs has text carried a → Needs has text carried b → a ≡ b
+    one-need (NoCode i) (NoCode j) h k = ap {B = Needed} NoCode (first-one i j h k)
+    one-need (NoCode i) TooMany h k = absurd (all-coded i h (k .0))
+    one-need (NoCode i) (Bytes n) h k = absurd (all-coded i h (k .0))
+    one-need TooMany (NoCode j) h k = absurd (all-coded j k (h .0))
+    one-need TooMany TooMany h k = refl
+    one-need TooMany (Bytes n) h k = absurd (let no′ : ⊥ = omega (arith, h .1, k .1, k .2) in no′)
+    one-need (Bytes m) (NoCode j) h k = absurd (all-coded j k (h .0))
+    one-need (Bytes m) TooMany h k = absurd (let no′ : ⊥ = omega (arith, k .1, h .1, h .2) in no′)
+    one-need (Bytes m) (Bytes n) h k = ap {B = Needed} Bytes (h .1 ∙ sym (k .1))
+
+    module _ (entry : List ℕ) where
+      -- what is stored is what the text needs, in this room
+      need : Stored → Needed
+      need (Stored.NoCode i) = NoCode i
+      need Stored.TooMany = TooMany
+      need (Stored.NoRoom n) = Bytes n
+      need (Stored.Bytes n) = Bytes n
+
+      stored : Needed → Stored × List ℕ
+      stored (NoCode i) = (Stored.NoCode i, entry)
+      stored TooMany = (Stored.TooMany, entry)
+      stored (Bytes n) = cond (ltb (length entry) n) (Stored.NoRoom n, entry) (Stored.Bytes n, carried ++ drop n entry)
+
+      needed : (a : Stored) (x : List ℕ) → Stores has text carried entry a x → Needs has text carried (need a) × ((a, x) ≡ stored (need a))
+      unfolding need stored
+      needed (Stored.NoCode i) x h = (h .0, ap (λ (l : List ℕ). (Stored.NoCode i, l)) (h .1))
+      needed Stored.TooMany x h = (h .0, ap (λ (l : List ℕ). (Stored.TooMany, l)) (h .1))
+      needed (Stored.NoRoom n) x h =
+          (h .0, ap (λ (l : List ℕ). (Stored.NoRoom n, l)) (h .2) ∙ sym (ap (λ (t : Bool). cond t (Stored.NoRoom n, entry) (Stored.Bytes n, carried ++ drop n entry)) (lt-ltb (length entry) n (h .1))))
+      needed (Stored.Bytes n) x h =
+          (h .0, ap (λ (l : List ℕ). (Stored.Bytes n, l)) (h .2) ∙ sym (ap (λ (t : Bool). cond t (Stored.NoRoom n, entry) (Stored.Bytes n, carried ++ drop n entry)) (le-ltb (length entry) n (h .1))))
+
+      pub one-store : (a b : Stored) (x y : List ℕ) → Stores has text carried entry a x → Stores has text carried entry b y → (a ≡ b) × (x ≡ y)
+      one-store a b x y h k =
+          let same = needed a x h .1 ∙ ap stored (one-need (need a) (need b) (needed a x h .0) (needed b y k .0)) ∙ sym (needed b y k .1) in
+          (ap (λ (p : Stored × List ℕ). p .0) same, ap (λ (p : Stored × List ℕ). p .1) same)
 
 pub one-front : {row entry x y : List ℕ} {r q : ℕ} → Fronted row entry x r → Fronted row entry y q → (x ≡ y) × (r ≡ q)
 one-front {row} {entry} h k =

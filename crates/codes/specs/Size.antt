@@ -1,13 +1,15 @@
 -- What a text asks before it is written: a code for each character (01, refusal 9), and data that one packet holds (01, refusal 11).
 -- Assumes nothing.
 use mathlib.Core.Bool.{Bool}
-use mathlib.Core.List.{List}
+use mathlib.Core.List.{List, _++_}
 use mathlib.Core.Path.{_≡_}
 use Prim.Native.Nat.{ℕ, _≤_, _<_}
 use lib.Dec.{T}
-use lib.ListN.{length, getD}
+use lib.ListN.{length, drop, getD}
 use Rattle.codes.specs.declared.Needed.{Needed}
-use Rattle.codes.specs.declared.Needed.the-variants.{Bytes, TooMany}
+use Rattle.codes.specs.declared.Needed.the-variants.{NoCode, TooMany, Bytes}
+use Rattle.codes.specs.declared.Stored.{Stored}
+use Rattle.codes.specs.declared.Stored.the-variants as Stored
 use Rattle.codes.specs.declared.Uncoded.{Uncoded}
 use Rattle.codes.specs.declared.Uncoded.the-variants.{At, Nowhere}
 
@@ -30,7 +32,17 @@ abbrev pub Searches : (ℕ → Bool) → List ℕ → Uncoded → Type 0
 Searches has text (At index) = First has text index
 Searches has text Nowhere = Coded has text (length text)
 
--- how many bytes the data has, or that they are more than one packet's
-abbrev pub Needs : List ℕ → Needed → Type 0
-Needs carried (Bytes n) = (n ≡ length carried) × (n ≤ longest)
-Needs carried TooMany = longest < length carried
+-- how many bytes the data has that our writer makes of the text; or the index of the first character that has no code; or that the bytes are more than
+-- one packet's
+abbrev pub Needs : (ℕ → Bool) → List ℕ → List ℕ → Needed → Type 0
+Needs has text carried (NoCode index) = First has text index
+Needs has text carried TooMany = Coded has text (length text) × (longest < length carried)
+Needs has text carried (Bytes n) = Coded has text (length text) × (n ≡ length carried) × (n ≤ longest)
+
+-- that data written into a buffer: at its front, so many bytes, and behind it the buffer as it was; or the buffer as it was, and why
+abbrev pub Stores : (ℕ → Bool) → List ℕ → List ℕ → List ℕ → Stored → List ℕ → Type 0
+Stores has text carried entry (Stored.NoCode index) exit = Needs has text carried (NoCode index) × (exit ≡ entry)
+Stores has text carried entry Stored.TooMany exit = Needs has text carried TooMany × (exit ≡ entry)
+Stores has text carried entry (Stored.NoRoom n) exit = Needs has text carried (Bytes n) × (length entry < n) × (exit ≡ entry)
+Stores has text carried entry (Stored.Bytes n) exit =
+    Needs has text carried (Bytes n) × (n ≤ length entry) × (exit ≡ carried ++ drop n entry)

@@ -113,7 +113,7 @@ pub enum Measured {
     Malformed(usize),
 }
 
-// The same of data of any length: there is data so long that its bits cannot be counted.
+// The same of data of any length: there is data so long that its bits or characters cannot be counted.
 pub enum Outcome {
     Text(usize),
     Malformed(usize),
@@ -122,7 +122,15 @@ pub enum Outcome {
 
 impl Outcome {
     // Data of so many bytes or more is not looked at.
-    pub const LIMIT: usize = 0x100_0000_0000;
+    pub const LIMIT: usize = 0x100_0000_0000_0000;
+}
+
+// What reading data into a buffer comes to: the text's length, with the text in the buffer; or nothing is changed, and why.
+pub enum Taken {
+    Text(usize),
+    Malformed(usize),
+    NoRoom(usize),
+    TooLong,
 }
 
 // The index of the first character that has no code, if there is one.
@@ -131,13 +139,22 @@ pub enum Uncoded {
     Nowhere,
 }
 
-// How many data bytes a text takes, if one packet holds so many.
+// How many data bytes a text takes, if each character has a code and one packet holds so many.
 pub enum Needed {
-    Bytes(usize),
+    NoCode(usize),
     TooMany,
+    Bytes(usize),
 }
 
 impl Needed {
     // The most bits that one packet holds.
     pub const MOST: usize = 32000;
+}
+
+// What writing the data of a text into a buffer comes to: how many bytes, with the data in the buffer; or nothing is changed, and why.
+pub enum Stored {
+    NoCode(usize),
+    TooMany,
+    NoRoom(usize),
+    Bytes(usize),
 }

@@ -3,6 +3,7 @@
 use codes::Buffer;
 use codes::Measured;
 use codes::Outcome;
+use codes::Taken;
 use full_ascii::Character;
 use full_ascii::Special;
 ghost use mathlib.Core.Bool.{true};
@@ -11,7 +12,7 @@ ghost use Prim.Native.Nat.{ℕ, _+_, _-_, _/_, _<_, _≤_, _^_};
 ghost use lib.ListN.{length};
 ghost use Rattle.bits.specs.Row.{bits};
 ghost use Rattle.codes.specs.Laid.{laid, Readable, Placed};
-ghost use Rattle.codes.specs.Measure.{Measures, Comes};
+ghost use Rattle.codes.specs.Measure.{Measures, Comes, ReadsInto};
 ghost use Rattle.codes.specs.Pack.{low};
 ghost use Rattle.full_ascii.specs.Table.{tables};
 ghost use Rattle.full_ascii_reader.specs.Taken.{Takes, characters, oneCharacter};
@@ -218,20 +219,6 @@ fn measure(s: &[u8]) -> Measured
     }
 }
 
-// The data taken apart, whatever its length.
-pub fn take_apart(s: &[u8]) -> Outcome
-    ensures { λ r. ⌜ Comes tables (now (s .entry)) r ⌝ }
-{
-    if Outcome::LIMIT <= s.len() {
-        return Outcome::TooLong;
-    }
-    let measured = measure(s);
-    match measured {
-        Measured::Text(n) => Outcome::Text(n),
-        Measured::Malformed(bit) => Outcome::Malformed(bit),
-    }
-}
-
 // The one or two characters of a code, from place n on.
 fn put(out: &mut [u8], n: usize, c: Code)
     requires { ⌜ (1 ≤ c .count) × (c .count ≤ 2) × (n + c .count ≤ length (now out)) ⌝ }
@@ -325,11 +312,42 @@ fn read_last(held: u64, have: u64, out: &mut [u8], n: usize) -> usize
 }
 
 // The text of the data, at the front of the buffer; its length.
-pub fn read(s: &[u8], out: &mut [u8]) -> usize
+fn put_text(s: &[u8], out: &mut [u8]) -> usize
     requires { ⌜ Readable tables (bits (now s)) (length (now out)) ⌝ }
     ensures { λ r. ⌜ Placed tables (bits (now (s .entry))) (now (out .entry)) (now (out .exit)) 0 r ⌝ }
 {
     let place = read_words(s, out);
     let b = last_bits(s, place);
     read_last(b.held, b.have, out, place.n)
+}
+
+// The data taken apart, whatever its length.
+pub fn take_apart(s: &[u8]) -> Outcome
+    ensures { λ r. ⌜ Comes tables (now (s .entry)) r ⌝ }
+{
+    if Outcome::LIMIT <= s.len() {
+        return Outcome::TooLong;
+    }
+    let measured = measure(s);
+    match measured {
+        Measured::Text(n) => Outcome::Text(n),
+        Measured::Malformed(bit) => Outcome::Malformed(bit),
+    }
+}
+
+// The data taken apart, and then its text at the front of the buffer, where there is room for it; whatever their lengths.
+pub fn read(s: &[u8], out: &mut [u8]) -> Taken
+    ensures { λ r. ⌜ ReadsInto tables (now (s .entry)) (now (out .entry)) r (now (out .exit)) ⌝ }
+{
+    let outcome = take_apart(s);
+    match outcome {
+        Outcome::TooLong => Taken::TooLong,
+        Outcome::Malformed(bit) => Taken::Malformed(bit),
+        Outcome::Text(needed) => {
+            if out.len() < needed {
+                return Taken::NoRoom(needed);
+            }
+            Taken::Text(put_text(s, out))
+        }
+    }
 }

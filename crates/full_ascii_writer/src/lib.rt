@@ -1,6 +1,7 @@
 // Compact Full ASCII (001, 4.5), written: whether a text has codes, how long its data is, and the data. What our writer builds is in full_ascii.
 
 use codes::Needed;
+use codes::Stored;
 use codes::Uncoded;
 use full_ascii::Character;
 use full_ascii::Special;
@@ -12,7 +13,7 @@ ghost use lib.ListN.{length, drop, getD};
 ghost use Rattle.bits.specs.Says.{Says};
 ghost use Rattle.codes.specs.Chain.{codes};
 ghost use Rattle.codes.specs.Pack.{written};
-ghost use Rattle.codes.specs.Size.{Searches, Needs};
+ghost use Rattle.codes.specs.Size.{Searches, Needs, Stores};
 ghost use Rattle.codes.specs.declared.Uncoded.the-variants.{Nowhere};
 ghost use Rattle.full_ascii.specs.Writer.{coded, Coded, ours, LineEnd};
 ghost use Rattle.full_ascii_writer.specs.Sending.{OwnOf, FirstOf, bitsFor, Each, TotalOf, FourPlain, Pushed, Writes};
@@ -217,9 +218,9 @@ fn code_bits(text: &[u8]) -> u16
 
 // How many bytes our data of the text has, or that one packet does not hold them. A text has four and a half bits a character or more, since a line
 // end has nine for two: one that is certainly too long is not looked at.
-pub fn data_length(text: &[u8]) -> Needed
+fn coded_length(text: &[u8]) -> Needed
     requires { ⌜ Coded (now text) ⌝ }
-    ensures { λ r. ⌜ Needs (written (ours (now (text .entry)))) r ⌝ }
+    ensures { λ r. ⌜ Needs coded (now (text .entry)) (written (ours (now (text .entry)))) r ⌝ }
 {
     if Needed::MOST * 2 / 9 < text.len() {
         return Needed::TooMany;
@@ -312,8 +313,8 @@ fn push_codes(text: &[u8], b: Held) -> Held
 }
 
 // What our writer builds of the text, at the front of the buffer; how many bytes it is.
-pub fn write(text: &[u8], out: &mut [u8]) -> usize
-    requires { ⌜ Coded (now text) × ((length (codes (ours (now text))) + 7) / 8 ≤ length (now out)) ⌝ }
+fn put_data(text: &[u8], out: &mut [u8]) -> usize
+    requires { ⌜ Coded (now text) × (length (written (ours (now text))) ≤ length (now out)) ⌝ }
     ensures { λ r. ⌜ Writes (now (text .entry)) (now (out .entry)) (now (out .exit)) r ⌝ }
 {
     let mut held: u64 = 0;
@@ -340,4 +341,32 @@ pub fn write(text: &[u8], out: &mut [u8]) -> usize
         }
     }
     codes::flush(out, n, held, have)
+}
+
+// How many bytes our data of the text has; or the first character that has no code; or that one packet does not hold the data.
+pub fn data_length(text: &[u8]) -> Needed
+    ensures { λ r. ⌜ Needs coded (now (text .entry)) (written (ours (now (text .entry)))) r ⌝ }
+{
+    let uncoded = first_uncoded(text);
+    match uncoded {
+        Uncoded::At(index) => Needed::NoCode(index),
+        Uncoded::Nowhere => coded_length(text),
+    }
+}
+
+// Our data of the text at the front of the buffer, where the text has it and there is room for it; whatever their lengths.
+pub fn write(text: &[u8], out: &mut [u8]) -> Stored
+    ensures { λ r. ⌜ Stores coded (now (text .entry)) (written (ours (now (text .entry)))) (now (out .entry)) r (now (out .exit)) ⌝ }
+{
+    let needed = data_length(text);
+    match needed {
+        Needed::NoCode(index) => Stored::NoCode(index),
+        Needed::TooMany => Stored::TooMany,
+        Needed::Bytes(n) => {
+            if out.len() < n {
+                return Stored::NoRoom(n);
+            }
+            Stored::Bytes(put_data(text, out))
+        }
+    }
 }

@@ -2,13 +2,14 @@
 -- Assumes nothing.
 use mathlib.Core.Bool.{Bool}
 use mathlib.Core.List.{List, [], _∷_}
-use mathlib.Core.Path.{_≡_, ap, ap₂, subst₂, _∙_}
+use mathlib.Core.Path.{_≡_, ap, ap₂, subst⁻¹, subst₂, _∙_}
 use Prim.Native.Nat.{ℕ, _+_, _-_, _≤_, _<_}
 use native.Mathlib.Omega.{arith}
-use lib.ListN.{length, getD, take, drop}
+use lib.ListN.{length, getD, take, drop, length-take}
 use Rattle.bits.specs.Says.{Says}
 use Rattle.header.specs.Valid.{lengthIn}
 use Rattle.checksum.specs.Checksum.{sent}
+use Rattle.codes.specs.Size.{longest}
 use Rattle.packet.specs.declared.Refusal.the-variants.{Checksum, Malformed, NoRoom}
 use Rattle.packet.specs.declared.Opened.{Opened}
 use Rattle.packet.specs.Data.{Carries, Unreadable}
@@ -31,6 +32,11 @@ module _ (packet : List ℕ) (opened : Opened) (h : Headed packet opened) where
       (let low : opened .length + 4 ≡ 4 + lengthIn (h .header) = omega (arith, h .long) in low)
       (let high : opened .length + 4 + 1 ≡ 5 + lengthIn (h .header) = omega (arith, h .long) in high)
 
+  -- a packet's data is short
+  pub data-few : length (dataIn (h .header) packet) ≤ longest
+  unfolding dataIn
+  data-few = simp length-take (omega (arith, h .framed .few))
+
   -- what the test of the checksum says
   pub tested : (answer : Bool)
       → Says answer (getD packet (opened .length + 4) 0 ∷ getD packet (opened .length + 4 + 1) 0 ∷ [] ≡ sent (take (opened .length + 4 - 4) (drop 4 packet)))
@@ -48,10 +54,11 @@ module _ (packet : List ℕ) (opened : Opened) (h : Headed packet opened) where
         }
 
     module _ (summed : sumIn (h .header) packet ≡ sent (dataIn (h .header) packet)) where
-      pub refused-place : (bit : ℕ) → Unreadable (opened .format) (dataIn (h .header) packet) bit → Refuses packet room (Malformed bit)
-      refused-place bit stuck =
+      pub refused-place : (i : ℕ) → Unreadable (opened .format) (dataIn (h .header) packet) i → (bit : ℕ) → bit ≡ i → Refuses packet room (Malformed bit)
+      refused-place i stuck bit e =
           record {
-            fault = (h .header, h .framed .near, (opened .format, h .framed .typed, stuck));
+            fault =
+                (h .header, h .framed .near, (opened .format, h .framed .typed, subst⁻¹ (Unreadable (opened .format) (dataIn (h .header) packet)) e stuck));
             first = clear-seven packet room (h .header) (opened .format) (h .framed) summed;
           }
 

@@ -1,75 +1,100 @@
--- A packet that is written in three steps, the data from byte 4 on, the checksum behind it, the header in front, is the header, the data and the
--- checksum, and behind these the buffer as it was.
+-- A packet that is written in its place: the data from byte 4 on, in a part of the buffer that leaves two bytes behind it; then the checksum and the header.
 -- Assumes nothing.
-use mathlib.Core.List.{List, _++_, append-assoc}
-use mathlib.Core.Path.{_≡_, refl, sym, ap, ap₂, _∙_}
-use Prim.Native.Nat.{ℕ, _+_, _≤_}
+use mathlib.Core.List.{List, [], _++_, append-assoc}
+use mathlib.Core.Path.{_≡_, sym, ap, _∙_}
+use Prim.Native.Nat.{ℕ, _+_, _≤_, _<_}
 use native.Mathlib.Omega.{arith}
-use lib.ListN.{length, take, drop, length-append, take-append-drop}
-use lib.Seq.{take-at, drop-at, drop-append-le, drop-drop, length-take-le}
-use Rattle.checksum.specs.Checksum.{sent}
+use lib.ListN.{length, take, drop, length-append, length-drop, take-append-drop}
+use lib.Seq.{take-at, drop-at, drop-append-le, drop-drop, take-add, length-take-le}
+use Rattle.header.specs.declared.Format.{Format}
+use Rattle.codes.specs.declared.Stored.{Stored}
+use Rattle.codes.specs.declared.Stored.the-variants.{NoCode, TooMany, NoRoom, Bytes}
+use Rattle.packet.specs.Data.{dataOf}
+use Rattle.packet.specs.Steps.{StoresIn, Places}
+use Rattle.packet.proofs.Formats.{data-some}
 
--- the data at the front of the part that was lent, the part back in its place
-pub lent-back : (s carried : List ℕ) (k : ℕ) → length carried ≤ length (take k (drop 4 s))
-    → take 4 s ++ ((carried ++ drop (length carried) (take k (drop 4 s))) ++ drop k (drop 4 s)) ≡ take 4 s ++ (carried ++ drop (length carried) (drop 4 s))
-lent-back s carried k h =
+-- a part as it was, back in its place
+back : (s x : List ℕ) (k : ℕ) → x ≡ take k (drop 4 s) → take 4 s ++ (x ++ drop k (drop 4 s)) ≡ s
+back s x k e =
+    ap (λ (l : List ℕ). take 4 s ++ (l ++ drop k (drop 4 s))) e ∙ ap (λ (l : List ℕ). take 4 s ++ l) (take-append-drop k (drop 4 s)) ∙ take-append-drop 4 s
+
+-- a row at the front of the part, back in its place
+front-back : (s row x : List ℕ) (k n : ℕ) → n ≡ length row → n ≤ length (take k (drop 4 s)) → x ≡ row ++ drop n (take k (drop 4 s))
+    → take 4 s ++ (x ++ drop k (drop 4 s)) ≡ take 4 s ++ (row ++ drop (n + 4) s)
+front-back s row x k n long held e =
     ap (λ (l : List ℕ). take 4 s ++ l)
-    (append-assoc carried (drop (length carried) (take k (drop 4 s))) (drop k (drop 4 s))
-    ∙ ap (λ (l : List ℕ). carried ++ l)
-    (sym (drop-append-le (length carried) (take k (drop 4 s)) (drop k (drop 4 s)) h)
-    ∙ ap (drop (length carried)) (take-append-drop k (drop 4 s))))
+    (ap (λ (l : List ℕ). l ++ drop k (drop 4 s)) e
+    ∙ append-assoc row (drop n (take k (drop 4 s))) (drop k (drop 4 s))
+    ∙ ap (λ (l : List ℕ). row ++ l)
+    (sym (drop-append-le n (take k (drop 4 s)) (drop k (drop 4 s)) held)
+    ∙ ap (drop n) (take-append-drop k (drop 4 s))
+    ∙ drop-drop n 4 s
+    ∙ ap (λ (m : ℕ). drop m s) (let turned : 4 + n ≡ n + 4 = omega arith in turned)))
 
-module _ (s carried head : List ℕ) (four : length head ≡ 4) (room : length carried + 6 ≤ length s) where
-  front : length (take 4 s) ≡ 4
-  front = length-take-le 4 s (omega arith)
+module _ (format : Format) (text s : List ℕ) where
+  -- into the part of a buffer of six bytes or more
+  pub placed : (r : Stored) (x : List ℕ) (k : ℕ) → StoresIn format text (take k (drop 4 s)) r x → k + 6 ≡ length s
+      → Places format text s r (take 4 s ++ (x ++ drop k (drop 4 s)))
+  placed (NoCode i) x k h room = (h .0, back s x k (h .1))
+  placed TooMany x k h room = (h .0, back s x k (h .1))
+  placed (NoRoom n) x k h room =
+      let size : length (take k (drop 4 s)) ≡ k = length-take-le k (drop 4 s) (omega (arith, length-drop 4 s)) in
+      (h .0, omega (arith, h .1, size), back s x k (h .2))
+  placed (Bytes n) x k h room =
+      let size : length (take k (drop 4 s)) ≡ k = length-take-le k (drop 4 s) (omega (arith, length-drop 4 s)) in
+      (h .0, omega (arith, h .1, size), front-back s (dataOf format text) x k n (h .0 .1) (h .1) (h .2))
 
-  -- with the data in its place
-  one : List ℕ
-  one = take 4 s ++ (carried ++ drop (length carried) (drop 4 s))
+  -- into no bytes at all, where the buffer is shorter
+  pub placed-nowhere : (r : Stored) (x : List ℕ) → length s < 6 → 0 < length text → StoresIn format text [] r x → Places format text s r (x ++ s)
+  placed-nowhere (NoCode i) x room some h = (h .0, ap (λ (l : List ℕ). l ++ s) (h .1))
+  placed-nowhere TooMany x room some h = (h .0, ap (λ (l : List ℕ). l ++ s) (h .1))
+  placed-nowhere (NoRoom n) x room some h = (h .0, omega (arith, h .1), ap (λ (l : List ℕ). l ++ s) (h .2))
+  placed-nowhere (Bytes n) x room some h =
+      absurd (let no′ : ⊥ = omega (arith, h .0 .1, h .1, data-some format text some (h .0 .0)) in no′)
 
-  one-data : drop 4 one ≡ carried ++ drop (length carried) (drop 4 s)
-  unfolding one
-  one-data = drop-at (take 4 s) (carried ++ drop (length carried) (drop 4 s)) 4 front
+-- with the data in its place
+module _ (s carried : List ℕ) (n : ℕ) (long : n ≡ length carried) (room : n + 6 ≤ length s) where
+  abbrev one : List ℕ
+  one = take 4 s ++ (carried ++ drop (n + 4) s)
 
-  one-front : take (length carried + 4) one ≡ take 4 s ++ carried
-  unfolding one
-  one-front =
-      ap (take (length carried + 4)) (sym (append-assoc (take 4 s) carried (drop (length carried) (drop 4 s))))
-      ∙ take-at (take 4 s ++ carried) (drop (length carried) (drop 4 s)) (length carried + 4)
-      (length-append (take 4 s) carried ∙ (let long : length (take 4 s) + length carried ≡ length carried + 4 = omega (arith, front) in long))
+  four : length (take 4 s) ≡ 4
+  four = length-take-le 4 s (omega arith)
 
-  one-back : drop (length carried + 6) one ≡ drop (length carried + 6) s
-  unfolding one
-  one-back =
-      ap (λ (n : ℕ). drop n one) (let split : length carried + 6 ≡ 4 + (length carried + 2) = omega arith in split)
-      ∙ sym (drop-drop (length carried + 2) 4 one)
-      ∙ ap (drop (length carried + 2)) one-data
-      ∙ sym (drop-drop 2 (length carried) (carried ++ drop (length carried) (drop 4 s)))
-      ∙ ap (drop 2) (drop-at carried (drop (length carried) (drop 4 s)) (length carried) refl)
-      ∙ drop-drop 2 (length carried) (drop 4 s)
-      ∙ drop-drop (length carried + 2) 4 s
-      ∙ ap (λ (n : ℕ). drop n s) (let join : 4 + (length carried + 2) ≡ length carried + 6 = omega arith in join)
+  data-there : drop 4 one ≡ carried ++ drop (n + 4) s
+  data-there = drop-at (take 4 s) (carried ++ drop (n + 4) s) 4 four
 
-  -- and the checksum
-  two : List ℕ
-  two = take (length carried + 4) one ++ (sent (take (length carried) (drop 4 one)) ++ drop (length carried + 6) one)
+  pub data-read : take n (drop 4 one) ≡ carried
+  data-read = ap (take n) data-there ∙ take-at carried (drop (n + 4) s) n (sym long)
 
-  two-is : two ≡ take 4 s ++ (carried ++ (sent carried ++ drop (length carried + 6) s))
-  unfolding two
-  two-is =
-      ap₂ (λ (x y : List ℕ). x ++ (sent y ++ drop (length carried + 6) one)) one-front
-      (ap (take (length carried)) one-data ∙ take-at carried (drop (length carried) (drop 4 s)) (length carried) refl)
-      ∙ ap (λ (l : List ℕ). (take 4 s ++ carried) ++ (sent carried ++ l)) one-back
-      ∙ append-assoc (take 4 s) carried (sent carried ++ drop (length carried + 6) s)
+  pub behind-data : drop (n + 6) one ≡ drop (n + 6) s
+  behind-data =
+      ap (λ (m : ℕ). drop m one) (let split : n + 6 ≡ 4 + (n + 2) = omega arith in split)
+      ∙ sym (drop-drop (n + 2) 4 one)
+      ∙ ap (drop (n + 2)) data-there
+      ∙ sym (drop-drop 2 n (carried ++ drop (n + 4) s))
+      ∙ ap (drop 2) (drop-at carried (drop (n + 4) s) n (sym long))
+      ∙ drop-drop 2 (n + 4) s
+      ∙ ap (λ (m : ℕ). drop m s) (let join : n + 4 + 2 ≡ n + 6 = omega arith in join)
 
-  -- and the header
-  pub laid-out : head ++ drop 4 (take (length carried + 4) (take 4 s ++ (carried ++ drop (length carried) (drop 4 s)))
-      ++ (sent (take (length carried) (drop 4 (take 4 s ++ (carried ++ drop (length carried) (drop 4 s)))))
-      ++ drop (length carried + 6) (take 4 s ++ (carried ++ drop (length carried) (drop 4 s)))))
-      ≡ (head ++ (carried ++ sent carried)) ++ drop (length carried + 6) s
-  unfolding one two
-  laid-out =
-      ap (λ (l : List ℕ). head ++ drop 4 l) two-is
-      ∙ ap (λ (l : List ℕ). head ++ l) (drop-at (take 4 s) (carried ++ (sent carried ++ drop (length carried + 6) s)) 4 front)
-      ∙ ap (λ (l : List ℕ). head ++ l) (sym (append-assoc carried (sent carried) (drop (length carried + 6) s)))
-      ∙ sym (append-assoc head (carried ++ sent carried) (drop (length carried + 6) s))
+  pub same-room : length one ≡ length s
+  same-room =
+      omega (
+        arith,
+        length-append (take 4 s) (carried ++ drop (n + 4) s),
+        length-append carried (drop (n + 4) s),
+        length-drop (n + 4) s,
+        four,
+      )
+
+-- and the checksum behind it and the header in front
+pub framed : (s head sum : List ℕ) (n : ℕ) → n + 6 ≤ length s
+    → head ++ drop 4 (take (n + 4) s ++ (sum ++ drop (n + 6) s)) ≡ (head ++ (take n (drop 4 s) ++ sum)) ++ drop (n + 6) s
+framed s head sum n room =
+    ap (λ (l : List ℕ). head ++ l)
+    (ap (drop 4)
+    (ap (λ (m : ℕ). take m s ++ (sum ++ drop (n + 6) s)) (let turned : n + 4 ≡ 4 + n = omega arith in turned)
+    ∙ ap (λ (l : List ℕ). l ++ (sum ++ drop (n + 6) s)) (take-add 4 n s)
+    ∙ append-assoc (take 4 s) (take n (drop 4 s)) (sum ++ drop (n + 6) s))
+    ∙ drop-at (take 4 s) (take n (drop 4 s) ++ (sum ++ drop (n + 6) s)) 4 (length-take-le 4 s (omega arith))
+    ∙ sym (append-assoc (take n (drop 4 s)) sum (drop (n + 6) s)))
+    ∙ sym (append-assoc head (take n (drop 4 s) ++ sum) (drop (n + 6) s))

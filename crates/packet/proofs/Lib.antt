@@ -1,10 +1,11 @@
 pub mod Answers
-pub mod Dispatch
 pub mod Formats
 pub mod InPlace
+pub mod OpenData
 pub mod ReadOnce
 pub mod Refused
 pub mod Sent
 pub mod Stages
+pub mod WriteAnswers
 pub mod WriteOnce
 pub mod WriteStages

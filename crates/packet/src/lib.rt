@@ -1,23 +1,23 @@
 // Packets: the reader and the writer, the two entry points, with their refusals.
-use codes::Needed;
-use codes::Outcome;
-use codes::Uncoded;
+use codes::Stored;
+use codes::Taken;
 use header::Format;
 use header::Header;
 use header::Typing;
 use mending::Mending;
 ghost use mathlib.Core.List.{_++_};
 ghost use mathlib.Core.Path.{_≡_};
-ghost use Prim.Native.Nat.{_+_, _≤_};
+ghost use Prim.Native.Nat.{_+_, _≤_, _<_};
 ghost use lib.ListN.{length, take, drop};
 ghost use Rattle.header.specs.Fields.{bytesOf};
 ghost use Rattle.checksum.specs.Checksum.{sent};
-ghost use Rattle.codes.specs.Size.{longest, Searches, Needs};
-ghost use Rattle.packet.specs.Data.{coded, Coded, dataOf};
+ghost use Rattle.codes.specs.Size.{longest};
+ghost use Rattle.header.specs.declared.Format.the-variants.{Open};
 ghost use Rattle.packet.specs.Reader.{Reads};
 ghost use Rattle.packet.specs.Refusals.{numberOf, valueOf};
-ghost use Rattle.packet.specs.Writer.{Writes, ourPacket};
-ghost use Rattle.packet.specs.Steps.{Heads, Headed, Measures, Readable, Placed, Takes, Fits, Packed, Laid};
+ghost use Rattle.packet.specs.Packet.{packetOf, headerFor};
+ghost use Rattle.packet.specs.Writer.{Writes};
+ghost use Rattle.packet.specs.Steps.{Heads, Headed, Takes, StoresIn, Places};
 
 // Why a packet is not read, or a text not written; the paper's numbers are in specs/Refusals.antt.
 pub enum Refusal {
@@ -110,13 +110,6 @@ enum Head {
     Refused(Refusal),
 }
 
-// What is taken out of the data: the text's length, with the text in the buffer; or nothing, and why.
-enum Taken {
-    Text(usize),
-    Malformed(usize),
-    NoRoom(usize),
-}
-
 // Tests 1 to 5: the header that the packet is read as, its type and length, and bytes enough.
 fn open(packet: &[u8]) -> Head
     ensures { λ r. ⌜ Heads (now (packet .entry)) r ⌝ }
@@ -155,27 +148,15 @@ fn open(packet: &[u8]) -> Head
     })
 }
 
-// The length of the text that the data carries, or where it is malformed.
-fn measure(format: Format, data: &[u8]) -> Outcome
-    ensures { λ r. ⌜ Measures format (now («data» .entry)) r ⌝ }
+// Open data taken as it is.
+fn take_open(data: &[u8], text: &mut [u8]) -> Taken
+    requires { ⌜ length (now «data») ≤ longest ⌝ }
+    ensures { λ r. ⌜ Takes Open (now («data» .entry)) (now (text .entry)) r (now (text .exit)) ⌝ }
 {
-    match format {
-        Format::Open => Outcome::Text(data.len()),
-        Format::PseudoBinary => pseudo_binary_reader::take_apart(data),
-        Format::FullAscii => full_ascii_reader::take_apart(data),
+    if text.len() < data.len() {
+        return Taken::NoRoom(data.len());
     }
-}
-
-// The text that the data carries, at the front of the buffer; its length.
-fn unpack(format: Format, data: &[u8], text: &mut [u8]) -> usize
-    requires { ⌜ (length (now «data») ≤ longest) × Readable format (now «data») (length (now text)) ⌝ }
-    ensures { λ r. ⌜ Placed format (now («data» .entry)) (now (text .entry)) (now (text .exit)) r ⌝ }
-{
-    match format {
-        Format::Open => bytes::copy(data, text),
-        Format::PseudoBinary => pseudo_binary_reader::read(data, text),
-        Format::FullAscii => full_ascii_reader::read(data, text),
-    }
+    Taken::Text(bytes::copy(data, text))
 }
 
 // Tests 7 and 8; the text in the buffer where they are passed.
@@ -183,16 +164,10 @@ fn take(format: Format, data: &[u8], text: &mut [u8]) -> Taken
     requires { ⌜ length (now «data») ≤ longest ⌝ }
     ensures { λ r. ⌜ Takes format (now («data» .entry)) (now (text .entry)) r (now (text .exit)) ⌝ }
 {
-    let measured = measure(format, data);
-    match measured {
-        Outcome::TooLong => Taken::Malformed(0), // never: a packet's data is short
-        Outcome::Malformed(bit) => Taken::Malformed(bit),
-        Outcome::Text(n) => {
-            if text.len() < n {
-                return Taken::NoRoom(n);
-            }
-            Taken::Text(unpack(format, data, text))
-        }
+    match format {
+        Format::Open => take_open(data, text),
+        Format::PseudoBinary => pseudo_binary_reader::read(data, text),
+        Format::FullAscii => full_ascii_reader::read(data, text),
     }
 }
 
@@ -219,6 +194,7 @@ fn read_data(opened: Opened, packet: &[u8], text: &mut [u8]) -> ReadAnswer
         }),
         Taken::Malformed(bit) => ReadAnswer::Refused(Refusal::Malformed(bit)),
         Taken::NoRoom(needed) => ReadAnswer::Refused(Refusal::NoRoom(needed)),
+        Taken::TooLong => ReadAnswer::Refused(Refusal::OtherLength), // never: a packet's data is short
     }
 }
 
@@ -233,48 +209,40 @@ pub fn read(packet: &[u8], text: &mut [u8]) -> ReadAnswer
     }
 }
 
-// The index of the first character that has no code in the format.
-fn first_uncoded(format: Format, text: &[u8]) -> Uncoded
-    ensures { λ r. ⌜ Searches (coded format) (now (text .entry)) r ⌝ }
-{
-    match format {
-        Format::Open => Uncoded::Nowhere,
-        Format::PseudoBinary => pseudo_binary_writer::first_uncoded(text),
-        Format::FullAscii => full_ascii_writer::first_uncoded(text),
-    }
-}
-
-fn open_length(text: &[u8]) -> Needed
-    ensures { λ r. ⌜ Needs (now (text .entry)) r ⌝ }
+// An Open text stored as it is.
+fn store_open(text: &[u8], data: &mut [u8]) -> Stored
+    ensures { λ r. ⌜ StoresIn Open (now (text .entry)) (now («data» .entry)) r (now («data» .exit)) ⌝ }
 {
     if (Header::LONGEST as usize) < text.len() {
-        return Needed::TooMany;
+        return Stored::TooMany;
     }
-    Needed::Bytes(text.len())
+    if data.len() < text.len() {
+        return Stored::NoRoom(text.len());
+    }
+    Stored::Bytes(bytes::copy(text, data))
 }
 
-// How many bytes the data of a text has, or that one packet does not hold them.
-fn data_length(format: Format, text: &[u8]) -> Needed
-    requires { ⌜ Coded format (now text) (length (now text)) ⌝ }
-    ensures { λ r. ⌜ Needs (dataOf format (now (text .entry))) r ⌝ }
+// The data of a text, at the front of the part of the packet that is lent.
+fn store(format: Format, text: &[u8], data: &mut [u8]) -> Stored
+    ensures { λ r. ⌜ StoresIn format (now (text .entry)) (now («data» .entry)) r (now («data» .exit)) ⌝ }
 {
     match format {
-        Format::Open => open_length(text),
-        Format::PseudoBinary => pseudo_binary_writer::data_length(text),
-        Format::FullAscii => full_ascii_writer::data_length(text),
-    }
-}
-
-// The data of a text, at the front of the part of the packet that is lent; its length.
-fn pack(format: Format, text: &[u8], data: &mut [u8]) -> usize
-    requires { ⌜ Fits format (now text) (length (now «data»)) ⌝ }
-    ensures { λ r. ⌜ Packed format (now (text .entry)) (now («data» .entry)) (now («data» .exit)) r ⌝ }
-{
-    match format {
-        Format::Open => bytes::copy(text, data),
+        Format::Open => store_open(text, data),
         Format::PseudoBinary => pseudo_binary_writer::write(text, data),
         Format::FullAscii => full_ascii_writer::write(text, data),
     }
+}
+
+// Tests 9, 11 and 8; the data of the text in its place where they are passed. What is lent leaves four bytes before it and two behind.
+fn put_data(format: Format, text: &[u8], packet: &mut [u8]) -> Stored
+    requires { ⌜ 0 < length (now text) ⌝ }
+    ensures { λ r. ⌜ Places format (now (text .entry)) (now (packet .entry)) r (now (packet .exit)) ⌝ }
+{
+    if packet.len() < 6 {
+        return store(format, text, &mut packet[..0]);
+    }
+    let end = packet.len() - 2;
+    store(format, text, &mut packet[4..end])
 }
 
 // The four bytes of a header, at the front of the packet.
@@ -299,12 +267,11 @@ fn put_sum(n: usize, packet: &mut [u8])
     packet[end + 1] = checksum::high_byte(sum);
 }
 
-// The packet of a text: its data from byte 4 on, the checksum over that part behind it, and the header in front.
-fn put_packet(format: Format, sync: bool, text: &[u8], n: usize, packet: &mut [u8])
-    requires { ⌜ Laid format (now text) n (length (now packet)) ⌝ }
-    ensures { λ r. ⌜ now (packet .exit) ≡ ourPacket format sync (now (text .entry)) ++ drop (n + 6) (now (packet .entry)) ⌝ }
+// The checksum of the n data bytes behind them, and the header in front.
+fn put_frame(format: Format, sync: bool, n: usize, packet: &mut [u8])
+    requires { ⌜ (n ≤ longest) × (n + 6 ≤ length (now packet)) ⌝ }
+    ensures { λ r. ⌜ now (packet .exit) ≡ packetOf (headerFor format sync n) (take n (drop 4 (now (packet .entry)))) ++ drop (n + 6) (now (packet .entry)) ⌝ }
 {
-    pack(format, text, &mut packet[4..]);
     put_sum(n, packet);
     put_header(
         Header::from_fields(Header::number(format), sync, n as u16).to_bits(),
@@ -323,17 +290,14 @@ pub fn write(format: u8, sync: bool, text: &[u8], packet: &mut [u8]) -> WriteAns
     if text.len() == 0 {
         return WriteAnswer::Refused(Refusal::Empty);
     }
-    let uncoded = first_uncoded(named, text);
-    if let Uncoded::At(index) = uncoded {
-        return WriteAnswer::Refused(Refusal::NoCode(index));
+    let stored = put_data(named, text, packet);
+    match stored {
+        Stored::NoCode(index) => WriteAnswer::Refused(Refusal::NoCode(index)),
+        Stored::TooMany => WriteAnswer::Refused(Refusal::TooLong),
+        Stored::NoRoom(n) => WriteAnswer::Refused(Refusal::NoRoom(n + 6)),
+        Stored::Bytes(n) => {
+            put_frame(named, sync, n, packet);
+            WriteAnswer::Written(n + 6)
+        }
     }
-    let needed = data_length(named, text);
-    let Needed::Bytes(n) = needed else {
-        return WriteAnswer::Refused(Refusal::TooLong);
-    };
-    if packet.len() < n + 6 {
-        return WriteAnswer::Refused(Refusal::NoRoom(n + 6));
-    }
-    put_packet(named, sync, text, n, packet);
-    WriteAnswer::Written(n + 6)
 }

@@ -36,6 +36,7 @@ takes-values w h k = record {
   announces = add-one (w / 2 % 128);
   says = refl;
   silent = λ e. refl;
+  announcing = λ h. (refl, refl);
   short = lit≤ tt;
   long = lit≤ tt;
   few = lit≤ tt;
@@ -62,6 +63,7 @@ takes-repeat k character w a b x y m e {n} count = record {
   announces = ap (λ (d : Entry). d .announces) (sym (e (w / 8 % 16)));
   says = ap (λ (j : ℕ). replicate j character) (count ∙ add-one (w / 8 % 16)) ∙ ap (λ (d : Entry). d .says) (sym (e (w / 8 % 16)));
   silent = λ none. absurd (let no′ : ⊥ = omega arith in no′);
+  announcing = λ h. absurd (let no′ : ⊥ = omega arith in no′);
   short = lit≤ tt;
   long = lit≤ tt;
   few = omega arith;

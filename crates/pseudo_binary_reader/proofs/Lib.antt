@@ -1,4 +1,5 @@
 pub mod First
+pub mod Once
 pub mod Parting
 pub mod Repeated
 pub mod Starts

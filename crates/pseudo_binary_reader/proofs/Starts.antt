@@ -7,17 +7,21 @@ use Prim.Native.Nat.{ℕ, _+_, _-_, _*_, _/_, _%_, _^_, _≤_, _<_}
 use native.Mathlib.Decide.{decLt, decLe}
 use native.Mathlib.Nat.{mod-lt, zero-lt-suc, zero-add}
 use native.Mathlib.Omega.{arith}
+use lib.Dec.{lit≤}
 use lib.ListN.{length, take, drop, getD, replicate, length-append, length-drop}
+use lib.Pow.{field, shl-shr, shr-shr}
 use lib.Seq.{take-at, drop-at, drop-drop, take-append-le}
 use Rattle.bits.specs.Row.{bits}
 use Rattle.codes.specs.Ahead.{ahead, Window}
 use Rattle.codes.specs.Chain.{Fill}
 use Rattle.codes.specs.Pack.{low}
+use Rattle.codes.specs.Words.{eightAt}
 use Rattle.codes.specs.declared.Buffer.{Buffer}
 use Rattle.codes.proofs.Ahead.{ahead-byte, ahead-last}
 use Rattle.codes.proofs.Low.{length-low, low-mod, low-add}
 use Rattle.codes.proofs.Pack.{length-bits, drop-bits}
-use Rattle.pseudo_binary_reader.specs.Taken.{Starts, Nine}
+use Rattle.codes.proofs.Words.{eight-bits}
+use Rattle.pseudo_binary_reader.specs.Taken.{Starts, Nine, Top}
 
 module _ (s : List ℕ) (held have next : ℕ) where
   -- how much there is
@@ -91,6 +95,29 @@ nine-part s held at shift h e size = record {
       ∙ ahead-part s held 16 (at / 8 + 2) (at / 8) (at % 8) at 9 shift e (omega arith) (omega arith)
       ∙ sym (take-append-le 9 (drop at (bits s)) (replicate 9 1) (omega (arith, length-drop at (bits s), length-bits s)));
   small = mod-lt (held / 2 ^ shift) (zero-lt-suc 511);
+}
+
+-- the bits from bit `at` on at the top of 64, out of the eight bytes from the one that it is in
+pub top-word : (s : List ℕ) (at x : ℕ) → at / 8 + 8 ≤ length s → ((i : ℕ) → getD s i 0 < 256) → x ≡ eightAt s (at / 8)
+    → Top (drop at (bits s)) (x * 2 ^ (at % 8) % 2 ^ 64)
+unfolding ahead
+top-word s at x h bytes e j n l =
+    let q : ℕ = at / 8 in
+    let r : ℕ = at % 8 in
+    let k : ℕ = 64 - (j + n) in
+    ap (λ (m : ℕ). low n (x * 2 ^ r % 2 ^ m / 2 ^ k)) (let d : 64 ≡ j + n + k = omega arith in d)
+    ∙ ap (low n) (field (x * 2 ^ r) (j + n) k)
+    ∙ low-mod n j (x * 2 ^ r / 2 ^ k)
+    ∙ ap (λ (m : ℕ). low n (x * 2 ^ r / 2 ^ m)) (let d : k ≡ r + (k - r) = omega arith in d)
+    ∙ ap (low n) (sym (shr-shr (x * 2 ^ r) r (k - r)) ∙ ap (λ (y : ℕ). y / 2 ^ (k - r)) (shl-shr x r ∙ e))
+    ∙ ahead-part s (eightAt s q) 64 (q + 8) q (r + j) (at + j) n (k - r) (eight-bits s q h bytes) (omega arith) (omega arith)
+    ∙ ap (take n) (sym (drop-drop j at (bits s)))
+
+-- the first nine of them
+pub top-nine : (bs : List ℕ) (x : ℕ) → 9 ≤ length bs → x < 2 ^ 64 → Top bs x → Nine bs (x / 2 ^ 55)
+top-nine bs x h small top = record {
+  nine = top 0 9 (lit≤ tt) ∙ sym (take-append-le 9 bs (replicate 9 1) h);
+  small = omega arith;
 }
 
 module _ (s : List ℕ) (at : ℕ) (b : Buffer) (h : Starts s at b) (inside : at ≤ length s * 8) where

@@ -26,6 +26,10 @@ use Rattle.pseudo_binary.proofs.Table.{laws}
 use Rattle.pseudo_binary_reader.proofs.Taking.{run-plain}
 use Rattle.pseudo_binary_reader.proofs.Values.{length-characters, passed-values, stuck-values}
 
+-- what was said up to bit `at` stands at the front of the buffer that was given, n characters
+abbrev pub Stands : List ℕ → List ℕ → List ℕ → ℕ → ℕ → Type 0
+Stands s entry out at n = (n ≤ length entry) × Laying tables (bits s) (drop at (bits s)) entry out 0 n
+
 -- how much follows a bit
 pub length-left : (s : List ℕ) (at : ℕ) → length (drop at (bits s)) ≡ length s * 8 - at
 length-left s at = length-drop at (bits s) ∙ ap (λ (n : ℕ). n - at) (length-bits s)
@@ -86,6 +90,17 @@ counting-run s at inside w v r k n c there =
     let rest : List ℕ = drop (at + r .width) (bits s) in
     counting-more c (saying r rest) (length-saying r rest) (passed-run s at inside w v r k (c .said) (c .passed) there)
 
+-- one that announces no values
+pub counting-plain : (s : List ℕ) (at : ℕ) → at ≤ length s * 8 → (w : ℕ) → Nine (drop at (bits s)) w → (r : Indicator) → Takes w r
+    → (n : ℕ) → Counting tables (bits s) (drop at (bits s)) n → r .values ≡ 0 → r .width ≤ length s * 8 - at
+    → Counting tables (bits s) (drop (at + r .width) (bits s)) (n + r .count)
+counting-plain s at inside w v r k n c none there =
+    subst (λ (m : ℕ). Counting tables (bits s) (drop (at + r .width) (bits s)) m)
+    (let x : n + (r .count + r .values) ≡ n + r .count = omega arith in x)
+    (subst (λ (m : ℕ). Counting tables (bits s) (drop m (bits s)) (n + (r .count + r .values)))
+    (let x : at + (r .width + r .values * 6) ≡ at + r .width = omega arith in x)
+    (counting-run s at inside w v r k n c (omega arith)))
+
 -- an indicator whose bits and values are there, and room for what they say
 pub record Whole (s : List ℕ) (at : ℕ) (r : Indicator) (entry out : List ℕ) (n : ℕ) : Type 0 where
   pub there : r .width + r .values * 6 ≤ length s * 8 - at
@@ -103,6 +118,18 @@ whole-plain s at r entry out n w none exit e =
     (subst (λ (k : ℕ). Laying tables (bits s) (drop k (bits s)) entry exit 0 (n + (r .count + r .values)))
     (let x : at + (r .width + r .values * 6) ≡ at + r .width = omega arith in x)
     (w .next exit (run-plain out exit (drop (at + r .width) (bits s)) n (r .count) (r .character) (r .values) none e)))
+
+-- one that announces some
+pub whole-values : (s : List ℕ) (at : ℕ) (r : Indicator) (entry out : List ℕ) (n : ℕ) → Whole s at r entry out n → (r .count ≡ 0) × (r .width ≡ 8)
+    → (exit : List ℕ) → exit ≡ laid out n (characters (r .values) (drop (at + 8) (bits s)))
+    → Laying tables (bits s) (drop (at + (8 + r .values * 6)) (bits s)) entry exit 0 (n + r .values)
+whole-values s at r entry out n w silent exit e =
+    let said : ℕ → ℕ → List ℕ = λ k m. laid out n (replicate k (r .character) ++ characters (r .values) (drop (at + m) (bits s))) in
+    subst (λ (k : ℕ). Laying tables (bits s) (drop (at + (8 + r .values * 6)) (bits s)) entry exit 0 k)
+    (let x : n + (r .count + r .values) ≡ n + r .values = omega (arith, silent .0) in x)
+    (subst (λ (k : ℕ). Laying tables (bits s) (drop k (bits s)) entry exit 0 (n + (r .count + r .values)))
+    (let x : at + (r .width + r .values * 6) ≡ at + (8 + r .values * 6) = omega (arith, silent .1) in x)
+    (w .next exit (e ∙ ap₂ said (sym (silent .0)) (sym (silent .1)))))
 
 -- so it is where the whole can be read and does not end here
 module _ (s : List ℕ) (at : ℕ) (inside : at ≤ length s * 8) (w : ℕ) (v : Nine (drop at (bits s)) w) (r : Indicator) (k : Takes w r)

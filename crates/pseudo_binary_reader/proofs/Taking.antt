@@ -1,13 +1,13 @@
 -- Values as they are taken out of the bits, one or eight at a time, and laid as characters.
 -- Assumes nothing.
-use mathlib.Core.Path.{_≡_, refl, sym, ap, _∙_}
-use mathlib.Core.List.{List, [], _∷_, _++_, append-nil}
+use mathlib.Core.Path.{_≡_, refl, sym, ap, ap₂, subst⁻¹, _∙_}
+use mathlib.Core.List.{List, [], _∷_, _++_, append-nil, append-assoc}
 use Prim.Native.Nat.{ℕ, zero, suc, _+_, _-_, _*_, _/_, _%_, _^_, _≤_, _<_}
 use native.Mathlib.Nat.{zero-add, suc-add}
 use native.Mathlib.Omega.{arith}
-use lib.ListN.{length, take, drop, getD, set, replicate, length-set, length-replicate}
+use lib.ListN.{length, take, drop, getD, set, replicate, length-append, length-set, length-replicate}
 use lib.Pow.{field, mod-mod-pow, shr-shr}
-use lib.Seq.{drop-drop}
+use lib.Seq.{length-take-le, take-at, drop-drop, drop-append-add}
 use Rattle.bits.specs.Row.{bits}
 use Rattle.codes.specs.Ahead.{ahead}
 use Rattle.codes.specs.Laid.{laid}
@@ -17,7 +17,7 @@ use Rattle.codes.proofs.Laid.{laid-nil, laid-laid, length-laid, set-laid}
 use Rattle.codes.proofs.Low.{value-low}
 use Rattle.codes.proofs.Words.{eight-bits}
 use Rattle.pseudo_binary.specs.Table.{characterOf}
-use Rattle.pseudo_binary_reader.specs.Taken.{Spread, Eight, characters}
+use Rattle.pseudo_binary_reader.specs.Taken.{Spread, Eight, Top, characters}
 use Rattle.pseudo_binary_reader.proofs.Parting.{each-at}
 use Rattle.pseudo_binary_reader.proofs.Starts.{ahead-part}
 use Rattle.pseudo_binary_reader.proofs.Values.{length-characters}
@@ -55,15 +55,6 @@ module _ (bs entry out : List ℕ) (n k : ℕ) (so-far : out ≡ laid entry n (c
   taken-one x h e =
       taken-more (set out (n + k) x) 1 (n + k) refl
       (set-laid out (n + k) x (omega (arith, taken-length)) ∙ ap (λ (y : ℕ). laid out (n + k) (y ∷ [])) e)
-
--- or the rest of them
-pub taken-rest : (row : List ℕ) (at : ℕ) (entry mid exit : List ℕ) (n k count : ℕ) → mid ≡ laid entry n (characters k (drop at row)) → k ≤ count
-    → n + count ≤ length entry → exit ≡ laid mid (n + k) (characters (count - k) (drop (at + 6 * k) row))
-    → exit ≡ laid entry n (characters count (drop at row))
-taken-rest row at entry mid exit n k count so-far h room d =
-    taken-more (drop at row) entry mid n k so-far (omega arith) exit (count - k) (n + k) refl
-    (d ∙ ap (λ (l : List ℕ). laid mid (n + k) (characters (count - k) l)) (sym (drop-drop (6 * k) at row)))
-    ∙ ap (λ (j : ℕ). laid entry n (characters j (drop at row))) (let e : k + (count - k) ≡ count = omega arith in e)
 
 pub taken-none : (bs entry : List ℕ) (n : ℕ) → entry ≡ laid entry n (characters 0 bs)
 unfolding characters
@@ -108,28 +99,52 @@ spilled-characters (suc k) bs out n c have room each =
     ∙ ap (λ (y : ℕ). laid out n (y ∷ later))
     (ap (λ (j : ℕ). c / 2 ^ j % 256) (let e : have - 8 ≡ have - 8 - 8 * 0 = omega arith in e) ∙ each 0 (omega arith))
 
--- so after k values eight more are laid, four and four
-pub taken-eight : (bs entry out mid exit l : List ℕ) (n k c : ℕ) → out ≡ laid entry n (characters k bs) → n + (k + 8) ≤ length entry
-    → drop (6 * k) bs ≡ l → Eight l c → mid ≡ spilled 4 out (n + k) c 64 → exit ≡ spilled 4 mid (n + k + 4) c 32
-    → exit ≡ laid entry n (characters (k + 8) bs)
-taken-eight bs entry out mid exit l n k c so-far room e eight x y =
-    let four : mid ≡ laid entry n (characters (k + 4) bs) =
-    taken-more bs entry out n k so-far (omega arith) mid 4 (n + k) refl
-    (x
-    ∙ spilled-characters 4 (drop (6 * k) bs) out (n + k) c 64 (omega (arith, taken-length bs entry out n k so-far (omega arith)))
-    (λ i h. eight i (omega arith) ∙ ap (λ (r : List ℕ). characterOf (value (take 6 (drop (6 * i) r)))) (sym e))) in
-    taken-more bs entry mid n (k + 4) four (omega arith) exit 4 (n + k + 4) (omega arith)
+-- so eight bytes, four and four
+pub eight-laid : (bs out mid exit : List ℕ) (n c : ℕ) → n + 8 ≤ length out → Eight bs c → mid ≡ spilled 4 out n c 64
+    → exit ≡ spilled 4 mid (n + 4) c 32 → exit ≡ laid out n (characters 8 bs)
+eight-laid bs out mid exit n c room eight x y =
+    let four : mid ≡ laid out n (characters 4 bs) = x ∙ spilled-characters 4 bs out n c 64 (omega arith) (λ i h. eight i (omega arith)) in
+    taken-more bs out mid n 4 four (omega arith) exit 4 (n + 4) refl
     (y
-    ∙ spilled-characters 4 (drop (6 * (k + 4)) bs) mid (n + k + 4) c 32 (omega (arith, taken-length bs entry mid n (k + 4) four (omega arith)))
+    ∙ spilled-characters 4 (drop 24 bs) mid (n + 4) c 32 (omega (arith, taken-length bs out mid n 4 four (omega arith)))
     (λ i h.
     ap (λ (j : ℕ). c / 2 ^ j % 256) (let d : 24 - 8 * i ≡ 56 - 8 * (4 + i) = omega arith in d)
     ∙ eight (4 + i) (omega arith)
     ∙ ap (λ (r : List ℕ). characterOf (value (take 6 r)))
-    (ap (drop (6 * (4 + i))) (sym e)
-    ∙ drop-drop (6 * (4 + i)) (6 * k) bs
-    ∙ ap (λ (j : ℕ). drop j bs) (let d : 6 * k + 6 * (4 + i) ≡ 6 * (k + 4) + 6 * i = omega arith in d)
-    ∙ sym (drop-drop (6 * i) (6 * (k + 4)) bs))))
-    ∙ ap (λ (j : ℕ). laid entry n (characters j bs)) (let d : k + 4 + 4 ≡ k + 8 = omega arith in d)
+    (ap (λ (j : ℕ). drop j bs) (let d : 6 * (4 + i) ≡ 24 + 6 * i = omega arith in d) ∙ sym (drop-drop (6 * i) 24 bs))))
+
+-- a row over one that is no longer and starts where it does
+laid-over : (d : List ℕ) (n : ℕ) (b c : List ℕ) → n + length b ≤ length d → length b ≤ length c → laid (laid d n b) n c ≡ laid d n c
+unfolding laid
+laid-over d n b c h l =
+    let front : length (take n d) ≡ n = length-take-le n d (omega arith) in
+    let tail : List ℕ = drop (n + length b) d in
+    let more : ℕ = length c - length b in
+    ap₂ (λ (x y : List ℕ). x ++ (c ++ y))
+    (take-at (take n d) (b ++ tail) n front)
+    (ap₂ (λ (k : ℕ) (x : List ℕ). drop k x)
+    (let e : n + length c ≡ length (take n d ++ b) + more = omega (arith, length-append (take n d) b, front) in e) (sym (append-assoc (take n d) b tail))
+    ∙ drop-append-add (take n d ++ b) tail more
+    ∙ drop-drop more (n + length b) d
+    ∙ ap (λ (k : ℕ). drop k d) (let e : n + length b + more ≡ n + length c = omega arith in e))
+
+-- after the first k values the eight from the j-th on, some of which may be among those
+pub taken-over : (bs entry mid exit : List ℕ) (n k j : ℕ) → mid ≡ laid entry n (characters k bs) → n + k ≤ length entry → j ≤ k → k ≤ j + 8
+    → exit ≡ laid mid (n + j) (characters 8 (drop (6 * j) bs)) → exit ≡ laid entry n (characters (j + 8) bs)
+taken-over bs entry mid exit n k j so-far room low high d =
+    let rest : List ℕ = drop (6 * j) bs in
+    let first : List ℕ = laid entry n (characters j bs) in
+    let same : length first ≡ length entry = length-laid entry n (characters j bs) (omega (arith, length-characters j bs)) in
+    let again : mid ≡ laid first (n + j) (characters (k - j) rest) =
+    so-far
+    ∙ ap (λ (m : ℕ). laid entry n (characters m bs)) (let e : k ≡ j + (k - j) = omega arith in e)
+    ∙ ap (laid entry n) (characters-add j (k - j) bs)
+    ∙ sym (laid-laid entry n (n + j) (characters j bs) (characters (k - j) rest) (omega (arith, length-characters j bs)) (omega (arith, length-characters j bs))) in
+    taken-more bs entry first n j refl (omega arith) exit 8 (n + j) refl
+    (d
+    ∙ ap (λ (l : List ℕ). laid l (n + j) (characters 8 rest)) again
+    ∙ laid-over first (n + j) (characters (k - j) rest) (characters 8 rest)
+    (omega (arith, same, length-characters (k - j) rest)) (omega (arith, length-characters (k - j) rest, length-characters 8 rest)))
 
 -- of eight bytes that are the characters of values, those after the first `done` are at the top of c
 abbrev pub Left : List ℕ → ℕ → ℕ → Type 0
@@ -173,15 +188,27 @@ nth-value x n k h =
     ∙ mod-mod-pow (x / 2 ^ n / 2 ^ (42 - 6 * k)) (6 * k) 6
     ∙ ap (λ (y : ℕ). y % 64) (shr-shr x n (42 - 6 * k))
 
--- the eight values from bit `at` on, out of eight bytes from an even one on
-pub word-eight : (s : List ℕ) (at c : ℕ) → at / 16 * 2 + 8 ≤ length s → ((i : ℕ) → getD s i 0 < 256)
-    → Spread (eightAt s (at / 16 * 2) / 2 ^ (16 - at % 16) % 2 ^ 48) c → Eight (drop at (bits s)) c
+-- the eight values from bit `at` on, out of eight bytes that they are in
+pub word-eight : (s : List ℕ) (q behind at c : ℕ) → q + 8 ≤ length s → ((i : ℕ) → getD s i 0 < 256) → at + behind ≡ q * 8 + 16 → behind ≤ 16
+    → Spread (eightAt s q / 2 ^ behind % 2 ^ 48) c → Eight (drop at (bits s)) c
 unfolding ahead
-word-eight s at c inside bytes spread k h =
-    let q : ℕ = at / 16 * 2 in
+word-eight s q behind at c inside bytes place few spread k h =
     let x : ℕ = eightAt s q in
     spread k h
     ∙ ap characterOf
-    (nth-value x (16 - at % 16) k h
-    ∙ value-part s x 64 (q + 8) q (at % 16 + 6 * k) (at + 6 * k) (16 - at % 16 + (42 - 6 * k)) (eight-bits s q inside bytes) (omega arith) (omega arith)
+    (nth-value x behind k h
+    ∙ value-part s x 64 (q + 8) q (16 - behind + 6 * k) (at + 6 * k) (behind + (42 - 6 * k)) (eight-bits s q inside bytes) (omega arith) (omega arith)
     ∙ ap (λ (l : List ℕ). value (take 6 l)) (sym (drop-drop (6 * k) at (bits s))))
+
+pub eight-after : (row : List ℕ) (at k c : ℕ) → Eight (drop (at + 6 * k) row) c → Eight (drop (6 * k) (drop at row)) c
+eight-after row at k c = subst⁻¹ (λ (l : List ℕ). Eight l c) (drop-drop (6 * k) at row)
+
+-- those after the first eight bits, out of the bits at the top of x
+pub top-eight : (bs : List ℕ) (x c : ℕ) → Top bs x → Spread (x / 2 ^ 8 % 2 ^ 48) c → Eight (drop 8 bs) c
+top-eight bs x c top spread k h =
+    spread k h
+    ∙ ap characterOf
+    (nth-value x 8 k h
+    ∙ ap (λ (j : ℕ). x / 2 ^ j % 64) (let e : 8 + (42 - 6 * k) ≡ 64 - (8 + 6 * k + 6) = omega arith in e)
+    ∙ sym (value-low 6 (x / 2 ^ (64 - (8 + 6 * k + 6))))
+    ∙ ap value (top (8 + 6 * k) 6 (omega arith) ∙ ap (take 6) (sym (drop-drop (6 * k) 8 bs))))

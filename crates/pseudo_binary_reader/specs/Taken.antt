@@ -2,7 +2,7 @@
 -- Assumes nothing.
 use mathlib.Core.Path.{_≡_}
 use mathlib.Core.List.{List, [], _∷_, _++_}
-use Prim.Native.Nat.{ℕ, zero, suc, _-_, _*_, _/_, _%_, _^_, _≤_, _<_}
+use Prim.Native.Nat.{ℕ, zero, suc, _+_, _-_, _*_, _/_, _%_, _^_, _≤_, _<_}
 use lib.ListN.{length, take, drop, replicate}
 use Rattle.bits.specs.Row.{bits}
 use Rattle.codes.specs.Ahead.{ahead}
@@ -24,6 +24,10 @@ pub record Nine (bs : List ℕ) (w : ℕ) : Type 0 where
   pub nine : low 9 w ≡ take 9 (bs ++ replicate 9 1)
   pub small : w < 512
 
+-- the first 57 of the bits are at the top of the 64 bits r
+abbrev pub Top : List ℕ → ℕ → Type 0
+Top bs r = (j n : ℕ) → j + n ≤ 57 → low n (r / 2 ^ (64 - (j + n))) ≡ take n (drop j bs)
+
 -- the indicator that begins the nine bits w: its width, how many values it announces, and how often it says its character, which is 0 where it says none
 pub record Takes (w : ℕ) (r : Indicator) : Type 0 where
   pub entry : Entry
@@ -33,6 +37,7 @@ pub record Takes (w : ℕ) (r : Indicator) : Type 0 where
   pub announces : r .values ≡ entry .announces
   pub says : replicate (r .count) (r .character) ≡ entry .says
   pub silent : r .count ≡ 0 → r .character ≡ 0
+  pub announcing : 0 < r .values → (r .count ≡ 0) × (r .width ≡ 8)
   pub short : 6 ≤ r .width
   pub long : r .width ≤ 8
   pub few : r .count ≤ 16

@@ -3,17 +3,19 @@
 use codes::Buffer;
 use codes::Measured;
 use codes::Outcome;
+use codes::Taken;
 ghost use mathlib.Core.Path.{_≡_};
-ghost use Prim.Native.Nat.{_+_, _*_, _/_, _≤_, _<_, _^_};
+ghost use mathlib.Core.List.{List};
+ghost use Prim.Native.Nat.{ℕ, _+_, _*_, _/_, _≤_, _<_, _^_};
 ghost use lib.ListN.{length, take, drop, replicate};
 ghost use Rattle.bits.specs.Row.{bits};
 ghost use Rattle.codes.specs.Ahead.{ahead};
 ghost use Rattle.codes.specs.Laid.{laid, Readable, Placed};
-ghost use Rattle.codes.specs.Measure.{Measures, Comes};
+ghost use Rattle.codes.specs.Measure.{Measures, Comes, ReadsInto};
 ghost use Rattle.codes.specs.Pack.{value};
 ghost use Rattle.codes.specs.Passed.{Counting, Laying};
 ghost use Rattle.pseudo_binary.specs.Table.{tables};
-ghost use Rattle.pseudo_binary_reader.specs.Taken.{Eight, Nine, Spread, Starts, Takes, characters, saying};
+ghost use Rattle.pseudo_binary_reader.specs.Taken.{Eight, Nine, Spread, Starts, Takes, Top, characters, saying};
 
 // An indicator: how many bits it has, how many values it announces, and how often it says which character.
 struct Indicator {
@@ -104,29 +106,46 @@ fn nine_at(s: &[u8], at: usize) -> u64
     (pair(s, at / 8) >> (7 - at % 8) as u64) % 512
 }
 
+// The next bits at the top of a number, 57 or more, where eight bytes can be taken from the one on that bit `at` is in.
+fn top_at(s: &[u8], at: usize) -> u64
+    requires { ⌜ at / 8 + 8 ≤ length (now s) ⌝ }
+    ensures { λ r. ⌜ Top (drop at (bits (now (s .entry)))) r ⌝ }
+{
+    codes::eight(s, at / 8) << (at % 8) as u64
+}
+
 // How far data was read: the bit, and how many characters it said.
 struct Place {
     pub at: usize,
     pub n: usize,
 }
 
-// The indicators that have nine bits or more before the end of the data, up to one whose values are not all there.
+// The indicators that start in the eighth byte from the end of the data or before it, up to one whose values are not all there.
 fn measure_most(s: &[u8]) -> Place
     requires { ⌜ length (now s) < 2 ^ 56 ⌝ }
     ensures { λ r. ⌜ (r .at ≤ length (now (s .entry)) * 8) × (r .n ≤ 3 * r .at) ⌝ }
     ensures { λ r. ⌜ Counting tables (bits (now (s .entry))) (drop (r .at) (bits (now (s .entry)))) (r .n) ⌝ }
 {
+    if s.len() < 8 {
+        return Place { at: 0, n: 0 };
+    }
     let end = s.len() * 8;
+    let limit = end - 56;
     let mut at: usize = 0;
     let mut n: usize = 0;
-    while at / 8 + 1 < s.len() {
-        let indicator = first_indicator(nine_at(s, at));
-        let next = at + (indicator.width + indicator.values * 6);
-        if end < next {
-            return Place { at, n };
+    while at < limit {
+        let indicator = first_indicator(top_at(s, at) >> 55);
+        if indicator.values == 0 {
+            at += indicator.width;
+            n += indicator.count;
+        } else {
+            let next = at + (indicator.width + indicator.values * 6);
+            if end < next {
+                return Place { at, n };
+            }
+            at = next;
+            n += indicator.count + indicator.values;
         }
-        at = next;
-        n += indicator.count + indicator.values;
     }
     Place { at, n }
 }
@@ -169,42 +188,29 @@ fn spread(values: u64) -> u64
     eighths + 0x4040_4040_4040_4040
 }
 
-// The eight values from bit `at` on, each as its character in a byte of its own.
-fn eight_characters(s: &[u8], at: usize) -> u64
-    requires { ⌜ at / 8 + 8 ≤ length (now s) ⌝ }
-    ensures { λ r. ⌜ Eight (drop at (bits (now (s .entry)))) r ⌝ }
+// The eight values that end so many bits before the end of the eight bytes from `first` on, each as its character in a byte of its own.
+fn eight_characters(s: &[u8], first: usize, behind: u64) -> u64
+    requires { ⌜ (first + 8 ≤ length (now s)) × (behind ≤ 16) ⌝ }
+    ensures { λ r. ⌜ ((at : ℕ) → at + behind ≡ first * 8 + 16 → Eight (drop at (bits (now (s .entry)))) r) ⌝ }
 {
-    // From an even byte on: the 48 bits start at one of the first 16, so that each of the eight bytes is needed for some place.
-    let word = codes::eight(s, at / 16 * 2);
-    spread((word >> (16 - at % 16) as u64) % 0x1_0000_0000_0000)
+    spread((codes::eight(s, first) >> behind) % 0x1_0000_0000_0000)
 }
 
-// Values eight at a time, while eight are left and eight bytes to take them from; how many they are.
-fn read_eights(s: &[u8], at: usize, count: usize, out: &mut [u8], n: usize) -> usize
-    requires { ⌜ (length (now s) < 2 ^ 56) × (at + 6 * count ≤ length (now s) * 8) × (n + count ≤ length (now out)) ⌝ }
-    ensures { λ r. ⌜ (r ≤ count) × ((at + 6 * r) / 8 + 8 ≤ length (now (s .entry)) → count < r + 8) ⌝ }
-    ensures { λ r. ⌜ now (out .exit) ≡ laid (now (out .entry)) n (characters r (drop at (bits (now (s .entry))))) ⌝ }
+// Eight characters out of the bytes of a number, from place n on.
+fn put_eight(out: &mut [u8], n: usize, word: u64)
+    requires { ⌜ n + 8 ≤ length (now out) ⌝ }
+    ensures { λ r. ⌜ ((bs : List ℕ) → Eight bs word → now (out .exit) ≡ laid (now (out .entry)) n (characters 8 bs)) ⌝ }
 {
-    let mut done: usize = 0;
-    while done + 8 <= count {
-        let from = at + 6 * done;
-        if s.len() < from / 8 + 8 {
-            return done;
-        }
-        let characters = eight_characters(s, from);
-        codes::spill(out, n + done, characters, 64);
-        codes::spill(out, n + done + 4, characters, 32);
-        done += 8;
-    }
-    done
+    codes::spill(out, n, word, 64);
+    codes::spill(out, n + 4, word, 32);
 }
 
-// Fewer than eight values out of eight bytes.
-fn read_few(s: &[u8], at: usize, count: usize, out: &mut [u8], n: usize)
-    requires { ⌜ (at / 8 + 8 ≤ length (now s)) × (count < 8) × (n + count ≤ length (now out)) ⌝ }
-    ensures { λ r. ⌜ now (out .exit) ≡ laid (now (out .entry)) n (characters count (drop at (bits (now (s .entry))))) ⌝ }
+// Fewer than eight of them.
+fn put_few(out: &mut [u8], n: usize, count: usize, word: u64)
+    requires { ⌜ (count < 8) × (n + count ≤ length (now out)) ⌝ }
+    ensures { λ r. ⌜ ((bs : List ℕ) → Eight bs word → now (out .exit) ≡ laid (now (out .entry)) n (characters count bs)) ⌝ }
 {
-    let mut left = eight_characters(s, at);
+    let mut left = word;
     let mut done: usize = 0;
     while done < count {
         out[n + done] = (left >> 56) as u8;
@@ -237,18 +243,46 @@ fn read_last(s: &[u8], at: usize, count: usize, out: &mut [u8], n: usize)
     }
 }
 
-// The six-bit values from bit `at` on, each as its character, from place n on.
-fn read_values(s: &[u8], at: usize, count: usize, out: &mut [u8], n: usize)
-    requires { ⌜ (length (now s) < 2 ^ 56) × (at + 6 * count ≤ length (now s) * 8) × (n + count ≤ length (now out)) ⌝ }
+// More than eight values, the first eight of which are in `word`: eight at a time, and the last eight where they end, some of them a second time.
+fn read_many(s: &[u8], at: usize, count: usize, word: u64, out: &mut [u8], n: usize)
+    requires { ⌜ (length (now s) < 2 ^ 56) × (8 ≤ at) × (at + 6 * count ≤ length (now s) * 8) × Eight (drop at (bits (now s))) word ⌝ }
+    requires { ⌜ (8 < count) × (n + count ≤ length (now out)) ⌝ }
     ensures { λ r. ⌜ now (out .exit) ≡ laid (now (out .entry)) n (characters count (drop at (bits (now (s .entry))))) ⌝ }
 {
-    let done = read_eights(s, at, count, out, n);
-    let from = at + 6 * done;
-    if from / 8 + 8 <= s.len() {
-        read_few(s, from, count - done, out, n + done);
-    } else {
-        read_last(s, from, count - done, out, n + done);
+    put_eight(out, n, word);
+    let last = n + (count - 8);
+    let mut place = n + 8;
+    let mut first = (at + 39) / 8;
+    // By subtraction and not by a remainder: of a shift whose bounds it knows LLVM leaves out bytes, and then loads them one by one.
+    let behind = (first * 8 - (at + 32)) as u64;
+    while place < last {
+        let next = eight_characters(s, first, behind);
+        put_eight(out, place, next);
+        place += 8;
+        first += 6;
     }
+    let end = at + 6 * count;
+    let stop = (end + 7) / 8;
+    let ending = eight_characters(s, stop - 8, (stop * 8 - end) as u64);
+    put_eight(out, last, ending);
+}
+
+// The values that an indicator at bit `at` announces, each as its character, from place n on. The bits from there on are at the top of `top`.
+fn read_values(s: &[u8], at: usize, count: usize, top: u64, out: &mut [u8], n: usize)
+    requires { ⌜ (length (now s) < 2 ^ 56) × (at + (8 + count * 6) ≤ length (now s) * 8) × Top (drop at (bits (now s))) top ⌝ }
+    requires { ⌜ n + count ≤ length (now out) ⌝ }
+    ensures { λ r. ⌜ now (out .exit) ≡ laid (now (out .entry)) n (characters count (drop (at + 8) (bits (now (s .entry))))) ⌝ }
+{
+    let word = spread(top / 256 % 0x1_0000_0000_0000);
+    if count < 8 {
+        put_few(out, n, count, word);
+        return;
+    }
+    if count == 8 {
+        put_eight(out, n, word);
+        return;
+    }
+    read_many(s, at + 8, count, word, out, n);
 }
 
 // The character, fewer than four times, from place n on.
@@ -296,7 +330,74 @@ fn read_run(s: &[u8], at: usize, run: Indicator, out: &mut [u8], n: usize)
     if run.values == 0 {
         return;
     }
-    read_values(s, at, run.values, out, n + run.count);
+    read_last(s, at, run.values, out, n + run.count);
+}
+
+// The indicators that start in the eighth byte from the end of the data or before it, and what they and their values say at the front of the
+// buffer.
+fn read_front(s: &[u8], out: &mut [u8]) -> Place
+    requires { ⌜ (length (now s) < 2 ^ 56) × Readable tables (bits (now s)) (length (now out)) ⌝ }
+    ensures { λ r. ⌜ (r .at ≤ length (now (s .entry)) * 8) × (r .n ≤ length (now (out .entry))) ⌝ }
+    ensures { λ r. ⌜ Laying tables (bits (now (s .entry))) (drop (r .at) (bits (now (s .entry)))) (now (out .entry)) (now (out .exit)) 0 (r .n) ⌝ }
+{
+    if s.len() < 8 {
+        return Place { at: 0, n: 0 };
+    }
+    let limit = s.len() * 8 - 56;
+    let mut at: usize = 0;
+    let mut n: usize = 0;
+    while at < limit {
+        let top = top_at(s, at);
+        let run = first_indicator(top >> 55);
+        if run.values == 0 {
+            repeat(out, n, run.count, run.character);
+            at += run.width;
+            n += run.count;
+        } else {
+            read_values(s, at, run.values, top, out, n);
+            at += 8 + run.values * 6;
+            n += run.values;
+        }
+    }
+    Place { at, n }
+}
+
+// The indicators that have nine bits or more before the end of the data, and what they and their values say at the front of the buffer.
+fn read_most(s: &[u8], out: &mut [u8]) -> Place
+    requires { ⌜ (length (now s) < 2 ^ 56) × Readable tables (bits (now s)) (length (now out)) ⌝ }
+    ensures { λ r. ⌜ (r .at ≤ length (now (s .entry)) * 8) × (length (now (s .entry)) * 8 ≤ r .at + 8) × (r .n ≤ length (now (out .entry))) ⌝ }
+    ensures { λ r. ⌜ Laying tables (bits (now (s .entry))) (drop (r .at) (bits (now (s .entry)))) (now (out .entry)) (now (out .exit)) 0 (r .n) ⌝ }
+{
+    let front = read_front(s, out);
+    let mut at = front.at;
+    let mut n = front.n;
+    while at / 8 + 1 < s.len() {
+        let run = first_indicator(nine_at(s, at));
+        read_run(s, at + run.width, run, out, n);
+        n += run.count + run.values;
+        at += run.width + run.values * 6;
+    }
+    Place { at, n }
+}
+
+// The text of the data, at the front of the buffer; its length. In the last eight bits there are no values.
+fn put_text(s: &[u8], out: &mut [u8]) -> usize
+    requires { ⌜ (length (now s) < 2 ^ 56) × Readable tables (bits (now s)) (length (now out)) ⌝ }
+    ensures { λ r. ⌜ Placed tables (bits (now (s .entry))) (now (out .entry)) (now (out .exit)) 0 r ⌝ }
+{
+    let most = read_most(s, out);
+    let mut at = most.at;
+    let mut n = most.n;
+    loop {
+        let b = buffer_at(s, at);
+        if codes::at_end(b.held, b.have) {
+            return n;
+        }
+        let run = first_indicator(codes::window(b.held, b.have));
+        repeat(out, n, run.count, run.character);
+        n += run.count;
+        at += run.width;
+    }
 }
 
 // The data taken apart, whatever its length.
@@ -313,39 +414,19 @@ pub fn take_apart(s: &[u8]) -> Outcome
     }
 }
 
-// The indicators that have nine bits or more before the end of the data, and what they and their values say at the front of the buffer.
-fn read_most(s: &[u8], out: &mut [u8]) -> Place
-    requires { ⌜ (length (now s) < 2 ^ 56) × Readable tables (bits (now s)) (length (now out)) ⌝ }
-    ensures { λ r. ⌜ (r .at ≤ length (now (s .entry)) * 8) × (length (now (s .entry)) * 8 ≤ r .at + 8) × (r .n ≤ length (now (out .entry))) ⌝ }
-    ensures { λ r. ⌜ Laying tables (bits (now (s .entry))) (drop (r .at) (bits (now (s .entry)))) (now (out .entry)) (now (out .exit)) 0 (r .n) ⌝ }
+// The data taken apart, and then its text at the front of the buffer, where there is room for it; whatever their lengths.
+pub fn read(s: &[u8], out: &mut [u8]) -> Taken
+    ensures { λ r. ⌜ ReadsInto tables (now (s .entry)) (now (out .entry)) r (now (out .exit)) ⌝ }
 {
-    let mut at: usize = 0;
-    let mut n: usize = 0;
-    while at / 8 + 1 < s.len() {
-        let run = first_indicator(nine_at(s, at));
-        read_run(s, at + run.width, run, out, n);
-        n += run.count + run.values;
-        at += run.width + run.values * 6;
-    }
-    Place { at, n }
-}
-
-// The text of the data, at the front of the buffer; its length. In the last eight bits there are no values.
-pub fn read(s: &[u8], out: &mut [u8]) -> usize
-    requires { ⌜ (length (now s) < 2 ^ 56) × Readable tables (bits (now s)) (length (now out)) ⌝ }
-    ensures { λ r. ⌜ Placed tables (bits (now (s .entry))) (now (out .entry)) (now (out .exit)) 0 r ⌝ }
-{
-    let most = read_most(s, out);
-    let mut at = most.at;
-    let mut n = most.n;
-    loop {
-        let b = buffer_at(s, at);
-        if codes::at_end(b.held, b.have) {
-            return n;
+    let outcome = take_apart(s);
+    match outcome {
+        Outcome::TooLong => Taken::TooLong,
+        Outcome::Malformed(bit) => Taken::Malformed(bit),
+        Outcome::Text(needed) => {
+            if out.len() < needed {
+                return Taken::NoRoom(needed);
+            }
+            Taken::Text(put_text(s, out))
         }
-        let run = first_indicator(codes::window(b.held, b.have));
-        repeat(out, n, run.count, run.character);
-        n += run.count;
-        at += run.width;
     }
 }

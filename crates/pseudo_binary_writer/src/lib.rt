@@ -1,6 +1,7 @@
 // Compact Pseudo Binary written: the characters that have no code, how many bytes our data has, and the data.
 
 use codes::Needed;
+use codes::Stored;
 use codes::Uncoded;
 ghost use mathlib.Core.Path.{_≡_};
 ghost use mathlib.Core.Logic.{_⊎_};
@@ -10,7 +11,7 @@ ghost use Prim.Native.Nat.{_+_, _*_, _/_, _≤_, _<_, _^_};
 ghost use lib.ListN.{length, take, drop, getD};
 ghost use Rattle.bits.specs.Says.{Says};
 ghost use Rattle.codes.specs.Pack.{low, written};
-ghost use Rattle.codes.specs.Size.{Searches, Needs};
+ghost use Rattle.codes.specs.Size.{Searches, Needs, Stores};
 ghost use Rattle.pseudo_binary_writer.specs.Sending.{Between, FirstOf, Writes, ExtentOf, NextOf, Sends, twoValues, fourValues, eightValues};
 ghost use Rattle.pseudo_binary.specs.Table.{Kind, coded, Coded, values};
 ghost use Rattle.pseudo_binary.specs.Writer.{run, ours, Alike};
@@ -220,9 +221,9 @@ fn next_extent(text: &[u8], i: usize) -> Extent
 }
 
 // How many bytes our data of the text has, or that one packet does not hold them: the loop ends where that is certain.
-pub fn data_length(text: &[u8]) -> Needed
+fn coded_length(text: &[u8]) -> Needed
     requires { ⌜ Coded (now text) ⌝ }
-    ensures { λ r. ⌜ Needs (written (ours (now (text .entry)))) r ⌝ }
+    ensures { λ r. ⌜ Needs coded (now (text .entry)) (written (ours (now (text .entry)))) r ⌝ }
 {
     let mut i: usize = 0;
     let mut n: usize = 0;
@@ -334,7 +335,7 @@ fn send_eight(text: &[u8], i: usize, out: &mut [u8], b: Held) -> Held
 }
 
 // What our writer builds of the text, at the front of the buffer; how many bytes it is.
-pub fn write(text: &[u8], out: &mut [u8]) -> usize
+fn put_data(text: &[u8], out: &mut [u8]) -> usize
     requires { ⌜ Coded (now text) × (length (written (ours (now text))) ≤ length (now out)) ⌝ }
     ensures { λ r. ⌜ Writes (now (text .entry)) (now (out .entry)) (now (out .exit)) r ⌝ }
 {
@@ -358,4 +359,32 @@ pub fn write(text: &[u8], out: &mut [u8]) -> usize
         }
     }
     codes::flush(out, b.n, b.held, b.have)
+}
+
+// How many bytes our data of the text has; or the first character that has no code; or that one packet does not hold the data.
+pub fn data_length(text: &[u8]) -> Needed
+    ensures { λ r. ⌜ Needs coded (now (text .entry)) (written (ours (now (text .entry)))) r ⌝ }
+{
+    let uncoded = first_uncoded(text);
+    match uncoded {
+        Uncoded::At(index) => Needed::NoCode(index),
+        Uncoded::Nowhere => coded_length(text),
+    }
+}
+
+// Our data of the text at the front of the buffer, where the text has it and there is room for it; whatever their lengths.
+pub fn write(text: &[u8], out: &mut [u8]) -> Stored
+    ensures { λ r. ⌜ Stores coded (now (text .entry)) (written (ours (now (text .entry)))) (now (out .entry)) r (now (out .exit)) ⌝ }
+{
+    let needed = data_length(text);
+    match needed {
+        Needed::NoCode(index) => Stored::NoCode(index),
+        Needed::TooMany => Stored::TooMany,
+        Needed::Bytes(n) => {
+            if out.len() < n {
+                return Stored::NoRoom(n);
+            }
+            Stored::Bytes(put_data(text, out))
+        }
+    }
 }

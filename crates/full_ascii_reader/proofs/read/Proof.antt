@@ -1,60 +1,86 @@
--- `full_ascii_reader::read` meets its contract. Assumes nothing.
-use mathlib.Core.Path.{_≡_, subst, subst⁻¹}
-use mathlib.Core.List.{List}
-use Prim.Native.Nat.{ℕ, _+_, _-_}
+-- `full_ascii_reader::read` meets its contract.
+-- Assumes nothing.
+use mathlib.Core.Path.{_≡_, refl, subst}
+use Prim.Native.Nat.{_≤_}
 use native.Mathlib.Omega.{arith}
+use borrow.Author.Needs.{needs}
 use lib.ListN.{length}
-use Rattle.bits.specs.Row.{bits}
-use Rattle.codes.specs.Laid.{Readable}
-use Rattle.codes.specs.Pack.{low}
-use Rattle.codes.proofs.Laying.{laying-later, laying-last}
-use Rattle.full_ascii_reader.specs.Passing.{Laying}
+use Rattle.codes.specs.Measure.{Comes}
+use Rattle.codes.specs.declared.Outcome.{Outcome}
+use Rattle.codes.specs.declared.Outcome.the-variants.{Text, Malformed, TooLong}
+use Rattle.codes.proofs.Entering.{enter-place, enter-no-room, enter-readable, enter-text}
 use Rattle.full_ascii.specs.Table.{tables}
 use Rattle.full_ascii.proofs.Table.{laws}
-use borrow.Author.Needs.{needs}
 use Rattle.full_ascii_reader.proofs.read.Statement.{statement}
 use Rattle.full_ascii_reader.proofs.read.Tie as tie
 
-read-words-requires : tie.Need-read-words-requires
-read-words-requires c κs = search needs
+abbrev start : tie.After-take-apart → tie.Start
+start c = c .before .before .before
 
-last-bits-requires : tie.Need-last-bits-requires
-last-bits-requires c κs = search needs
+comes : (c : tie.After-take-apart) (r : Outcome) → c .take-apart .result ≡ r → Comes tables (start c .args .s .now) r
+comes c r e = subst (Comes tables (start c .args .s .now)) e (c .take-apart .ensures)
 
--- the codes that were passed leave the last bits, and their text is laid
-laying : (b : tie.After-last-bits)
-    → Laying (bits (b .before .before .before .before .before .before .before .args .s .now))
-    (low (b .last-bits .result .have) (b .last-bits .result .held)) (b .before .before .before .before .before .before .before .args .out .now)
-    (b .before .before .before .read-words .last .1 .0) 0 (b .before .before .before .read-words .result .n)
-laying b =
-    let w = b .before .before .before in
-    let e = w .before .before .before .before in
-    subst⁻¹ (λ (l : List ℕ). Laying (bits (e .args .s .now)) l (e .args .out .now) (w .read-words .last .1 .0) 0 (w .read-words .result .n))
-    (b .last-bits .ensures .same) (w .read-words .ensures .2)
+take-apart-requires : tie.Need-take-apart-requires
+take-apart-requires c κs = search needs
 
-read-last-requires : tie.Need-read-last-requires
-read-last-requires c κs =
-    let b = c .before in
-    let w = b .before .before .before in
-    let e = w .before .before .before .before in
-    let last = low (b .last-bits .result .have) (b .last-bits .result .held) in
-    let out = w .read-words .last .1 .0 in
-    let n = w .read-words .result .n in
-    let same : length out ≡ length (e .args .out .now) = w .read-words .kept .1 .0 in (
-      omega (arith, b .last-bits .ensures .size, w .read-words .ensures .0 .few),
-      omega (arith, same, w .read-words .ensures .1),
-      subst (Readable tables last) (let x : 0 + length (e .args .out .now) - n ≡ length out - n = omega (arith, same) in x)
-          (laying-later (laying b) laws (e .pre)),
-    )
+enum-told : tie.Need-enum-told
+enum-told c = search needs
+
+enum-known-outcome : tie.Need-enum-known-outcome
+enum-known-outcome c = search needs
+
+enum-known-outcome-2 : tie.Need-enum-known-outcome-2
+enum-known-outcome-2 c = search needs
+
+returns : tie.Need-returns
+returns c =
+    let k = c .before .before in
+    let m = k .before .before in
+    let n = k .outcome2 .given .0 .0 in
+    enter-no-room (start m .args .s .now) (start m .args .out .now) n (comes m (Text n) (k .outcome2 .given .1)) _ (omega arith) (omega (arith, c .if1 .taken))
+
+put-text-requires : tie.Need-put-text-requires
+put-text-requires c κs =
+    let k = c .before .before .before in
+    let m = k .before .before in
+    let n = k .outcome2 .given .0 .0 in
+    let come = comes m (Text n) (k .outcome2 .given .1) in
+    let held : n ≤ length (start m .args .out .now) = omega (arith, c .before .if1 .left) in
+    enter-readable (start m .args .s .now) (start m .args .out .now) n come held
+
+returns-2 : tie.Need-returns-2
+returns-2 c = let m = c .before .before in (comes m TooLong (c .enum-told .given .1), refl)
+
+returns-3 : tie.Need-returns-3
+returns-3 c =
+    let m = c .before .before .before in
+    let i = c .before .outcome .given .0 .0 in
+    enter-place (start m .args .s .now) (start m .args .out .now) _ i (comes m (Malformed i) (c .before .outcome .given .1)) (omega arith)
 
 same-length : tie.Need-same-length
 same-length c = search needs
 
-returns : tie.Need-returns
-returns c =
-    let l = c .before .before in
-    let b = l .before .before in
-    laying-last (laying b) (b .before .before .before .read-words .ensures .1) (l .read-last .ensures)
+returns-4 : tie.Need-returns-4
+returns-4 c =
+    let p = c .before .before in
+    let k = p .before .before .before .before in
+    let m = k .before .before in
+    let n = k .outcome2 .given .0 .0 in
+    let held : n ≤ length (start m .args .out .now) = omega (arith, p .before .before .if1 .left) in
+    enter-text (start m .args .s .now) (start m .args .out .now) n (comes m (Text n) (k .outcome2 .given .1)) laws held (p .put-text .last .1 .0)
+    (p .put-text .result) _ (p .put-text .ensures) (omega arith)
 
 pub read-spec : {M : Type 1} → statement M
-read-spec = tie.close (tie.spec read-words-requires last-bits-requires read-last-requires same-length returns)
+read-spec =
+    tie.close
+    (tie.spec
+    take-apart-requires
+    enum-told
+    enum-known-outcome
+    enum-known-outcome-2
+    returns
+    put-text-requires
+    returns-2
+    returns-3
+    same-length
+    returns-4)

@@ -1,39 +1,46 @@
--- `full_ascii_writer::data_length` meets its contract. Assumes nothing.
+-- `full_ascii_writer::data_length` meets its contract.
+-- Assumes nothing.
+use mathlib.Core.Path.{subst}
 use native.Mathlib.Omega.{arith}
 use borrow.Author.Needs.{needs}
-use Rattle.codes.proofs.Pack.{length-written}
-use Rattle.full_ascii.specs.Writer.{ours}
-use Rattle.full_ascii_writer.proofs.Counting.{least-bits}
+use Rattle.codes.specs.Pack.{written}
+use Rattle.codes.specs.Size.{Searches}
+use Rattle.codes.proofs.Storing.{need-code}
+use Rattle.full_ascii.specs.Writer.{coded, ours}
 use Rattle.full_ascii_writer.proofs.data_length.Statement.{statement}
 use Rattle.full_ascii_writer.proofs.data_length.Tie as tie
 
-mul-if1 : tie.Need-mul-if1
-mul-if1 c = search needs
+first-uncoded-requires : tie.Need-first-uncoded-requires
+first-uncoded-requires c κs = search needs
+
+enum-known-uncoded : tie.Need-enum-known-uncoded
+enum-known-uncoded c = search needs
+
+enum-told : tie.Need-enum-told
+enum-told c = search needs
+
+coded-length-requires : tie.Need-coded-length-requires
+coded-length-requires c κs =
+    let u = c .before .before in
+    subst (Searches coded (u .before .before .args .text .now)) (c .enum-told .given .1) (u .first-uncoded .ensures)
 
 returns : tie.Need-returns
 returns c =
-    let t = c .before .before .args .text .now in
-    omega (arith, c .if1 .taken, least-bits t, length-written (ours t))
-
-code-bits-requires : tie.Need-code-bits-requires
-code-bits-requires c κs = search needs
-
-cast-n : tie.Need-cast-n
-cast-n c = search needs
+    let u = c .before .before .before in
+    let t = u .before .before .args .text .now in
+    let k = c .before .uncoded .given in
+    need-code coded t (written (ours t)) _ (k .0 .0) (subst (Searches coded t) (k .1) (u .first-uncoded .ensures)) (omega arith)
 
 returns-2 : tie.Need-returns-2
-returns-2 c =
-    let t = c .before .before .before .before .args .text .now in
-    omega (arith, c .if2 .taken, c .before .code-bits .ensures, length-written (ours t))
-
-add-t3 : tie.Need-add-t3
-add-t3 c = search needs
-
-returns-3 : tie.Need-returns-3
-returns-3 c =
-    let t = c .before .before .before .before .args .text .now in
-    (omega (arith, c .before .code-bits .ensures, length-written (ours t)), omega (arith, c .if2 .left))
+returns-2 c = search needs
 
 pub data-length-spec : {M : Type 1} → statement M
 data-length-spec =
-    tie.close (tie.spec mul-if1 returns code-bits-requires cast-n returns-2 add-t3 returns-3)
+    tie.close
+    (tie.spec
+    first-uncoded-requires
+    enum-known-uncoded
+    enum-told
+    coded-length-requires
+    returns
+    returns-2)

@@ -1,8 +1,6 @@
 -- `full_ascii_writer::first_uncoded` meets its contract. The loop's invariant: each character passed has a code.
 -- Assumes nothing.
-use mathlib.Core.Path.{_≡_, sym, ap, subst, subst⁻¹, _∙_}
-use mathlib.Core.Bool.{false}
-use mathlib.Core.List.{List}
+use mathlib.Core.Path.{sym, subst⁻¹, _∙_}
 use Prim.Native.Nat.{ℕ, _-_, _≤_}
 use native.Mathlib.Omega.{arith}
 use borrow.Author.Count.{below-more}
@@ -12,6 +10,7 @@ use lib.Dec.{T}
 use lib.ListN.{length, getD}
 use Rattle.bits.proofs.Said.{said-yes}
 use Rattle.codes.specs.Size.{Coded}
+use Rattle.codes.proofs.Coded.{first-at}
 use Rattle.full_ascii.specs.Writer.{coded}
 use Rattle.full_ascii_writer.proofs.first_uncoded.Statement.{statement}
 use Rattle.full_ascii_writer.proofs.first_uncoded.Tie as tie
@@ -37,19 +36,11 @@ shared-slice-read-is-coded c = omega arith
 is-coded-requires : tie.Need-is-coded-requires Inv-loop μ-loop
 is-coded-requires c κs = search needs
 
--- the character at place i has no code, and the answer is that place
-none-at : (text : List ℕ) (i : ℕ) {place : ℕ} → coded (getD text i 0) ≡ false → place ≡ i → T (coded (getD text place 0)) → ⊥
-none-at text i no-code e t = subst T (ap (λ (n : ℕ). coded (getD text n 0)) e ∙ no-code) t
-
 returns-2 : tie.Need-returns-2 Inv-loop μ-loop
 returns-2 c =
     let a = c .before .before .before .before in
-    let text = a .before .before .before .before .args .text .now in
-    record {
-      there = omega arith;
-      before = λ i h. a .loop .inv .1 i (omega arith);
-      none = none-at text (a .loop .i) (sym (c .before .is-coded .ensures) ∙ not-true (c .before .is-coded .result) (c .if2 .taken)) (omega arith);
-    }
+    first-at coded (a .before .before .before .before .args .text .now) _ (a .loop .i) (omega arith) (omega arith) (a .loop .inv .1)
+    (sym (c .before .is-coded .ensures) ∙ not-true (c .before .is-coded .result) (c .if2 .taken))
 
 add-i : tie.Need-add-i Inv-loop μ-loop
 add-i c = omega arith

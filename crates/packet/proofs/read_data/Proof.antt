@@ -1,20 +1,20 @@
 -- `packet::read_data` meets its contract.
 -- Assumes nothing.
-use mathlib.Core.List.{List}
-use mathlib.Core.Path.{_≡_, refl, subst}
+use mathlib.Core.List.{List, _++_}
+use mathlib.Core.Path.{_≡_, refl, ap, subst, _∙_}
 use Prim.Native.Nat.{ℕ}
 use borrow.Author.Needs.{needs}
 use native.Mathlib.Omega.{arith}
 use borrow.Author.Tests.{not-true, not-false}
-use lib.ListN.{length, take}
+use lib.ListN.{length, take, drop}
 use Rattle.bits.specs.Says.{Says}
 use Rattle.bits.proofs.Said.{said-yes, said-no}
 use Rattle.checksum.specs.Checksum.{sent}
-use Rattle.packet.specs.declared.Taken.{Taken}
-use Rattle.packet.specs.declared.Taken.the-variants.{Text, Malformed, NoRoom}
+use Rattle.codes.specs.declared.Taken.{Taken}
+use Rattle.codes.specs.declared.Taken.the-variants.{Text, Malformed, NoRoom, TooLong}
 use Rattle.packet.specs.Packet.{dataIn, sumIn}
 use Rattle.packet.specs.Steps.{Takes}
-use Rattle.packet.proofs.Answers.{part-is, tested, refused-sum, refused-place, refused-room, accepted}
+use Rattle.packet.proofs.Answers.{part-is, data-few, tested, refused-sum, refused-place, refused-room, accepted}
 use Rattle.packet.proofs.read_data.Statement.{statement}
 use Rattle.packet.proofs.read_data.Tie as tie
 
@@ -110,6 +110,9 @@ enum-known-taken-2 c = search needs
 enum-known-taken-3 : tie.Need-enum-known-taken-3
 enum-known-taken-3 c = search needs
 
+enum-told : tie.Need-enum-told
+enum-told c = search needs
+
 same-length : tie.Need-same-length
 same-length c = search needs
 
@@ -118,11 +121,11 @@ returns-2 c =
     let k = c .before .before .before .before .before in
     let a = start (agreed k) in
     let n = c .before .taken .given .0 .0 in
-    let t = took k (Text n) (c .before .taken .given .1) in (
+    let t = took k (Text n) (c .before .taken .given .1) .1 in (
       t .0,
-      accepted (a .args .packet .now) (a .args .opened) (a .pre) (length (a .args .text .now)) (summed-at k) (t .0) (t .1) (t .2) _ _ _ _ (omega arith)
-          (omega arith) (omega (arith, t .3)) (omega arith),
-      t .4,
+      accepted (a .args .packet .now) (a .args .opened) (a .pre) (length (a .args .text .now)) (summed-at k) (t .0) (t .1) (omega (arith, t .2, t .3)) _ _ _ _
+          (omega arith) (omega arith) (omega (arith, t .2)) (omega arith),
+      t .4 ∙ ap (λ (m : ℕ). t .0 ++ drop m (a .args .text .now)) (t .2),
     )
 
 same-length-2 : tie.Need-same-length-2
@@ -134,7 +137,7 @@ returns-3 c =
     let a = start (agreed k) in
     let i = c .before .taken2 .given .0 .0 in
     let t = took k (Malformed i) (c .before .taken2 .given .1) in
-    (refused-place (a .args .packet .now) (a .args .opened) (a .pre) (length (a .args .text .now)) (summed-at k) i (t .0), t .1)
+    (refused-place (a .args .packet .now) (a .args .opened) (a .pre) (length (a .args .text .now)) (summed-at k) i (t .1) _ (omega arith), t .2)
 
 same-length-3 : tie.Need-same-length-3
 same-length-3 c = search needs
@@ -145,7 +148,22 @@ returns-4 c =
     let a = start (agreed k) in
     let n = c .before .taken3 .given .0 .0 in
     let t = took k (NoRoom n) (c .before .taken3 .given .1) in
-    (refused-room (a .args .packet .now) (a .args .opened) (a .pre) (length (a .args .text .now)) (summed-at k) n (t .0 .0) (t .0 .1) (t .0 .2) (t .0 .3), t .1)
+    let u = t .1 in (
+      refused-room (a .args .packet .now) (a .args .opened) (a .pre) (length (a .args .text .now)) (summed-at k) _ (u .0) (u .1)
+          (omega (arith, u .2)) (omega (arith, u .2, u .3)),
+      t .2,
+    )
+
+same-length-4 : tie.Need-same-length-4
+same-length-4 c = search needs
+
+-- a packet's data is short
+returns-5 : tie.Need-returns-5
+returns-5 c =
+    let k = c .before .before .before .before in
+    let a = start (agreed k) in
+    let long = took k TooLong (c .enum-told .given .1) in
+    absurd (let no′ : ⊥ = omega (arith, long .0, data-few (a .args .packet .now) (a .args .opened) (a .pre)) in no′)
 
 pub read-data-spec : {M : Type 1} → statement M
 read-data-spec =
@@ -168,9 +186,12 @@ read-data-spec =
     add-t29
     enum-known-taken-2
     enum-known-taken-3
+    enum-told
     same-length
     returns-2
     same-length-2
     returns-3
     same-length-3
-    returns-4)
+    returns-4
+    same-length-4
+    returns-5)

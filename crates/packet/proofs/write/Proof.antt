@@ -8,10 +8,14 @@ use borrow.Author.Needs.{needs}
 use lib.ListN.{length}
 use Rattle.header.specs.declared.Format.{Format}
 use Rattle.header.specs.Typed.{Names, formatNumber}
-use Rattle.packet.specs.Data.{coded, Coded, dataOf}
+use Rattle.codes.specs.declared.Stored.{Stored}
+use Rattle.codes.specs.declared.Stored.the-variants.{NoCode, TooMany, NoRoom, Bytes}
 use Rattle.codes.specs.Size.{longest}
-use Rattle.codes.specs.Size.{Searches, Needs}
-use Rattle.packet.proofs.WriteStages.{clear-twelve, clear-ten, clear-nine, clear-eleven, clear-eight}
+use Rattle.packet.specs.Data.{dataOf}
+use Rattle.packet.specs.Steps.{Places}
+use Rattle.packet.proofs.InPlace.{same-room}
+use Rattle.packet.proofs.WriteAnswers.{refused-code, refused-many, refused-room, written}
+use Rattle.packet.proofs.WriteStages.{clear-twelve, clear-ten}
 use Rattle.packet.proofs.write.Statement.{statement}
 use Rattle.packet.proofs.write.Tie as tie
 
@@ -31,24 +35,27 @@ named-at : (c : tie.After-known-told) → formatNumber (format-at c) ≡ start c
 named-at c =
     subst (Names (start c .args .format)) (c .before .typing .given .1) (c .before .before .before .named .ensures)
 
-some-at : (c : tie.Else1) → 0 < length (start (c .before) .args .text .now)
-some-at c = omega (arith, c .if1 .left)
+abbrev known : tie.After-put-data → tie.After-known-told
+known p = p .before .before .before
 
-coded-at : (c : tie.After-enum-told2)
-    → Coded (format-at (c .before .before .before .before)) (start (c .before .before .before .before) .args .text .now)
-    (length (start (c .before .before .before .before) .args .text .now))
-coded-at c =
-    let k = c .before .before .before .before in
-    subst (Searches (coded (format-at k)) (start k .args .text .now)) (c .enum-told2 .given .1) (c .before .before .first-uncoded .ensures)
+some-at : (p : tie.After-put-data) → 0 < length (start (known p) .args .text .now)
+some-at p = omega (arith, p .before .before .if1 .left)
 
-abbrev known-at : tie.After-known-told3 → tie.After-known-told
-known-at c = c .before .before .before .before .before .before .before .before
+placed-at : (p : tie.After-put-data) (r : Stored) → p .put-data .result ≡ r
+    → Places (format-at (known p)) (start (known p) .args .text .now) (start (known p) .args .packet .now) r (p .put-data .last .1 .1 .0)
+placed-at p r e =
+    let k = known p in
+    subst
+    (λ (answer : Stored). Places (format-at k) (start k .args .text .now) (start k .args .packet .now) answer (p .put-data .last .1 .1 .0))
+    e (p .put-data .ensures)
 
-needed-at : (c : tie.After-known-told3)
-    → (c .before .needed .given .0 .0 ≡ length (dataOf (format-at (known-at c)) (start (known-at c) .args .text .now)))
-    × (c .before .needed .given .0 .0 ≤ longest)
-needed-at c =
-    subst (Needs (dataOf (format-at (known-at c)) (start (known-at c) .args .text .now))) (c .before .needed .given .1) (c .before .before .before .data-length .ensures)
+-- where the data is in its place, there is room around it
+room-at : (p : tie.After-put-data) (n : ℕ) → p .put-data .result ≡ Bytes n → (n ≤ longest) × (n + 6 ≤ length (p .put-data .last .1 .1 .0))
+room-at p n e =
+    let k = start (known p) .args in
+    let d = placed-at p (Bytes n) e in
+    let same = same-room (k .packet .now) (dataOf (format-at (known p)) (k .text .now)) n (d .0 .1) (d .1) in
+    (d .0 .2, omega (arith, d .1, same, ap length (d .2)))
 
 named-requires : tie.Need-named-requires
 named-requires c κs = search needs
@@ -80,108 +87,82 @@ returns-2 c =
       refl,
     )
 
-first-uncoded-requires : tie.Need-first-uncoded-requires
-first-uncoded-requires c κs = search needs
+put-data-requires : tie.Need-put-data-requires
+put-data-requires c κs = search needs
 
-enum-known-uncoded : tie.Need-enum-known-uncoded
-enum-known-uncoded c = search needs
-
-returns-3 : tie.Need-returns-3
-returns-3 c =
-    let u = c .before .before .before in
-    let k = u .before .before in
-    let a = start k .args in (
-      record {
-        fault = (
-          format-at k,
-          named-at k,
-          subst (Searches (coded (format-at k)) (a .text .now)) (c .before .uncoded .given .1) (u .first-uncoded .ensures),
-        );
-        first = clear-nine (a .format) (a .text .now) (length (a .packet .now)) (format-at k) (named-at k) (some-at (u .before));
-      },
-      refl,
-    )
+enum-known-stored : tie.Need-enum-known-stored
+enum-known-stored c = search needs
 
 enum-told-2 : tie.Need-enum-told-2
 enum-told-2 c = search needs
 
-data-length-requires : tie.Need-data-length-requires
-data-length-requires c κs = coded-at c
+enum-known-stored-2 : tie.Need-enum-known-stored-2
+enum-known-stored-2 c = search needs
 
-enum-known-needed : tie.Need-enum-known-needed
-enum-known-needed c = search needs
+add-t20 : tie.Need-add-t20
+add-t20 c =
+    let p = c .before .before .before .before .before in
+    let n = c .before .stored2 .given in
+    omega (arith, placed-at p (NoRoom (n .0 .0)) (n .1) .0 .2)
 
-enum-told-3 : tie.Need-enum-told-3
-enum-told-3 c = search needs
+enum-known-stored-3 : tie.Need-enum-known-stored-3
+enum-known-stored-3 c = search needs
 
-returns-4 : tie.Need-returns-4
-returns-4 c =
-    let d = c .before .before in
-    let k = d .before .before .before .before .before in
-    let a = start k .args in (
-      record {
-        fault =
-            (format-at k, named-at k, subst (Needs (dataOf (format-at k) (a .text .now))) (c .enum-told3 .given .1) (d .data-length .ensures));
-        first =
-            clear-eleven (a .format) (a .text .now) (length (a .packet .now)) (format-at k) (named-at k) (some-at (d .before .before .before .before))
-            (coded-at (d .before));
-      },
-      refl,
-    )
+put-frame-requires : tie.Need-put-frame-requires
+put-frame-requires c κs =
+    let p = c .before .before .before .before .before .before in
+    let n = c .before .before .stored3 .given in
+    room-at p (n .0 .0) (n .1)
 
-add-if2 : tie.Need-add-if2
-add-if2 c = omega (arith, needed-at c .1)
-
-add-t18 : tie.Need-add-t18
-add-t18 c = omega (arith, needed-at (c .before) .1)
-
-returns-5 : tie.Need-returns-5
-returns-5 c =
-    let n = c .before in
-    let k = known-at n in
-    let a = start k .args in (
-      record {
-        fault = (format-at k, named-at k, (ap (λ (m : ℕ). m + 6) (needed-at n .0), c .if2 .taken));
-        first =
-            clear-eight (a .format) (a .text .now) (length (a .packet .now)) (format-at k) (named-at k)
-            (some-at (n .before .before .before .before .before .before .before)) (coded-at (n .before .before .before .before))
-            (omega (arith, needed-at n .0, needed-at n .1));
-      },
-      refl,
-    )
-
-put-packet-requires : tie.Need-put-packet-requires
-put-packet-requires c κs =
-    let n = c .before .before in
-    record {
-      coded = coded-at (n .before .before .before .before);
-      long = needed-at n .0;
-      few = needed-at n .1;
-      held = c .before .if2 .left;
-    }
-
-add-t12 : tie.Need-add-t12
-add-t12 c = search needs
+add-t25 : tie.Need-add-t25
+add-t25 c =
+    let p = c .before .before .before .before .before .before .before .before .before in
+    let n = c .before .before .before .before .before .stored3 .given in
+    omega (arith, room-at p (n .0 .0) (n .1) .0)
 
 same-length : tie.Need-same-length
 same-length c = search needs
 
+returns-3 : tie.Need-returns-3
+returns-3 c =
+    let p = c .before .before .before .before .before in
+    let a = start (known p) .args in
+    let i = c .before .stored .given in
+    refused-code (a .format) (a .sync) (a .text .now) (a .packet .now) (p .put-data .last .1 .1 .0) (format-at (known p)) (named-at (known p)) (some-at p)
+    (i .0 .0) (placed-at p (NoCode (i .0 .0)) (i .1)) _ (omega arith)
+
+same-length-2 : tie.Need-same-length-2
+same-length-2 c = search needs
+
+returns-4 : tie.Need-returns-4
+returns-4 c =
+    let p = c .before .before .before .before in
+    let a = start (known p) .args in
+    refused-many (a .format) (a .sync) (a .text .now) (a .packet .now) (p .put-data .last .1 .1 .0) (format-at (known p)) (named-at (known p)) (some-at p)
+    (placed-at p TooMany (c .enum-told2 .given .1))
+
+same-length-3 : tie.Need-same-length-3
+same-length-3 c = search needs
+
+returns-5 : tie.Need-returns-5
+returns-5 c =
+    let p = c .before .before .before .before .before in
+    let a = start (known p) .args in
+    let n = c .before .stored2 .given in
+    refused-room (a .format) (a .sync) (a .text .now) (a .packet .now) (p .put-data .last .1 .1 .0) (format-at (known p)) (named-at (known p)) (some-at p)
+    (n .0 .0) (placed-at p (NoRoom (n .0 .0)) (n .1)) _ (omega arith)
+
+same-length-4 : tie.Need-same-length-4
+same-length-4 c = search needs
+
 returns-6 : tie.Need-returns-6
 returns-6 c =
-    let p = c .before .before in
-    let n = p .before .before .before in
-    let k = known-at n in (
-      format-at k,
-      record {
-        named = named-at k;
-        some = some-at (n .before .before .before .before .before .before .before);
-        coded = coded-at (n .before .before .before .before);
-        few = omega (arith, needed-at n .0, needed-at n .1);
-        fits = ap (λ (m : ℕ). m + 6) (needed-at n .0);
-        held = p .before .before .if2 .left;
-      },
-      p .put-packet .ensures,
-    )
+    let p = c .before .before .before .before .before .before .before .before .before in
+    let a = start (known p) .args in
+    let n = c .before .before .before .before .before .stored3 .given in
+    let f = c .before .before .put-frame in
+    written (a .format) (a .sync) (a .text .now) (a .packet .now) (p .put-data .last .1 .1 .0) (format-at (known p)) (named-at (known p)) (some-at p)
+    (n .0 .0) (placed-at p (Bytes (n .0 .0)) (n .1)) _ (omega arith) (f .last .1 .1 .1 .0) (f .ensures)
 
 pub write-spec : {M : Type 1} → statement M
 write-spec =
@@ -192,18 +173,19 @@ write-spec =
     enum-told
     returns
     returns-2
-    first-uncoded-requires
-    enum-known-uncoded
-    returns-3
+    put-data-requires
+    enum-known-stored
     enum-told-2
-    data-length-requires
-    enum-known-needed
-    enum-told-3
-    returns-4
-    add-if2
-    add-t18
-    returns-5
-    put-packet-requires
-    add-t12
+    enum-known-stored-2
+    add-t20
+    enum-known-stored-3
+    put-frame-requires
+    add-t25
     same-length
+    returns-3
+    same-length-2
+    returns-4
+    same-length-3
+    returns-5
+    same-length-4
     returns-6)

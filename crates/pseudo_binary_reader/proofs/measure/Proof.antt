@@ -100,7 +100,7 @@ returns-3 c =
     let s = a .before .before .before .args .s .now in
     let i = f .first-indicator .result in
     stuck-value s (a .loop .at) (omega (arith, a .loop .inv)) (f .before .window .result) (nine f) i (f .first-indicator .ensures) (a .loop .inv .2 .said) (a .loop .inv .2 .passed)
-    (length s * 8 - a .loop .at - i .width) (omega (arith, c .before .before .before .if2 .left)) (c .if3 .taken) (omega arith)
+    (length s * 8 - a .loop .at - i .width) (omega (arith, c .before .before .before .if2 .left)) (omega (arith, c .if3 .taken)) (omega arith)
 
 -- where the values are there: the bit after them is still within the data
 there : (c : tie.Else3 Inv-loop μ-loop)

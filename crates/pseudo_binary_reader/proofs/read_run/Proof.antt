@@ -21,11 +21,11 @@ returns c =
     run-plain (e .args .out .now) (f .repeat .last .0) (drop (e .args .at) (bits (e .args .s .now))) (e .args .n) (run .count) (run .character)
     (run .values) (c .if1 .taken) (f .repeat .ensures)
 
-add-read-values : tie.Need-add-read-values
-add-read-values c = search needs
+add-read-last : tie.Need-add-read-last
+add-read-last c = search needs
 
-read-values-requires : tie.Need-read-values-requires
-read-values-requires c κs = search needs
+read-last-requires : tie.Need-read-last-requires
+read-last-requires c κs = search needs
 
 same-length-2 : tie.Need-same-length-2
 same-length-2 c = search needs
@@ -36,10 +36,10 @@ returns-2 c =
     let f = g .before .before .before .before .before .before .before in
     let e = f .before .before .before .before in
     let run = e .args .run in
-    run-laid (e .args .out .now) (f .repeat .last .0) (g .read-values .last .1 .1 .1 .0) (drop (e .args .at) (bits (e .args .s .now))) (e .args .n)
-    (run .count) (run .character) (run .values) (omega (arith, e .pre .1)) (f .repeat .ensures) (g .read-values .ensures)
+    run-laid (e .args .out .now) (f .repeat .last .0) (g .read-last .last .1 .1 .1 .0) (drop (e .args .at) (bits (e .args .s .now))) (e .args .n)
+    (run .count) (run .character) (run .values) (omega (arith, e .pre .1)) (f .repeat .ensures) (g .read-last .ensures)
 
 pub read-run-spec : {M : Type 1} → statement M
 read-run-spec =
     tie.close
-    (tie.spec repeat-requires same-length returns add-read-values read-values-requires same-length-2 returns-2)
+    (tie.spec repeat-requires same-length returns add-read-last read-last-requires same-length-2 returns-2)

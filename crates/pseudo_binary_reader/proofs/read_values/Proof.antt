@@ -1,56 +1,31 @@
 -- `pseudo_binary_reader::read_values` meets its contract. Assumes nothing.
-use mathlib.Core.Path.{_≡_}
+use mathlib.Core.Path.{sym, ap, subst, _∙_}
+use mathlib.Core.List.{List}
+use Prim.Native.Nat.{ℕ, _+_}
 use native.Mathlib.Omega.{arith}
-use lib.ListN.{length, drop}
+use lib.ListN.{drop}
+use lib.Seq.{drop-drop}
 use Rattle.bits.specs.Row.{bits}
-use Rattle.pseudo_binary_reader.proofs.Taking.{taken-length, taken-rest}
+use Rattle.codes.specs.Laid.{laid}
+use Rattle.pseudo_binary_reader.specs.Taken.{Eight, characters}
+use Rattle.pseudo_binary_reader.proofs.Taking.{top-eight}
 use borrow.Author.Needs.{needs}
 use Rattle.pseudo_binary_reader.proofs.read_values.Statement.{statement}
 use Rattle.pseudo_binary_reader.proofs.read_values.Tie as tie
 
-read-eights-requires : tie.Need-read-eights-requires
-read-eights-requires c κs = search needs
+spread-requires : tie.Need-spread-requires
+spread-requires c κs = search needs
 
-mul-from : tie.Need-mul-from
-mul-from c = search needs
+-- the first eight values
+eight : (w : tie.After-spread) → Eight (drop (w .before .before .before .args .at + 8) (bits (w .before .before .before .args .s .now))) (w .spread .result)
+eight w =
+    let e = w .before .before .before in
+    let row = bits (e .args .s .now) in
+    subst (λ (l : List ℕ). Eight l (w .spread .result)) (drop-drop 8 (e .args .at) row)
+    (top-eight (drop (e .args .at) row) (e .args .top) (w .spread .result) (e .pre .0 .2) (w .spread .ensures))
 
-add-from : tie.Need-add-from
-add-from c = search needs
-
-add-if1 : tie.Need-add-if1
-add-if1 c = search needs
-
--- the buffer keeps its length
-same : (f : tie.After-read-eights) → length (f .read-eights .last .1 .1 .1 .0) ≡ length (f .before .before .before .before .args .out .now)
-same f =
-    let e = f .before .before .before .before in
-    taken-length (drop (e .args .at) (bits (e .args .s .now))) (e .args .out .now) (f .read-eights .last .1 .1 .1 .0) (e .args .n)
-    (f .read-eights .result) (f .read-eights .ensures .1) (omega (arith, e .pre, f .read-eights .ensures .0 .0))
-
-sub-read-few : tie.Need-sub-read-few
-sub-read-few c = search needs
-
-add-read-few : tie.Need-add-read-few
-add-read-few c = search needs
-
-read-few-requires : tie.Need-read-few-requires
-read-few-requires c κs =
-    let f = c .before .before .before .before in
-    let e = f .before .before .before .before in
-    let few = f .read-eights .ensures .0 .1 (c .before .if1 .taken) in
-    (c .before .if1 .taken, omega (arith, few), omega (arith, e .pre, same f, f .read-eights .ensures .0 .0))
-
-sub-read-last : tie.Need-sub-read-last
-sub-read-last c = search needs
-
-add-read-last : tie.Need-add-read-last
-add-read-last c = search needs
-
-read-last-requires : tie.Need-read-last-requires
-read-last-requires c κs =
-    let f = c .before .before .before .before in
-    let e = f .before .before .before .before in
-    (e .pre .0, omega (arith, e .pre, f .read-eights .ensures .0 .0), omega (arith, e .pre, same f, f .read-eights .ensures .0 .0))
+put-few-requires : tie.Need-put-few-requires
+put-few-requires c κs = search needs
 
 same-length : tie.Need-same-length
 same-length c = search needs
@@ -58,11 +33,12 @@ same-length c = search needs
 returns : tie.Need-returns
 returns c =
     let g = c .before .before in
-    let f = g .before .before .before .before .before in
-    let e = f .before .before .before .before in
-    taken-rest (bits (e .args .s .now)) (e .args .at) (e .args .out .now) (f .read-eights .last .1 .1 .1 .0) (g .read-few .last .1 .1 .1 .0)
-    (e .args .n) (f .read-eights .result) (e .args .count) (f .read-eights .ensures .1) (f .read-eights .ensures .0 .0) (omega (arith, e .pre))
-    (g .read-few .ensures)
+    let w = g .before .before .before in
+    let e = w .before .before .before in
+    g .put-few .ensures (drop (e .args .at + 8) (bits (e .args .s .now))) (eight w)
+
+put-eight-requires : tie.Need-put-eight-requires
+put-eight-requires c κs = search needs
 
 same-length-2 : tie.Need-same-length-2
 same-length-2 c = search needs
@@ -70,27 +46,39 @@ same-length-2 c = search needs
 returns-2 : tie.Need-returns-2
 returns-2 c =
     let g = c .before .before in
-    let f = g .before .before .before .before .before in
-    let e = f .before .before .before .before in
-    taken-rest (bits (e .args .s .now)) (e .args .at) (e .args .out .now) (f .read-eights .last .1 .1 .1 .0) (g .read-last .last .1 .1 .1 .0)
-    (e .args .n) (f .read-eights .result) (e .args .count) (f .read-eights .ensures .1) (f .read-eights .ensures .0 .0) (omega (arith, e .pre))
-    (g .read-last .ensures)
+    let w = g .before .before .before .before in
+    let e = w .before .before .before in
+    let bs = drop (e .args .at + 8) (bits (e .args .s .now)) in
+    g .put-eight .ensures bs (eight w)
+    ∙ ap (λ (k : ℕ). laid (e .args .out .now) (e .args .n) (characters k bs)) (sym (g .before .before .if2 .taken))
+
+add-read-many : tie.Need-add-read-many
+add-read-many c = search needs
+
+read-many-requires : tie.Need-read-many-requires
+read-many-requires c κs =
+    let w = c .before .before .before in
+    let e = w .before .before .before in
+    ((e .pre .0 .0, omega arith, omega (arith, e .pre .0 .1), eight w), (omega (arith, c .before .if2 .left, c .before .before .if1 .left), e .pre .1))
+
+same-length-3 : tie.Need-same-length-3
+same-length-3 c = search needs
+
+returns-3 : tie.Need-returns-3
+returns-3 c = search needs
 
 pub read-values-spec : {M : Type 1} → statement M
 read-values-spec =
     tie.close
     (tie.spec
-    read-eights-requires
-    mul-from
-    add-from
-    add-if1
-    sub-read-few
-    add-read-few
-    read-few-requires
-    sub-read-last
-    add-read-last
-    read-last-requires
+    spread-requires
+    put-few-requires
     same-length
     returns
+    put-eight-requires
     same-length-2
-    returns-2)
+    returns-2
+    add-read-many
+    read-many-requires
+    same-length-3
+    returns-3)

@@ -1,6 +1,6 @@
 -- `pseudo_binary_writer::first_uncoded` meets its contract. The loop's invariant: the characters that were passed have codes.
 -- Assumes nothing.
-use mathlib.Core.Path.{sym, subst, subst⁻¹, _∙_}
+use mathlib.Core.Path.{sym, subst⁻¹, _∙_}
 use Prim.Native.Nat.{ℕ, _-_, _≤_}
 use native.Mathlib.Omega.{arith}
 use lib.Dec.{T}
@@ -10,6 +10,7 @@ use borrow.Author.Needs.{needs}
 use borrow.Author.Tests.{not-true, not-false}
 use Rattle.bits.proofs.Said.{said-yes}
 use Rattle.codes.specs.Size.{Coded}
+use Rattle.codes.proofs.Coded.{first-at}
 use Rattle.pseudo_binary.specs.Table.{coded}
 use Rattle.pseudo_binary_writer.proofs.first_uncoded.Statement.{statement}
 use Rattle.pseudo_binary_writer.proofs.first_uncoded.Tie as tie
@@ -37,11 +38,9 @@ is-coded-requires c κs = search needs
 
 returns-2 : tie.Need-returns-2 Inv-loop μ-loop
 returns-2 c =
-    record {
-      there = omega arith;
-      before = c .before .before .before .before .loop .inv .1;
-      none = λ t. subst T (sym (c .before .is-coded .ensures) ∙ not-true (c .before .is-coded .result) (c .if2 .taken)) t;
-    }
+    let a = c .before .before .before .before in
+    first-at coded (a .before .before .before .before .args .text .now) _ (a .loop .i) (omega arith) (omega arith) (a .loop .inv .1)
+    (sym (c .before .is-coded .ensures) ∙ not-true (c .before .is-coded .result) (c .if2 .taken))
 
 add-i : tie.Need-add-i Inv-loop μ-loop
 add-i c = omega arith
