@@ -186,7 +186,7 @@ int main(int count, char **words)
             measure("write", formats[f].name, job.packet_length - 6, &job, rounds);
         }
     }
-    printf("\nWith wrong header bits. The library searches for the bits to mend, tuned C looks them up in a table of 1,024 entries:\n\n");
+    printf("\nWith wrong header bits. The library finds the bits to mend by four small tables, tuned C in one of 1,024 entries:\n\n");
     print_heading();
     for (int wrong = 1; wrong <= 3; wrong++) {
         static const char *const names[] = {"read, 1 header bit wrong", "read, 2 header bits wrong", "refuse, 3 header bits wrong"};

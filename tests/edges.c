@@ -19,6 +19,8 @@ _Static_assert(ROSOPYAT_SHORT == 1 && ROSOPYAT_NO_HEADER == 2 && ROSOPYAT_OTHER_
                    ROSOPYAT_CHECKSUM == 6 && ROSOPYAT_MALFORMED == 7 && ROSOPYAT_NO_ROOM == 8 && ROSOPYAT_NO_CODE == 9 && ROSOPYAT_EMPTY == 10 &&
                    ROSOPYAT_TOO_LONG == 11 && ROSOPYAT_OTHER_FORMAT == 12,
                "numbers of the refusals");
+_Static_assert(ROSOPYAT_ACCEPTED == 0 && ROSOPYAT_OPEN == 0 && ROSOPYAT_PSEUDO_BINARY == 1 && ROSOPYAT_FULL_ASCII == 4, "numbers of the formats");
+_Static_assert(ROSOPYAT_MOST_DATA == 4000 && ROSOPYAT_OVERHEAD == 6 && ROSOPYAT_MOST_PACKET == 4006 && ROSOPYAT_MOST_TEXT == 85328, "limits");
 
 static unsigned checked, failed;
 

@@ -80,6 +80,8 @@ enum outcome {
     MALFORMED_PSEUDO_BINARY = DAMAGED_MENDED + 3,
     MALFORMED_FULL_ASCII,
     NO_ROOM_ONE_SHORT,
+    FLIPPED_3,
+    FLIPPED_4,
     WRITE_REFUSED, /* and its number, 8 to 12 */
     WRITE_OPEN = WRITE_REFUSED + 13,
     WRITE_PSEUDO_BINARY,
@@ -127,6 +129,8 @@ static const char *const outcome_name[OUTCOMES] = {
     [MALFORMED_PSEUDO_BINARY] = "malformed Compact Pseudo Binary",
     [MALFORMED_FULL_ASCII] = "malformed Compact Full ASCII",
     [NO_ROOM_ONE_SHORT] = "text buffer one byte too short",
+    [FLIPPED_3] = "read under a header with 3 bits flipped",
+    [FLIPPED_4] = "read under a header with 4 bits flipped",
     [WRITE_REFUSED + 8] = "writer refused 8, no room",
     [WRITE_REFUSED + 9] = "writer refused 9, no code",
     [WRITE_REFUSED + 10] = "writer refused 10, empty",
@@ -468,6 +472,8 @@ static void damage_header(void)
         flip(made.packet, done[i]);
     }
     made.mended = flips;
+    outcomes[FLIPPED_3] += flips == 3;
+    outcomes[FLIPPED_4] += flips == 4;
     if (flips > 2)
         made.known = false;
 }
