@@ -166,17 +166,17 @@ push-one held bits width v w h a b x y =
     sym (value-low 64 v ∙ mod-eq-of-lt a) ∙ ap value same ∙ (value-low 64 w ∙ mod-eq-of-lt b)
 
 -- the nine bits are ones where the bits that there are are a fill
-pub window-fill : (held have w : ℕ) → Window held have w → have ≤ 7 → w ≡ 511 → Fill (low have held)
+pub window-fill : (held have w : ℕ) → Window held have w → have ≤ 7 → w ≡ 511 → Fill 7 (low have held)
 unfolding low bit
 window-fill held have w v h e =
-    subst⁻¹ Fill
+    subst⁻¹ (Fill 7)
     (sym (take-at (low have held) (replicate 9 1) have (length-low have held))
     ∙ sym (take-take have 9 (low have held ++ replicate 9 1) (omega arith))
     ∙ ap (take have) (sym (v .nine) ∙ ap (low 9) e)
     ∙ take-ones have (omega arith))
-    (ones-fill have h)
+    (ones-fill 7 have h)
 
-pub fill-window : (held have w : ℕ) → Window held have w → Fill (low have held) → w ≡ 511
+pub fill-window : (held have w : ℕ) → Window held have w → Fill 7 (low have held) → w ≡ 511
 unfolding value
 fill-window held have w v f =
     sym (value-low 9 w ∙ mod-eq-of-lt (v .small))

@@ -1,4 +1,4 @@
--- What the reading of a format rests on: no code begins another, and the fill is never a code. A computed test of its tables gives it.
+-- What the reading of a scheme rests on: no code begins another, and the fill is never a code. A computed test of its tables gives it.
 -- Assumes nothing.
 use mathlib.Core.Path.{_≡_, sym, _∙_, subst}
 use mathlib.Core.Bool.{Bool, true, not, _&&_}
@@ -7,19 +7,19 @@ use mathlib.Core.List.{List, [], _∷_, List·Memᴰ·not-nil, List·Memᴰ·cas
 use Prim.Native.Nat.{ℕ, _<_}
 use lib.Dec.{T, T-not, ltb, ltb→lt}
 use lib.ListN.{length}
-use Rattle.codes.specs.Chain.{Entry, Tables, In, Fill, Begins}
+use Rattle.codes.specs.Chain.{Entry, Scheme, In, Fill, Begins}
 use Rattle.bits.proofs.Said.{and-left, and-right}
 use Rattle.codes.proofs.Every.{every, every-at}
 use Rattle.codes.proofs.Begin.{begun, begins-begun, either-begins}
 use Rattle.codes.proofs.Fill.{fills, fill-fills, fill-front}
 
-pub record Laws (tables : Tables) : Type 0 where
+pub record Laws (scheme : Scheme) : Type 0 where
   -- two entries of one table whose codes begin the same bits are the same
-  pub alone : (m : ℕ) (d e : Entry) → In d (tables m) → In e (tables m) → (bs : List ℕ) → Begins (d .code) bs
+  pub alone : (m : ℕ) (d e : Entry) → In d (scheme .table m) → In e (scheme .table m) → (bs : List ℕ) → Begins (d .code) bs
       → Begins (e .code) bs → d ≡ e
-  pub has-bits : (m : ℕ) (e : Entry) → In e (tables m) → 0 < length (e .code)
+  pub has-bits : (m : ℕ) (e : Entry) → In e (scheme .table m) → 0 < length (e .code)
   -- where no value is announced, no code begins a fill
-  pub no-fill : (e : Entry) → In e (tables 0) → (f : List ℕ) → Fill f → Begins (e .code) f → ⊥
+  pub no-fill : (e : Entry) → In e (scheme .table 0) → (f : List ℕ) → Fill (scheme .unused) f → Begins (e .code) f → ⊥
 
 -- neither code begins the other
 unfoldable pub parted : Entry → Entry → Bool
@@ -31,8 +31,8 @@ apart [] = true
 apart (e ∷ es) = ltb 0 (length (e .code)) && (every (parted e) es && apart es)
 
 -- no code is a fill
-unfoldable pub unfilled : List Entry → Bool
-unfilled es = every (λ (e : Entry). not (fills (e .code))) es
+unfoldable pub unfilled : ℕ → List Entry → Bool
+unfilled unused es = every (λ (e : Entry). not (fills unused (e .code))) es
 
 parted-never : (d e : Entry) → T (parted d e) → (bs : List ℕ) → Begins (d .code) bs → Begins (e .code) bs → ⊥
 unfolding parted
@@ -80,16 +80,17 @@ apart-has-bits (e ∷ es) t d h =
     (λ x. subst (λ (z : Entry). 0 < length (z .code)) (sym x) (ltb→lt 0 (length (e .code)) (apart-bits e es t)))
     (apart-has-bits es (apart-tail e es t) d) (List·Memᴰ·cases-cons h)
 
-unfilled-never : (es : List Entry) → T (unfilled es) → (e : Entry) → In e es → (f : List ℕ) → Fill f → Begins (e .code) f → ⊥
+unfilled-never : (unused : ℕ) (es : List Entry) → T (unfilled unused es) → (e : Entry) → In e es → (f : List ℕ) → Fill unused f
+    → Begins (e .code) f → ⊥
 unfolding unfilled
-unfilled-never es t e h f fill b =
-    T-not (fills (e .code)) (every-at (λ (z : Entry). not (fills (z .code))) es t e h)
-    (fill-fills (e .code) (fill-front (e .code) (b .0) (subst Fill (b .1) fill)))
+unfilled-never unused es t e h f fill b =
+    T-not (fills unused (e .code)) (every-at (λ (z : Entry). not (fills unused (z .code))) es t e h)
+    (fill-fills unused (e .code) (fill-front unused (e .code) (b .0) (subst (Fill unused) (b .1) fill)))
 
 -- the tests give the laws
-pub tested : (tables : Tables) → ((m : ℕ) → T (apart (tables m))) → T (unfilled (tables 0)) → Laws tables
-tested tables a u = record {
-  alone = λ m. apart-alone (tables m) (a m);
-  has-bits = λ m. apart-has-bits (tables m) (a m);
-  no-fill = unfilled-never (tables 0) u;
+pub tested : (scheme : Scheme) → ((m : ℕ) → T (apart (scheme .table m))) → T (unfilled (scheme .unused) (scheme .table 0)) → Laws scheme
+tested scheme a u = record {
+  alone = λ m. apart-alone (scheme .table m) (a m);
+  has-bits = λ m. apart-has-bits (scheme .table m) (a m);
+  no-fill = unfilled-never (scheme .unused) (scheme .table 0) u;
 }

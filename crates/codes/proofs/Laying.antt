@@ -6,7 +6,7 @@ use Prim.Native.Nat.{ℕ, _+_, _-_, _≤_}
 use native.Mathlib.Nat.{add-zero}
 use native.Mathlib.Omega.{arith}
 use lib.ListN.{length, length-append}
-use Rattle.codes.specs.Chain.{Tables, Fill, Builds}
+use Rattle.codes.specs.Chain.{Scheme, Fill, Builds}
 use Rattle.codes.specs.Laid.{laid, Readable, Placed}
 use Rattle.codes.specs.Measure.{Measures}
 use Rattle.codes.specs.Passed.{Passed, Counting, Laying}
@@ -16,52 +16,52 @@ use Rattle.codes.proofs.Laws.{Laws}
 use Rattle.codes.proofs.Passed.{passed-none, passed-front, passed-on, passed-builds, passed-stuck, passed-text}
 use Rattle.codes.proofs.Reading.{Halts, builds-end, stuck-here}
 
-pub counting-none : (tables : Tables) (bs : List ℕ) → Counting tables bs bs 0
-counting-none tables bs = record { said = []; counts = refl; passed = passed-none tables bs }
+pub counting-none : (scheme : Scheme) (bs : List ℕ) → Counting scheme bs bs 0
+counting-none scheme bs = record { said = []; counts = refl; passed = passed-none scheme bs }
 
-module _ {tables : Tables} {bs rest : List ℕ} {n : ℕ} (c : Counting tables bs rest n) where
+module _ {scheme : Scheme} {bs rest : List ℕ} {n : ℕ} (c : Counting scheme bs rest n) where
   -- k characters more
-  pub counting-more : {later : List ℕ} {k : ℕ} (more : List ℕ) → length more ≡ k → Passed tables bs 0 later (c .said ++ more)
-      → Counting tables bs later (n + k)
+  pub counting-more : {later : List ℕ} {k : ℕ} (more : List ℕ) → length more ≡ k → Passed scheme bs 0 later (c .said ++ more)
+      → Counting scheme bs later (n + k)
   counting-more more e p = record { said = c .said ++ more; counts = omega (arith, length-append (c .said) more, c .counts); passed = p }
 
   -- reading after reading
-  pub counting-on : {later : List ℕ} {k : ℕ} → Counting tables rest later k → Counting tables bs later (n + k)
+  pub counting-on : {later : List ℕ} {k : ℕ} → Counting scheme rest later k → Counting scheme bs later (n + k)
   counting-on d = counting-more (d .said) (d .counts) (passed-on (c .passed) (d .passed))
 
   -- what follows the bits does not matter
-  pub counting-front : (more : List ℕ) → Counting tables (bs ++ more) (rest ++ more) n
+  pub counting-front : (more : List ℕ) → Counting scheme (bs ++ more) (rest ++ more) n
   counting-front more = record { said = c .said; counts = c .counts; passed = passed-front more (c .passed) }
 
   -- the ends of the reading
-  pub counting-end : Fill rest → Measures tables bs (Text n)
+  pub counting-end : Fill (scheme .unused) rest → Measures scheme bs (Text n)
   counting-end f = (
     c .said,
     c .counts,
-    subst (Builds tables 0 bs) (append-nil (c .said)) (passed-builds rest [] (c .passed) (builds-end tables f)),
+    subst (Builds scheme 0 bs) (append-nil (c .said)) (passed-builds rest [] (c .passed) (builds-end scheme f)),
   )
 
-  pub counting-stuck : (i : ℕ) → i + length rest ≡ length bs → Halts tables 0 rest → (Fill rest → ⊥) → Measures tables bs (Malformed i)
+  pub counting-stuck : (i : ℕ) → i + length rest ≡ length bs → Halts scheme 0 rest → (Fill (scheme .unused) rest → ⊥) → Measures scheme bs (Malformed i)
   counting-stuck i e h f = passed-stuck rest i 0 (c .passed) (omega arith) (stuck-here h (λ x. f))
 
   -- what the rest comes to, of the whole
-  pub counting-text : (k : ℕ) → Measures tables rest (Text k) → Measures tables bs (Text (n + k))
+  pub counting-text : (k : ℕ) → Measures scheme rest (Text k) → Measures scheme bs (Text (n + k))
   counting-text k t = (
     c .said ++ t .0,
     omega (arith, length-append (c .said) (t .0), c .counts, t .1),
     passed-builds rest (t .0) (c .passed) (t .2),
   )
 
-  pub counting-malformed : (i j : ℕ) → j + length rest ≡ length bs + i → Measures tables rest (Malformed i) → Measures tables bs (Malformed j)
+  pub counting-malformed : (i j : ℕ) → j + length rest ≡ length bs + i → Measures scheme rest (Malformed i) → Measures scheme bs (Malformed j)
   counting-malformed i j e s = passed-stuck rest j i (c .passed) e s
 
-pub laying-none : (tables : Tables) (bs out : List ℕ) (n : ℕ) → Laying tables bs bs out out n n
-laying-none tables bs out n = record { said = []; passed = passed-none tables bs; place = sym (add-zero n); whole = sym (laid-nil out n) }
+pub laying-none : (scheme : Scheme) (bs out : List ℕ) (n : ℕ) → Laying scheme bs bs out out n n
+laying-none scheme bs out n = record { said = []; passed = passed-none scheme bs; place = sym (add-zero n); whole = sym (laid-nil out n) }
 
-module _ {tables : Tables} {bs rest entry out : List ℕ} {m n : ℕ} (y : Laying tables bs rest entry out m n) where
+module _ {scheme : Scheme} {bs rest entry out : List ℕ} {m n : ℕ} (y : Laying scheme bs rest entry out m n) where
   -- k characters more, laid after what stands there
-  pub laying-more : {later : List ℕ} {k : ℕ} (more : List ℕ) → length more ≡ k → n ≤ length entry → Passed tables bs 0 later (y .said ++ more)
-      → Laying tables bs later entry (laid out n more) m (n + k)
+  pub laying-more : {later : List ℕ} {k : ℕ} (more : List ℕ) → length more ≡ k → n ≤ length entry → Passed scheme bs 0 later (y .said ++ more)
+      → Laying scheme bs later entry (laid out n more) m (n + k)
   laying-more more e h p = record {
     said = y .said ++ more;
     passed = p;
@@ -70,8 +70,8 @@ module _ {tables : Tables} {bs rest entry out : List ℕ} {m n : ℕ} (y : Layin
   }
 
   -- reading after reading
-  pub laying-on : {later exit : List ℕ} {k : ℕ} → n ≤ length entry → Laying tables rest later out exit n k
-      → Laying tables bs later entry exit m k
+  pub laying-on : {later exit : List ℕ} {k : ℕ} → n ≤ length entry → Laying scheme rest later out exit n k
+      → Laying scheme bs later entry exit m k
   laying-on h z = record {
     said = y .said ++ z .said;
     passed = passed-on (y .passed) (z .passed);
@@ -81,7 +81,7 @@ module _ {tables : Tables} {bs rest entry out : List ℕ} {m n : ℕ} (y : Layin
   }
 
   -- what follows the bits does not matter
-  pub laying-front : (more : List ℕ) → Laying tables (bs ++ more) (rest ++ more) entry out m n
+  pub laying-front : (more : List ℕ) → Laying scheme (bs ++ more) (rest ++ more) entry out m n
   laying-front more = record { said = y .said; passed = passed-front more (y .passed); place = y .place; whole = y .whole }
 
   -- a buffer keeps its length
@@ -89,16 +89,16 @@ module _ {tables : Tables} {bs rest entry out : List ℕ} {m n : ℕ} (y : Layin
   laying-length h = ap length (y .whole) ∙ length-laid entry m (y .said) (omega (arith, y .place))
 
   -- the end of the reading
-  pub laying-end : Fill rest → Placed tables bs entry out m n
+  pub laying-end : Fill (scheme .unused) rest → Placed scheme bs entry out m n
   laying-end f = record {
     text = y .said;
-    reads = subst (Builds tables 0 bs) (append-nil (y .said)) (passed-builds rest [] (y .passed) (builds-end tables f));
+    reads = subst (Builds scheme 0 bs) (append-nil (y .said)) (passed-builds rest [] (y .passed) (builds-end scheme f));
     place = y .place;
     whole = y .whole;
   }
 
   -- the text of the rest laid after it
-  pub laying-last : {exit : List ℕ} {r : ℕ} → n ≤ length entry → Placed tables rest out exit n r → Placed tables bs entry exit m r
+  pub laying-last : {exit : List ℕ} {r : ℕ} → n ≤ length entry → Placed scheme rest out exit n r → Placed scheme bs entry exit m r
   laying-last h p = record {
     text = y .said ++ p .text;
     reads = passed-builds rest (p .text) (y .passed) (p .reads);
@@ -108,8 +108,8 @@ module _ {tables : Tables} {bs rest entry out : List ℕ} {m n : ℕ} (y : Layin
   }
 
   -- where the whole can be read: the text goes on after what was said, and there is room for it
-  module _ (laws : Laws tables) {room : ℕ} (f : Readable tables bs room) where
-    pub laying-later : Readable tables rest (m + room - n)
+  module _ (laws : Laws scheme) {room : ℕ} (f : Readable scheme bs room) where
+    pub laying-later : Readable scheme rest (m + room - n)
     laying-later =
         let p = passed-text laws rest (f .text) (y .passed) (f .reads) in
         record {

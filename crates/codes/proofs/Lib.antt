@@ -14,6 +14,7 @@ pub mod Least
 pub mod Low
 pub mod Numbers
 pub mod Only
+pub mod Others
 pub mod Pack
 pub mod Passed
 pub mod Reading

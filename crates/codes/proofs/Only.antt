@@ -11,7 +11,7 @@ use borrow.Author.Tests.{lt-ltb, le-ltb}
 use lib.Dec.{ltb}
 use lib.ListN.{length, drop}
 use Rattle.codes.specs.Chain as chain
-use Rattle.codes.specs.Chain.{Tables, Built}
+use Rattle.codes.specs.Chain.{Scheme, Built}
 use Rattle.codes.specs.Laid.{Fronted}
 use Rattle.codes.specs.Measure.{Comes, Enters, ReadsInto}
 use Rattle.codes.specs.declared.Outcome.{Outcome}
@@ -28,8 +28,8 @@ use Rattle.codes.specs.declared.Uncoded.the-variants.{At, Nowhere}
 use Rattle.codes.proofs.Laws.{Laws}
 use Rattle.codes.proofs.Reading.{one-text, one-place, never-both}
 
-module _ {tables : Tables} (laws : Laws tables) (sent : List ℕ) where
-  pub one-outcome : (a b : Outcome) → Comes tables sent a → Comes tables sent b → a ≡ b
+module _ {scheme : Scheme} (laws : Laws scheme) (sent : List ℕ) where
+  pub one-outcome : (a b : Outcome) → Comes scheme sent a → Comes scheme sent b → a ≡ b
   one-outcome (Outcome.Text m) (Outcome.Text n) h k =
       ap {B = Outcome} Outcome.Text (sym (h .1 .1) ∙ ap length (one-text laws (h .1 .2) (k .1 .2)) ∙ k .1 .1)
   one-outcome (Outcome.Text m) (Outcome.Malformed j) h k = absurd (never-both laws (h .1 .2) (k .1))
@@ -70,10 +70,10 @@ module _ (Carried : List ℕ → Type 0) (Place : ℕ → Type 0) (one : (t u : 
   one-entry Taken.TooLong Taken.TooLong x y (s, e) (s′, e′) = (refl, e ∙ sym e′)
 
 -- of a format whose table has the laws
-pub one-reading : {tables : Tables} → Laws tables → (sent entry : List ℕ) (a b : Taken) (x y : List ℕ)
-    → ReadsInto tables sent entry a x → ReadsInto tables sent entry b y → (a ≡ b) × (x ≡ y)
-one-reading {tables} laws sent entry =
-    one-entry (λ (text : List ℕ). Built tables text sent) (chain.Malformed tables sent) (λ t u p q. one-text laws p q) (λ i j p q. one-place laws p q)
+pub one-reading : {scheme : Scheme} → Laws scheme → (sent entry : List ℕ) (a b : Taken) (x y : List ℕ)
+    → ReadsInto scheme sent entry a x → ReadsInto scheme sent entry b y → (a ≡ b) × (x ≡ y)
+one-reading {scheme} laws sent entry =
+    one-entry (λ (text : List ℕ). Built scheme text sent) (chain.Malformed scheme sent) (λ t u p q. one-text laws p q) (λ i j p q. one-place laws p q)
     (λ t i p q. never-both laws p q) (length sent) entry
 
 -- ---- the contracts of what a text asks before it is written

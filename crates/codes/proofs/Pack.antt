@@ -11,8 +11,8 @@ use lib.ListN.{length, take, drop, replicate, length-append, length-drop, length
 use lib.Seq.{drop-nil, length-take-le, drop-append-add}
 use Rattle.bits.specs.Row.{bits, Bytes}
 use Rattle.bits.specs.Word.{bit}
-use Rattle.codes.specs.Chain.{Entry, Tables, after, Row, codes, texts, Built}
-use Rattle.codes.specs.Pack.{Binary, low, value, bytes, packed, gap, filled, written}
+use Rattle.codes.specs.Chain.{Entry, Scheme, after, Row, codes, texts, Built}
+use Rattle.codes.specs.Pack.{Binary, low, value, bytes, packed, gap, filled, written, Closes}
 use Rattle.bits.proofs.Said.{and-left, and-right}
 use Rattle.codes.proofs.Every.{every, every-at}
 use Rattle.codes.proofs.Fill.{ones-fill}
@@ -146,13 +146,13 @@ every-binary (b ∷ bs) t =
     let later : Bool = every (λ (x : ℕ). ltb x 2) bs in
     (ltb→lt b 2 (and-left (ltb b 2) later t), every-binary bs (and-right (ltb b 2) later t))
 
-pub row-binary : (tables : Tables) → ((m : ℕ) → T (every binary (tables m))) → (m n : ℕ) (es : List Entry) → Row tables m es n
+pub row-binary : (scheme : Scheme) → ((m : ℕ) → T (every binary (scheme .table m))) → (m n : ℕ) (es : List Entry) → Row scheme m es n
     → Binary (codes es)
 unfolding codes binary
-row-binary tables t m n [] r = tt
-row-binary tables t m n (e ∷ es) r =
-    binary-append (e .code) (codes es) (every-binary (e .code) (every-at binary (tables m) (t m) e (r .0)))
-    (row-binary tables t (after m e) n es (r .1))
+row-binary scheme t m n [] r = tt
+row-binary scheme t m n (e ∷ es) r =
+    binary-append (e .code) (codes es) (every-binary (e .code) (every-at binary (scheme .table m) (t m) e (r .0)))
+    (row-binary scheme t (after m e) n es (r .1))
 
 -- what entries are written as
 module _ (es : List Entry) where
@@ -168,19 +168,30 @@ module _ (es : List Entry) where
   unfolding written
   written-bytes h = packed-bytes (filled (codes es)) (filled-binary (codes es) h) (filled-whole (codes es))
 
-  -- it is a building of what they say
-  pub written-built : {tables : Tables} → Row tables 0 es 0 → Binary (codes es) → Built tables (texts es) (written es)
-  written-built r h = record {
+  -- it is a building of what they say, where they close
+  pub written-built : {scheme : Scheme} → Closes scheme es → Row scheme 0 es 0 → Binary (codes es) → Built scheme (texts es) (written es)
+  written-built {scheme} few r h = record {
     entries = es;
     fill = replicate (gap (length (codes es))) 1;
     row = r;
     says = refl;
-    ends = ones-fill (gap (length (codes es))) (gap-few (length (codes es)));
+    ends = ones-fill (scheme .unused) (gap (length (codes es))) few;
     bits = bits-written h;
   }
 
--- a building has as many bytes as its codes need
-pub built-length : {tables : Tables} {text : List ℕ} (sent : List ℕ) (b : Built tables text sent)
+gap-least : (n f k : ℕ) → n + f ≡ k * 8 → gap n ≤ f
+unfolding gap
+gap-least n f k e = omega arith
+
+-- the entries of a building close
+pub built-closes : {scheme : Scheme} {text : List ℕ} (sent : List ℕ) (b : Built scheme text sent) → Closes scheme (b .entries)
+built-closes sent b =
+    let whole : length (codes (b .entries)) + length (b .fill) ≡ length sent * 8 =
+    omega (arith, length-bits sent, ap length (b .bits), length-append (codes (b .entries)) (b .fill)) in
+    omega (arith, gap-least (length (codes (b .entries))) (length (b .fill)) (length sent) whole, b .ends .few)
+
+-- a building has as many bytes as its codes need, where fewer bits may be unused than a byte has
+pub built-length : {scheme : Scheme} {text : List ℕ} → scheme .unused < 8 → (sent : List ℕ) (b : Built scheme text sent)
     → length sent ≡ (length (codes (b .entries)) + 7) / 8
-built-length sent b =
+built-length few sent b =
     omega (arith, length-bits sent, ap length (b .bits), length-append (codes (b .entries)) (b .fill), b .ends .few)

@@ -1,4 +1,4 @@
--- Formats with one table, in which nothing is announced: the state is 0 throughout.
+-- Schemes with one table, in which nothing is announced: the state is 0 throughout.
 -- Assumes nothing.
 use mathlib.Core.Path.{_≡_, subst, subst⁻¹}
 use mathlib.Core.Bool.{Bool}
@@ -20,14 +20,15 @@ module _ {table : List Entry} (mutes : T (every mute table)) where
   unfolding after mute
   stays {e} h = omega (arith, eqb→eq (e .announces) 0 (every-at mute table mutes e h))
 
-  pub row-one : {e : Entry} (es : List Entry) → In e table → Row (single table) 0 es 0 → Row (single table) 0 (e ∷ es) 0
-  row-one es h r = (h, subst⁻¹ (λ (n : ℕ). Row (single table) n es 0) (stays h) r)
+  module _ (unused : ℕ) where
+    pub row-one : {e : Entry} (es : List Entry) → In e table → Row (single table unused) 0 es 0 → Row (single table unused) 0 (e ∷ es) 0
+    row-one es h r = (h, subst⁻¹ (λ (n : ℕ). Row (single table unused) n es 0) (stays h) r)
 
-  pub builds-one : {e : Entry} {bs text : List ℕ} → In e table → Builds (single table) 0 bs text
-      → Builds (single table) 0 (e .code ++ bs) (e .says ++ text)
-  builds-one {e} {bs} {text} h r = builds-more h (subst⁻¹ (λ (n : ℕ). Builds (single table) n bs text) (stays h) r)
+    pub builds-one : {e : Entry} {bs text : List ℕ} → In e table → Builds (single table unused) 0 bs text
+        → Builds (single table unused) 0 (e .code ++ bs) (e .says ++ text)
+    builds-one {e} {bs} {text} h r = builds-more h (subst⁻¹ (λ (n : ℕ). Builds (single table unused) n bs text) (stays h) r)
 
-  pub passed-one : {bs said : List ℕ} (rest later : List ℕ) → Passed (single table) bs 0 rest said → (e : Entry) → In e table
-      → rest ≡ e .code ++ later → Passed (single table) bs 0 later (said ++ e .says)
-  passed-one {bs} {said} rest later p e h x =
-      subst (λ (n : ℕ). Passed (single table) bs n later (said ++ e .says)) (stays h) (passed-more rest later p e h x)
+    pub passed-one : {bs said : List ℕ} (rest later : List ℕ) → Passed (single table unused) bs 0 rest said → (e : Entry) → In e table
+        → rest ≡ e .code ++ later → Passed (single table unused) bs 0 later (said ++ e .says)
+    passed-one {bs} {said} rest later p e h x =
+        subst (λ (n : ℕ). Passed (single table unused) bs n later (said ++ e .says)) (stays h) (passed-more rest later p e h x)

@@ -1,4 +1,4 @@
--- Data of a byte or more that can be read has a text: eight bits are no fill, and no row of entries from where none is announced is silent.
+-- Data of more bits than may be unused that can be read has a text: they are no fill, and no row of entries from where none is announced is silent.
 -- Assumes nothing.
 use mathlib.Core.Path.{_≡_, refl, ap, subst}
 use mathlib.Core.Bool.{Bool}
@@ -7,13 +7,13 @@ use Prim.Native.Nat.{ℕ, zero, suc, _+_, _≤_, _<_}
 use native.Mathlib.Omega.{arith}
 use lib.Dec.{T, ltb, ltb→lt}
 use lib.ListN.{length, length-append}
-use Rattle.codes.specs.Chain.{Entry, Tables, In, after, Row, codes, texts, Builds}
+use Rattle.codes.specs.Chain.{Entry, Scheme, In, after, Row, codes, texts, Builds}
 use Rattle.codes.proofs.Every.{every, every-at}
 
 -- an indicator or code says something or announces something, and a value says something
-pub record Speaks (tables : Tables) : Type 0 where
-  pub first : (e : Entry) → In e (tables 0) → 0 < length (e .says) + e .announces
-  pub value : (m : ℕ) (e : Entry) → In e (tables (suc m)) → 0 < length (e .says)
+pub record Speaks (scheme : Scheme) : Type 0 where
+  pub first : (e : Entry) → In e (scheme .table 0) → 0 < length (e .says) + e .announces
+  pub value : (m : ℕ) (e : Entry) → In e (scheme .table (suc m)) → 0 < length (e .says)
 
 unfoldable pub heard : Entry → Bool
 heard e = ltb 0 (length (e .says) + e .announces)
@@ -22,20 +22,20 @@ unfoldable pub said : Entry → Bool
 said e = ltb 0 (length (e .says))
 
 -- the tests give it
-pub speaks : (tables : Tables) → T (every heard (tables 0)) → ((m : ℕ) → T (every said (tables (suc m)))) → Speaks tables
+pub speaks : (scheme : Scheme) → T (every heard (scheme .table 0)) → ((m : ℕ) → T (every said (scheme .table (suc m)))) → Speaks scheme
 unfolding heard said
-speaks tables t u = record {
-  first = λ e h. ltb→lt 0 (length (e .says) + e .announces) (every-at heard (tables 0) t e h);
-  value = λ m e h. ltb→lt 0 (length (e .says)) (every-at said (tables (suc m)) (u m) e h);
+speaks scheme t u = record {
+  first = λ e h. ltb→lt 0 (length (e .says) + e .announces) (every-at heard (scheme .table 0) t e h);
+  value = λ m e h. ltb→lt 0 (length (e .says)) (every-at said (scheme .table (suc m)) (u m) e h);
 }
 
-module _ {tables : Tables} (s : Speaks tables) where
-  value-says : (m : ℕ) (es : List Entry) → Row tables (suc m) es 0 → 0 < length (texts es)
+module _ {scheme : Scheme} (s : Speaks scheme) where
+  value-says : (m : ℕ) (es : List Entry) → Row scheme (suc m) es 0 → 0 < length (texts es)
   unfolding texts
   value-says m [] r = absurd (let no′ : ⊥ = omega arith in no′)
   value-says m (e ∷ es) r = omega (arith, s .value m e (r .0), length-append (e .says) (texts es))
 
-  first-says : (e : Entry) (es : List Entry) → In e (tables 0) → Row tables (after 0 e) es 0 → 0 < length (texts (e ∷ es))
+  first-says : (e : Entry) (es : List Entry) → In e (scheme .table 0) → Row scheme (after 0 e) es 0 → 0 < length (texts (e ∷ es))
   unfolding texts after
   first-says e es h r = pick (e .announces) refl
     where
@@ -44,14 +44,14 @@ module _ {tables : Tables} (s : Speaks tables) where
       pick (suc m) x =
           omega (
             arith,
-            value-says m es (subst (λ (k : ℕ). Row tables k es 0) (let y : after 0 e ≡ suc m = omega arith in y) r),
+            value-says m es (subst (λ (k : ℕ). Row scheme k es 0) (let y : after 0 e ≡ suc m = omega arith in y) r),
             length-append (e .says) (texts es),
           )
 
-  pub never-silent : {bs text : List ℕ} → Builds tables 0 bs text → 8 ≤ length bs → 0 < length text
+  pub never-silent : {bs text : List ℕ} → Builds scheme 0 bs text → scheme .unused < length bs → 0 < length text
   unfolding codes
   never-silent {bs} {text} r h = pick (r .entries) (r .row) (r .says) (r .bits)
     where
-      pick : (es : List Entry) → Row tables 0 es 0 → texts es ≡ text → bs ≡ codes es ++ r .fill → 0 < length text
+      pick : (es : List Entry) → Row scheme 0 es 0 → texts es ≡ text → bs ≡ codes es ++ r .fill → 0 < length text
       pick [] row x y = absurd (let no′ : ⊥ = omega (arith, r .ends .few, ap length y) in no′)
       pick (e ∷ es) row x y = subst (λ (t : List ℕ). 0 < length t) x (first-says e es (row .0) (row .1))

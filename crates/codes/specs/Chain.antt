@@ -1,5 +1,6 @@
--- What both compact kinds share (001, 4.2 and 4.5; 01, "The three kinds of data"): codes in a row, then ones up to the byte's end. What a maker may
--- build (01, "Promises that say enough"), and where data is malformed (01, refusal 7). What reading gives has a definition of its own, in Reading.
+-- What the compact kinds share (001, 4.2 to 4.5; 01, "The three kinds of data"): codes in a row, then ones for what is unused of the last byte. What a
+-- maker may build (01, "Promises that say enough"), and where data is malformed (01, refusal 7). What reading gives has a definition of its own, in
+-- Reading.
 -- Assumes nothing.
 use mathlib.Core.Path.{_≡_}
 use mathlib.Core.List.{List, [], _∷_, _++_, List·Memᴰ}
@@ -13,13 +14,15 @@ pub record Entry : Type 0 where
   pub says : List ℕ
   pub announces : ℕ
 
--- a format has a table for each state; the state is how many values are still announced
-abbrev pub Tables : Type 0
-Tables = ℕ → List Entry
+-- a compaction scheme has a table for each state, and at its end so many unused bits of the last byte or fewer (001, 4.4 and 4.5: seven; 4.3: none).
+-- The state is how many values are still announced
+pub record Scheme : Type 0 where
+  pub table : ℕ → List Entry
+  pub unused : ℕ
 
--- a format in which nothing is announced has one table
-abbrev pub single : List Entry → Tables
-single table m = table
+-- a scheme in which nothing is announced has one table
+abbrev pub single : List Entry → ℕ → Scheme
+single entries most = record { table = λ m. entries; unused = most }
 
 -- the entry stands in the table
 abbrev pub In : Entry → List Entry → Type 0
@@ -30,9 +33,9 @@ unfoldable pub after : ℕ → Entry → ℕ
 after m e = pred m + e .announces
 
 -- the entries, each out of the table of the state that it is met in, lead from state m to state n
-abbrev pub Row : Tables → ℕ → List Entry → ℕ → Type 0
-Row tables m [] n = m ≡ n
-Row tables m (e ∷ es) n = In e (tables m) × Row tables (after m e) es n
+abbrev pub Row : Scheme → ℕ → List Entry → ℕ → Type 0
+Row scheme m [] n = m ≡ n
+Row scheme m (e ∷ es) n = In e (scheme .table m) × Row scheme (after m e) es n
 
 -- their codes in a row: a stream of bits and not of bytes (001, 4.2.2.2 and 4.5)
 unfoldable pub codes : List Entry → List ℕ
@@ -44,9 +47,9 @@ unfoldable pub texts : List Entry → List ℕ
 texts [] = []
 texts (e ∷ es) = e .says ++ texts es
 
--- seven or fewer bits that are all ones (001, 4.5; by 01 in both kinds)
-pub record Fill (f : List ℕ) : Type 0 where
-  pub few : length f ≤ 7
+-- so many bits or fewer that are all ones: seven, where the last byte is filled with ones (001, 4.4 and 4.5; by 01 in Pseudo Binary too)
+pub record Fill (unused : ℕ) (f : List ℕ) : Type 0 where
+  pub few : length f ≤ unused
   pub ones : f ≡ replicate (length f) 1
 
 -- the bits c begin the bits bs
@@ -55,30 +58,30 @@ Begins c bs = (rest : List ℕ) × (bs ≡ c ++ rest)
 
 -- from state m these bits are a building of the text: entries that say it, their codes in a row, then fill.
 -- No announced value is missing at the end
-pub record Builds (tables : Tables) (m : ℕ) (bs text : List ℕ) : Type 0 where
+pub record Builds (scheme : Scheme) (m : ℕ) (bs text : List ℕ) : Type 0 where
   pub entries : List Entry
   pub fill : List ℕ
-  pub row : Row tables m entries 0
+  pub row : Row scheme m entries 0
   pub says : texts entries ≡ text
-  pub ends : Fill fill
+  pub ends : Fill (scheme .unused) fill
   pub bits : bs ≡ codes entries ++ fill
 
 -- from state m the reading is stuck at bit i: entries take the bits before it, no entry of the table begins what follows, and the reading does not
--- end there. It ends where the next indicator or code would start and no bits remain, or seven or fewer that are all ones
-pub record Stuck (tables : Tables) (m : ℕ) (bs : List ℕ) (i : ℕ) : Type 0 where
+-- end there. It ends where the next indicator or code would start and no bits remain, or as few as may be unused that are all ones
+pub record Stuck (scheme : Scheme) (m : ℕ) (bs : List ℕ) (i : ℕ) : Type 0 where
   pub entries : List Entry
   pub state : ℕ
   pub rest : List ℕ
-  pub row : Row tables m entries state
+  pub row : Row scheme m entries state
   pub place : i ≡ length (codes entries)
   pub bits : bs ≡ codes entries ++ rest
-  pub none : (e : Entry) → In e (tables state) → Begins (e .code) rest → ⊥
-  pub no-end : state ≡ 0 → Fill rest → ⊥
+  pub none : (e : Entry) → In e (scheme .table state) → Begins (e .code) rest → ⊥
+  pub no-end : state ≡ 0 → Fill (scheme .unused) rest → ⊥
 
 -- what a maker may build of the text: its data bytes are such codes and fill, from where no value is announced
-abbrev pub Built : Tables → List ℕ → List ℕ → Type 0
-Built tables text sent = Builds tables 0 (bits sent) text
+abbrev pub Built : Scheme → List ℕ → List ℕ → Type 0
+Built scheme text sent = Builds scheme 0 (bits sent) text
 
 -- the data is malformed, and the first unreadable indicator, value or code starts at bit i
-abbrev pub Malformed : Tables → List ℕ → ℕ → Type 0
-Malformed tables sent i = Stuck tables 0 (bits sent) i
+abbrev pub Malformed : Scheme → List ℕ → ℕ → Type 0
+Malformed scheme sent i = Stuck scheme 0 (bits sent) i

@@ -4,7 +4,7 @@ use mathlib.Core.Path.{_≡_}
 use mathlib.Core.List.{List, _++_}
 use Prim.Native.Nat.{ℕ, _+_, _≤_}
 use lib.ListN.{length, take, drop}
-use Rattle.codes.specs.Chain.{Tables, Builds}
+use Rattle.codes.specs.Chain.{Scheme, Builds}
 use Rattle.codes.specs.Pack.{packed, filled}
 
 -- the row c over d, from place n on
@@ -12,15 +12,15 @@ unfoldable pub laid : List ℕ → ℕ → List ℕ → List ℕ
 laid d n c = take n d ++ (c ++ drop (n + length c) d)
 
 -- the bits are a building of a text that there is room for
-pub record Readable (tables : Tables) (bs : List ℕ) (room : ℕ) : Type 0 where
+pub record Readable (scheme : Scheme) (bs : List ℕ) (room : ℕ) : Type 0 where
   pub text : List ℕ
-  pub reads : Builds tables 0 bs text
+  pub reads : Builds scheme 0 bs text
   pub fits : length text ≤ room
 
 -- the text of the bits stands in the buffer from place n on, up to place r, and nothing else changed
-pub record Placed (tables : Tables) (bs entry exit : List ℕ) (n r : ℕ) : Type 0 where
+pub record Placed (scheme : Scheme) (bs entry exit : List ℕ) (n r : ℕ) : Type 0 where
   pub text : List ℕ
-  pub reads : Builds tables 0 bs text
+  pub reads : Builds scheme 0 bs text
   pub place : r ≡ n + length text
   pub whole : exit ≡ laid entry n text
 

@@ -5,7 +5,7 @@ use mathlib.Core.List.{List, _++_}
 use Prim.Native.Nat.{ℕ, _^_, _≤_, _<_}
 use lib.ListN.{length, drop}
 use Rattle.codes.specs.Chain as chain
-use Rattle.codes.specs.Chain.{Tables, Builds, Stuck, Built}
+use Rattle.codes.specs.Chain.{Scheme, Builds, Stuck, Built}
 use Rattle.bits.specs.Row.{bits}
 use Rattle.codes.specs.declared.Outcome.{Outcome}
 use Rattle.codes.specs.declared.Outcome.the-variants as Outcome
@@ -15,19 +15,19 @@ use Rattle.codes.specs.declared.Taken.{Taken}
 use Rattle.codes.specs.declared.Taken.the-variants as Taken
 
 -- the bits are a building of a text of this length, or the reading is stuck at this bit
-abbrev pub Measures : Tables → List ℕ → Measured → Type 0
-Measures tables bs (Text n) = (text : List ℕ) × (length text ≡ n) × Builds tables 0 bs text
-Measures tables bs (Malformed i) = Stuck tables 0 bs i
+abbrev pub Measures : Scheme → List ℕ → Measured → Type 0
+Measures scheme bs (Text n) = (text : List ℕ) × (length text ≡ n) × Builds scheme 0 bs text
+Measures scheme bs (Malformed i) = Stuck scheme 0 bs i
 
 -- data of fewer bytes has no more bits or characters than a number of 64 bits counts
 abbrev pub countable : ℕ
 countable = 2 ^ 56
 
 -- the data comes to a text or a place, or is so long that they may not be counted
-abbrev pub Comes : Tables → List ℕ → Outcome → Type 0
-Comes tables sent (Outcome.Text n) = (length sent < countable) × Measures tables (bits sent) (Text n)
-Comes tables sent (Outcome.Malformed i) = (length sent < countable) × Measures tables (bits sent) (Malformed i)
-Comes tables sent Outcome.TooLong = countable ≤ length sent
+abbrev pub Comes : Scheme → List ℕ → Outcome → Type 0
+Comes scheme sent (Outcome.Text n) = (length sent < countable) × Measures scheme (bits sent) (Text n)
+Comes scheme sent (Outcome.Malformed i) = (length sent < countable) × Measures scheme (bits sent) (Malformed i)
+Comes scheme sent Outcome.TooLong = countable ≤ length sent
 
 -- data of so many bytes read into a buffer, by which texts it carries and at which bits it is malformed: its text at the front, of this length, and
 -- behind it the buffer as it was; or the buffer as it was, and the malformed bit, the length of a text that has no room, or that the data is too long to
@@ -41,5 +41,5 @@ Enters Carried Place size entry (Taken.NoRoom n) exit =
 Enters Carried Place size entry Taken.TooLong exit = (countable ≤ size) × (exit ≡ entry)
 
 -- data of a format read into a buffer
-abbrev pub ReadsInto : Tables → List ℕ → List ℕ → Taken → List ℕ → Type 0
-ReadsInto tables sent = Enters (λ text. Built tables text sent) (chain.Malformed tables sent) (length sent)
+abbrev pub ReadsInto : Scheme → List ℕ → List ℕ → Taken → List ℕ → Type 0
+ReadsInto scheme sent = Enters (λ text. Built scheme text sent) (chain.Malformed scheme sent) (length sent)

@@ -54,10 +54,10 @@ pub fn window(held: u64, have: u64) -> u64
     (held << short) % 512 + ((1 << short) - 1)
 }
 
-// Whether the lowest `have` bits of `held` are a fill.
+// Whether the lowest `have` bits of `held` are a fill, where seven bits may be unused.
 pub fn at_end(held: u64, have: u64) -> bool
     requires { ⌜ have ≤ 64 ⌝ }
-    ensures { λ r. ⌜ Says r (Fill (low have held)) ⌝ }
+    ensures { λ r. ⌜ Says r (Fill 7 (low have held)) ⌝ }
 {
     if 7 < have {
         return false;

@@ -107,8 +107,8 @@ malformed-means format carried = (
 -- and its bit is where reading the data, as 01 has it read, is stuck
 abbrev Stops : Format → List ℕ → ℕ → Type 0
 Stops Open carried bit = ⊥
-Stops PseudoBinary carried bit = codes-reading.Reads pseudo.tables carried (stuck bit)
-Stops FullAscii carried bit = codes-reading.Reads ascii.tables carried (stuck bit)
+Stops PseudoBinary carried bit = codes-reading.Reads pseudo.scheme carried (stuck bit)
+Stops FullAscii carried bit = codes-reading.Reads ascii.scheme carried (stuck bit)
 
 pub malformed-bit : (format : Format) (carried : List ℕ) (bit : ℕ) → Unreadable format carried bit ↔ Stops format carried bit
 malformed-bit Open carried bit = (λ u. u, λ s. s)

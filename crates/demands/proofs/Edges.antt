@@ -26,7 +26,7 @@ use Rattle.mending.specs.declared.Mending.the-variants.{Mended}
 use Rattle.mending.specs.Mends.{distance, Near, Mends}
 use Rattle.mending.proofs.All.{all, all-at}
 use Rattle.mending.proofs.Search.{none-at, none-around}
-use Rattle.codes.specs.Chain.{Tables, after, codes, Builds, Stuck}
+use Rattle.codes.specs.Chain.{Scheme, after, codes, Builds, Stuck}
 use Rattle.codes.specs.Pack.{low, numbers, value, bytes, packed, gap, filled, written}
 use Rattle.codes.specs.Size.{longest}
 use Rattle.codes.proofs.Begin.{begun}
@@ -166,8 +166,8 @@ same-is (c ∷ l) (d ∷ m) t =
 
 reading : Format → List ℕ → Answer
 reading Open carried = reads-text carried
-reading PseudoBinary carried = answer pseudo.tables (length (bits carried)) 0 (bits carried)
-reading FullAscii carried = answer ascii.tables (length (bits carried)) 0 (bits carried)
+reading PseudoBinary carried = answer pseudo.scheme (length (bits carried)) 0 (bits carried)
+reading FullAscii carried = answer ascii.scheme (length (bits carried)) 0 (bits carried)
 
 comes-to : Answer → List ℕ → Bool
 comes-to (reads-text t) text = same t text
@@ -177,27 +177,27 @@ stuck-at : Answer → ℕ → Bool
 stuck-at (reads-text t) bit = false
 stuck-at (reads-stuck i) bit = eqb i bit
 
-to-text : (tables : Tables) (bs : List ℕ) (a : Answer) (text : List ℕ) → Means tables 0 bs a → T (comes-to a text) → Builds tables 0 bs text
+to-text : (scheme : Scheme) (bs : List ℕ) (a : Answer) (text : List ℕ) → Means scheme 0 bs a → T (comes-to a text) → Builds scheme 0 bs text
 unfolding comes-to
-to-text tables bs (reads-text t) text m p = subst (Builds tables 0 bs) (same-is t text p) m
-to-text tables bs (reads-stuck i) text m p = absurd p
+to-text scheme bs (reads-text t) text m p = subst (Builds scheme 0 bs) (same-is t text p) m
+to-text scheme bs (reads-stuck i) text m p = absurd p
 
-to-place : (tables : Tables) (bs : List ℕ) (a : Answer) (bit : ℕ) → Means tables 0 bs a → T (stuck-at a bit) → Stuck tables 0 bs bit
+to-place : (scheme : Scheme) (bs : List ℕ) (a : Answer) (bit : ℕ) → Means scheme 0 bs a → T (stuck-at a bit) → Stuck scheme 0 bs bit
 unfolding stuck-at
-to-place tables bs (reads-text t) bit m p = absurd p
-to-place tables bs (reads-stuck i) bit m p = subst (Stuck tables 0 bs) (eqb→eq i bit p) m
+to-place scheme bs (reads-text t) bit m p = absurd p
+to-place scheme bs (reads-stuck i) bit m p = subst (Stuck scheme 0 bs) (eqb→eq i bit p) m
 
 carries-by-test : (format : Format) (text carried : List ℕ) → T (comes-to (reading format carried) text) → Carries format text carried
 unfolding reading comes-to
 carries-by-test Open text carried p = same-is carried text p
-carries-by-test PseudoBinary text carried p = to-text pseudo.tables (bits carried) (reading PseudoBinary carried) text (always pseudo-table.laws 0 (bits carried)) p
-carries-by-test FullAscii text carried p = to-text ascii.tables (bits carried) (reading FullAscii carried) text (always ascii-table.laws 0 (bits carried)) p
+carries-by-test PseudoBinary text carried p = to-text pseudo.scheme (bits carried) (reading PseudoBinary carried) text (always pseudo-table.laws 0 (bits carried)) p
+carries-by-test FullAscii text carried p = to-text ascii.scheme (bits carried) (reading FullAscii carried) text (always ascii-table.laws 0 (bits carried)) p
 
 stops-by-test : (format : Format) (carried : List ℕ) (bit : ℕ) → T (stuck-at (reading format carried) bit) → Unreadable format carried bit
 unfolding reading stuck-at
 stops-by-test Open carried bit p = p
-stops-by-test PseudoBinary carried bit p = to-place pseudo.tables (bits carried) (reading PseudoBinary carried) bit (always pseudo-table.laws 0 (bits carried)) p
-stops-by-test FullAscii carried bit p = to-place ascii.tables (bits carried) (reading FullAscii carried) bit (always ascii-table.laws 0 (bits carried)) p
+stops-by-test PseudoBinary carried bit p = to-place pseudo.scheme (bits carried) (reading PseudoBinary carried) bit (always pseudo-table.laws 0 (bits carried)) p
+stops-by-test FullAscii carried bit p = to-place ascii.scheme (bits carried) (reading FullAscii carried) bit (always ascii-table.laws 0 (bits carried)) p
 
 -- ---- the rows
 

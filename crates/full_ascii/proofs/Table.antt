@@ -12,25 +12,25 @@ use Rattle.codes.proofs.Speaks.{Speaks, heard, said, speaks}
 use Rattle.codes.proofs.Pack.{binary}
 use Rattle.codes.proofs.Single.{mute}
 use Rattle.codes.proofs.Within.{brief}
-use Rattle.full_ascii.specs.Table.{six, seven, special, pair, table, tables}
+use Rattle.full_ascii.specs.Table.{six, seven, special, pair, table, scheme}
 
-pub laws : Laws tables
+pub laws : Laws scheme
 unfolding table six seven special pair numbers low bit apart parted unfilled every begun fills
-laws = tested tables (λ m. tt) tt
+laws = tested scheme (λ m. tt) tt
 
-pub sounds : Speaks tables
+pub sounds : Speaks scheme
 unfolding table six seven special pair numbers low bit every heard said
-sounds = speaks tables tt (λ m. tt)
+sounds = speaks scheme tt (λ m. tt)
 
 pub mutes : T (every mute table)
 unfolding table six seven special pair numbers every mute
 mutes = tt
 
-pub all-bits : (m : ℕ) → T (every binary (tables m))
+pub all-bits : (m : ℕ) → T (every binary (scheme .table m))
 unfolding table six seven special pair numbers low bit every binary
 all-bits m = tt
 
 -- no entry says more characters than it has bits
-pub briefs : (m : ℕ) → T (every (brief 1) (tables m))
+pub briefs : (m : ℕ) → T (every (brief 1) (scheme .table m))
 unfolding table six seven special pair numbers low bit every brief
 briefs m = tt

@@ -7,7 +7,7 @@ use mathlib.Core.List.{List, [], _∷_, _++_}
 use Prim.Native.Nat.{ℕ, _+_, _≤_, _<_}
 use native.Mathlib.Nat.{le-of-eq}
 use native.Mathlib.Omega.{arith}
-use lib.Dec.{T, eqb, eqb→eq}
+use lib.Dec.{T, eqb, eqb→eq, lit<}
 use lib.ListN.{length, length-append}
 use Rattle.bits.specs.Row.{Bytes}
 use Rattle.bits.specs.Word.{bit}
@@ -19,10 +19,11 @@ use Rattle.codes.proofs.Every.{every}
 use Rattle.codes.proofs.Given.{Agrees, agrees}
 use Rattle.codes.proofs.Least as least
 use Rattle.codes.proofs.Least.{Cost, cost-shortest}
+use Rattle.codes.proofs.Pack.{gap-few}
 use Rattle.codes.proofs.Single.{row-one, builds-one}
 use Rattle.codes.proofs.Writing as writing
 use Rattle.codes.proofs.Writing.{spells, Writer}
-use Rattle.full_ascii.specs.Table.{LF, CR, six, seven, special, pair, table, tables}
+use Rattle.full_ascii.specs.Table.{LF, CR, six, seven, special, pair, table, scheme}
 use Rattle.full_ascii.specs.Writer.{coded, Coded, own, ours}
 use Rattle.full_ascii.proofs.Table.{laws, sounds, mutes, all-bits}
 use Rattle.full_ascii.proofs.Entries.{Sayer, entry-of, own-in, own-says, pair-in}
@@ -54,11 +55,11 @@ ours-says =
     ours-has (λ (t : List ℕ) (es : List Entry). texts es ≡ t) refl
     (λ c t es h. ap₂ (λ (a b : List ℕ). a ++ b) (own-says c) h) (λ t es h. ap (λ (l : List ℕ). CR ∷ LF ∷ l) h)
 
-pub ours-row : (t : List ℕ) → Coded t → Row tables 0 (ours t) 0
+pub ours-row : (t : List ℕ) → Coded t → Row scheme 0 (ours t) 0
 ours-row =
-    ours-has (λ (t : List ℕ) (es : List Entry). Coded t → Row tables 0 es 0) (λ h. refl)
-    (λ c t es k h. row-one mutes es (own-in c (h 0 (omega arith))) (k (coded-rest coded c t h)))
-    (λ t es k h. row-one mutes es pair-in (k (coded-rest coded LF t (coded-rest coded CR (LF ∷ t) h))))
+    ours-has (λ (t : List ℕ) (es : List Entry). Coded t → Row scheme 0 es 0) (λ h. refl)
+    (λ c t es k h. row-one mutes 7 es (own-in c (h 0 (omega arith))) (k (coded-rest coded c t h)))
+    (λ t es k h. row-one mutes 7 es pair-in (k (coded-rest coded LF t (coded-rest coded CR (LF ∷ t) h))))
 
 -- how many bits the writer takes for a text
 unfoldable pub size : List ℕ → ℕ
@@ -96,53 +97,55 @@ sayer-size e t (inl s) =
 sayer-size e t (inr x) =
     subst⁻¹ (λ (d : Entry). size (d .says ++ t) ≤ length (d .code) + size t) x (le-of-eq (size-pair t))
 
-cost : Cost tables (λ (m : ℕ) (t : List ℕ). size t)
+cost : Cost scheme (λ (m : ℕ) (t : List ℕ). size t)
 unfolding size ours codes
 cost = record { nothing = refl; entry = λ m e es h r. sayer-size e (texts es) (entry-of e h) }
 
 -- what the writer has, and what follows of it
-all-spell : (m : ℕ) → T (every (spells coded) (tables m))
+all-spell : (m : ℕ) → T (every (spells coded) (scheme .table m))
 unfolding table six seven special pair numbers coded every spells
 all-spell m = tt
 
-pub writer : Writer tables coded ours
+pub writer : Writer scheme coded (λ t. t) ours
 unfolding size
 writer = record {
   row = ours-row;
+  closes = λ t h. gap-few (length (codes (ours t)));
   says = λ t h. ours-says t;
   shortest = cost-shortest ours cost (λ t. refl);
   all-bits = all-bits;
   all-spell = all-spell;
   sounds = sounds;
+  few = lit< tt;
 }
 
 pub ours-binary : (t : List ℕ) → Coded t → Binary (codes (ours t))
 ours-binary = writing.ours-binary writer
 
-pub ours-built : (t : List ℕ) → Coded t → Built tables t (written (ours t))
+pub ours-built : (t : List ℕ) → Coded t → Built scheme t (written (ours t))
 ours-built = writing.ours-built writer
 
 pub ours-bytes : (t : List ℕ) → Coded t → Bytes (written (ours t))
 ours-bytes = writing.ours-bytes writer
 
-pub built-coded : {t : List ℕ} (sent : List ℕ) → Built tables t sent → Coded t
+pub built-coded : {t : List ℕ} (sent : List ℕ) → Built scheme t sent → Coded t
 built-coded = writing.built-coded writer
 
-pub built-nonempty : {t : List ℕ} (sent : List ℕ) → 0 < length sent → Built tables t sent → 0 < length t
+pub built-nonempty : {t : List ℕ} (sent : List ℕ) → 0 < length sent → Built scheme t sent → 0 < length t
 built-nonempty = writing.built-nonempty writer
 
-pub no-shorter : {t : List ℕ} (sent : List ℕ) (b : Built tables t sent) → length (codes (ours t)) ≤ length (codes (b .entries))
+pub no-shorter : {t : List ℕ} (sent : List ℕ) (b : Built scheme t sent) → length (codes (ours t)) ≤ length (codes (b .entries))
 no-shorter = least.no-shorter (writer .shortest)
 
-pub no-fewer-bytes : {t : List ℕ} (sent : List ℕ) → Built tables t sent → length (written (ours t)) ≤ length sent
-no-fewer-bytes = least.no-fewer-bytes (writer .shortest)
+pub no-fewer-bytes : {t : List ℕ} (sent : List ℕ) → Built scheme t sent → length (written (ours t)) ≤ length sent
+no-fewer-bytes = writing.no-fewer-bytes writer
 
 -- what reading gives, and what a maker may build, agree
-pub agree : Agrees tables
+pub agree : Agrees scheme
 agree = agrees laws
 
 -- a line end reads the same, cut either way
-pub either-way : {bs t : List ℕ} → Builds tables 0 bs t
-    → Builds tables 0 (own CR .code ++ (own LF .code ++ bs)) (CR ∷ LF ∷ t) × Builds tables 0 (pair .code ++ bs) (CR ∷ LF ∷ t)
+pub either-way : {bs t : List ℕ} → Builds scheme 0 bs t
+    → Builds scheme 0 (own CR .code ++ (own LF .code ++ bs)) (CR ∷ LF ∷ t) × Builds scheme 0 (pair .code ++ bs) (CR ∷ LF ∷ t)
 unfolding own pair special coded
-either-way r = (builds-one mutes (own-in CR tt) (builds-one mutes (own-in LF tt) r), builds-one mutes pair-in r)
+either-way r = (builds-one mutes 7 (own-in CR tt) (builds-one mutes 7 (own-in LF tt) r), builds-one mutes 7 pair-in r)

@@ -3,7 +3,7 @@
 use mathlib.Core.List.{List, [], _∷_, _++_, map}
 use Prim.Native.Nat.{ℕ, _-_}
 use lib.ListN.{replicate}
-use Rattle.codes.specs.Chain.{Entry, Tables, single}
+use Rattle.codes.specs.Chain.{Entry, Scheme, single}
 use Rattle.codes.specs.Pack.{low, numbers}
 
 abbrev pub HT : ℕ
@@ -37,6 +37,6 @@ table =
     map six (numbers 32 32)
     ++ (map seven (numbers 64 63) ++ (special 0 (HT ∷ []) ∷ special 1 (CR ∷ []) ∷ special 2 (LF ∷ []) ∷ pair ∷ []))
 
--- nothing is announced: one table
-abbrev pub tables : Tables
-tables = single table
+-- nothing is announced: one table. Seven bits of the last byte or fewer are unused, and ones
+abbrev pub scheme : Scheme
+scheme = single table 7

@@ -16,7 +16,7 @@ use Rattle.codes.proofs.Laid.{set-laid, set-laid-two}
 use Rattle.codes.proofs.Laying.{laying-more, laying-front, laying-within}
 use Rattle.codes.proofs.Reading.{stuck-here, never-both}
 use Rattle.full_ascii_reader.specs.Passing.{Laying, Begun}
-use Rattle.full_ascii.specs.Table.{tables}
+use Rattle.full_ascii.specs.Table.{scheme}
 use Rattle.full_ascii_reader.specs.Taken.{Takes, characters}
 use Rattle.full_ascii_reader.specs.declared.Code.{Code}
 use Rattle.full_ascii_reader.proofs.Steps.{passed-code, no-code}
@@ -56,8 +56,8 @@ module _ (held have n : ℕ) (entry : List ℕ) (here : n ≤ length entry) (b :
       (laying-code (low have held) entry out n (n + count) held left w r v k y h (puts-room y))
 
 -- where the bits are no fill, the next code is there
-pub code-there : (held have w : ℕ) (r : Code) (room : ℕ) → Window held have w → Takes w r → Readable tables (low have held) room
-    → (Fill (low have held) → ⊥) → r .width ≤ have
+pub code-there : (held have w : ℕ) (r : Code) (room : ℕ) → Window held have w → Takes w r → Readable scheme (low have held) room
+    → (Fill 7 (low have held) → ⊥) → r .width ≤ have
 code-there held have w r room v k f no-fill =
     by-cases (decLe (r .width) have) (λ h. h)
     (λ h. absurd (never-both laws (f .reads) (stuck-here (no-code held have w r v k (omega arith)) (λ e. no-fill))))

@@ -15,17 +15,17 @@ use Rattle.codes.proofs.Low.{length-low}
 use Rattle.codes.proofs.Reading.{Halts}
 use Rattle.codes.proofs.Single.{passed-one}
 use Rattle.full_ascii_reader.specs.Passing.{Counted}
-use Rattle.full_ascii.specs.Table.{tables}
+use Rattle.full_ascii.specs.Table.{scheme}
 use Rattle.full_ascii_reader.specs.Taken.{Takes}
 use Rattle.full_ascii_reader.specs.declared.Code.{Code}
 use Rattle.full_ascii.proofs.Table.{laws, mutes}
 
 -- the code of the window is the next to be read, if its bits are there
-pub passed-code : (bs said : List ℕ) (held have w : ℕ) (r : Code) → Passed tables bs 0 (low have held) said
+pub passed-code : (bs said : List ℕ) (held have w : ℕ) (r : Code) → Passed scheme bs 0 (low have held) said
     → Window held have w → (k : Takes w r) → r .width ≤ have
-    → Passed tables bs 0 (low (have - r .width) held) (said ++ k .entry .says)
+    → Passed scheme bs 0 (low (have - r .width) held) (said ++ k .entry .says)
 passed-code bs said held have w r p v k h =
-    passed-one mutes (low have held) (low (have - r .width) held) p (k .entry) (k .legal)
+    passed-one mutes 7 (low have held) (low (have - r .width) held) p (k .entry) (k .legal)
     (window-begins held have w (k .entry .code) v (k .begins) (subst (λ (n : ℕ). n ≤ have) (k .width) h)
     ∙ ap (λ (n : ℕ). k .entry .code ++ low (have - n) held) (sym (k .width)))
 
@@ -36,7 +36,7 @@ counted-code bs held have w n r c v k h e =
     (counting-more c (k .entry .says) (k .counts) (passed-code bs (c .said) held have w r (c .passed) v k h))
 
 -- if they are not there, no code begins what there is
-pub no-code : (held have w : ℕ) (r : Code) → Window held have w → Takes w r → have < r .width → Halts tables 0 (low have held)
+pub no-code : (held have w : ℕ) (r : Code) → Window held have w → Takes w r → have < r .width → Halts scheme 0 (low have held)
 no-code held have w r v k h e j b =
     let size : length (e .code) ≤ have = omega (arith, length-low have held, ap length (b .1), length-append (e .code) (b .0)) in
     let same : e ≡ k .entry =

@@ -17,7 +17,7 @@ use Rattle.codes.proofs.Low.{length-low}
 use Rattle.codes.proofs.Pack.{bits-cons, drop-bits}
 use Rattle.codes.proofs.Words.{eight-bits}
 use Rattle.full_ascii_reader.specs.Passing.{Counted, Laying, Begun, beyond}
-use Rattle.full_ascii.specs.Table.{tables}
+use Rattle.full_ascii.specs.Table.{scheme}
 
 module _ (s : List ℕ) (next held : ℕ) (here : next + 8 ≤ length s) (bytes : (i : ℕ) → getD s i 0 < 256) (word : held ≡ eightAt s next) where
   after : List ℕ
@@ -56,8 +56,8 @@ module _ (s : List ℕ) (next held : ℕ) (here : next + 8 ≤ length s) (bytes 
     laying-word bs entry out exit n left count h room y z =
         laying-on y room (subst₂ (λ (a b : List ℕ). Laying a b out exit n (n + count)) beyond-here (beyond-left left h) (laying-front z after))
 
-    pub begun-word : (room : ℕ) → Readable tables (beyond s next skip) room → Begun held (64 - skip) room
-    begun-word room f = (after, subst (λ (l : List ℕ). Readable tables l room) (sym beyond-here) f)
+    pub begun-word : (room : ℕ) → Readable scheme (beyond s next skip) room → Begun held (64 - skip) room
+    begun-word room f = (after, subst (λ (l : List ℕ). Readable scheme l room) (sym beyond-here) f)
 
 -- the next byte at the lower end of the last bits
 pub last-byte : (s : List ℕ) (held more have i : ℕ) → i < length s → low (have + 8) more ≡ low have held ++ low 8 (getD s i 0)

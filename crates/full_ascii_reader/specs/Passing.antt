@@ -9,17 +9,17 @@ use Rattle.codes.specs.Laid.{Readable}
 use Rattle.codes.specs.Pack.{low}
 use Rattle.codes.specs.Passed as Passed
 use Rattle.codes.specs.declared.Buffer.{Buffer}
-use Rattle.full_ascii.specs.Table.{tables}
+use Rattle.full_ascii.specs.Table.{scheme}
 use Rattle.full_ascii_reader.specs.declared.Place.{Place}
 use Rattle.full_ascii_reader.specs.declared.Skimmed.{Skimmed}
 
 -- the bits bs are read up to `rest`, and said n characters
 abbrev pub Counted : List ℕ → List ℕ → ℕ → Type 0
-Counted = Passed.Counting tables
+Counted = Passed.Counting scheme
 
 -- the bits bs are read up to `rest`, and what they said stands in the buffer from place m up to place n
 abbrev pub Laying : List ℕ → List ℕ → List ℕ → List ℕ → ℕ → ℕ → Type 0
-Laying = Passed.Laying tables
+Laying = Passed.Laying scheme
 
 -- no seven ones in a row
 abbrev pub Plain : ℕ → Type 0
@@ -40,7 +40,7 @@ Puts held have entry exit n r = Few have r × Laying (low have held) (low (r .le
 
 -- the lowest `have` bits of `held` begin a building of a text that there is room for
 abbrev pub Begun : ℕ → ℕ → ℕ → Type 0
-Begun held have room = (rest : List ℕ) × Readable tables (low have held ++ rest) room
+Begun held have room = (rest : List ℕ) × Readable scheme (low have held ++ rest) room
 
 -- what is still to be read: the bits of the bytes from `next` on, without the first `skip`
 unfoldable pub beyond : List ℕ → ℕ → ℕ → List ℕ

@@ -14,7 +14,7 @@ ghost use Rattle.bits.specs.Row.{bits};
 ghost use Rattle.codes.specs.Laid.{laid, Readable, Placed};
 ghost use Rattle.codes.specs.Measure.{Measures, Comes, ReadsInto};
 ghost use Rattle.codes.specs.Pack.{low};
-ghost use Rattle.full_ascii.specs.Table.{tables};
+ghost use Rattle.full_ascii.specs.Table.{scheme};
 ghost use Rattle.full_ascii_reader.specs.Taken.{Takes, characters, oneCharacter};
 ghost use Rattle.full_ascii_reader.specs.Passing.{Plain, Skims, Begun, Puts, Near, CountedTo, LaidTo, Last};
 
@@ -188,7 +188,7 @@ fn last_bits(s: &[u8], place: Place) -> Buffer
 // What the last bits come to, `have` of them.
 fn measure_last(held: u64, have: u64) -> Measured
     requires { ⌜ have ≤ 64 ⌝ }
-    ensures { λ r. ⌜ Measures tables (low have held) r ⌝ }
+    ensures { λ r. ⌜ Measures scheme (low have held) r ⌝ }
 {
     let mut left = have;
     let mut n: usize = 0;
@@ -208,7 +208,7 @@ fn measure_last(held: u64, have: u64) -> Measured
 // The length of the text, or where the data is malformed.
 fn measure(s: &[u8]) -> Measured
     requires { ⌜ length (now s) < 2 ^ 60 ⌝ }
-    ensures { λ r. ⌜ Measures tables (bits (now (s .entry))) r ⌝ }
+    ensures { λ r. ⌜ Measures scheme (bits (now (s .entry))) r ⌝ }
 {
     let place = measure_words(s);
     let b = last_bits(s, place);
@@ -277,7 +277,7 @@ fn put_word(held: u64, have: u64, out: &mut [u8], n: usize) -> Skimmed
 
 // The text of the codes up to fewer than eight bytes before the end.
 fn read_words(s: &[u8], out: &mut [u8]) -> Place
-    requires { ⌜ Readable tables (bits (now s)) (length (now out)) ⌝ }
+    requires { ⌜ Readable scheme (bits (now s)) (length (now out)) ⌝ }
     ensures { λ r. ⌜ LaidTo (now (s .entry)) (now (out .entry)) (now (out .exit)) r ⌝ }
 {
     let mut next: usize = 0;
@@ -295,8 +295,8 @@ fn read_words(s: &[u8], out: &mut [u8]) -> Place
 
 // The text of the last bits, `have` of them, from place n on; the place after it.
 fn read_last(held: u64, have: u64, out: &mut [u8], n: usize) -> usize
-    requires { ⌜ (have ≤ 64) × (n ≤ length (now out)) × Readable tables (low have held) (length (now out) - n) ⌝ }
-    ensures { λ r. ⌜ Placed tables (low have held) (now (out .entry)) (now (out .exit)) n r ⌝ }
+    requires { ⌜ (have ≤ 64) × (n ≤ length (now out)) × Readable scheme (low have held) (length (now out) - n) ⌝ }
+    ensures { λ r. ⌜ Placed scheme (low have held) (now (out .entry)) (now (out .exit)) n r ⌝ }
 {
     let mut left = have;
     let mut at = n;
@@ -313,8 +313,8 @@ fn read_last(held: u64, have: u64, out: &mut [u8], n: usize) -> usize
 
 // The text of the data, at the front of the buffer; its length.
 fn put_text(s: &[u8], out: &mut [u8]) -> usize
-    requires { ⌜ Readable tables (bits (now s)) (length (now out)) ⌝ }
-    ensures { λ r. ⌜ Placed tables (bits (now (s .entry))) (now (out .entry)) (now (out .exit)) 0 r ⌝ }
+    requires { ⌜ Readable scheme (bits (now s)) (length (now out)) ⌝ }
+    ensures { λ r. ⌜ Placed scheme (bits (now (s .entry))) (now (out .entry)) (now (out .exit)) 0 r ⌝ }
 {
     let place = read_words(s, out);
     let b = last_bits(s, place);
@@ -323,7 +323,7 @@ fn put_text(s: &[u8], out: &mut [u8]) -> usize
 
 // The data taken apart, whatever its length.
 pub fn take_apart(s: &[u8]) -> Outcome
-    ensures { λ r. ⌜ Comes tables (now (s .entry)) r ⌝ }
+    ensures { λ r. ⌜ Comes scheme (now (s .entry)) r ⌝ }
 {
     if Outcome::LIMIT <= s.len() {
         return Outcome::TooLong;
@@ -337,7 +337,7 @@ pub fn take_apart(s: &[u8]) -> Outcome
 
 // The data taken apart, and then its text at the front of the buffer, where there is room for it; whatever their lengths.
 pub fn read(s: &[u8], out: &mut [u8]) -> Taken
-    ensures { λ r. ⌜ ReadsInto tables (now (s .entry)) (now (out .entry)) r (now (out .exit)) ⌝ }
+    ensures { λ r. ⌜ ReadsInto scheme (now (s .entry)) (now (out .entry)) r (now (out .exit)) ⌝ }
 {
     let outcome = take_apart(s);
     match outcome {

@@ -11,26 +11,22 @@ use lib.ListN.{length}
 use Rattle.bits.specs.Row.{bits}
 use Rattle.header.specs.declared.Format.{Format}
 use Rattle.header.specs.declared.Format.the-variants.{Open, PseudoBinary, FullAscii}
-use Rattle.codes.specs.Chain.{Tables, Fill}
+use Rattle.codes.specs.Chain.{Scheme}
+use Rattle.codes.proofs.Fill.{no-fill}
 use Rattle.codes.proofs.Reading.{Answer, text as reads-text, stuck as reads-stuck, Means, answer, always, builds-end, one-text, one-place, never-both}
 use Rattle.full_ascii.specs.Table as ascii
 use Rattle.full_ascii.proofs.Table as ascii-table
 use Rattle.full_ascii.proofs.Writer as ascii-built
 use Rattle.pseudo_binary.specs.Table as pseudo
-use Rattle.pseudo_binary.proofs.Least as pseudo-least
 use Rattle.pseudo_binary.proofs.Table as pseudo-table
 use Rattle.pseudo_binary.proofs.Writer as pseudo-built
 use Rattle.packet.specs.Data.{Carries, Unreadable, Coded, dataOf}
 
--- seven or fewer bits that are all ones: none
-no-fill : Fill []
-no-fill = record { few = zero-le; ones = refl }
-
 -- what a computed reading means, as a text or a place
-either : (tables : Tables) (bs : List ℕ) (a : Answer) → Means tables 0 bs a
-    → ((t : List ℕ) × Means tables 0 bs (reads-text t)) ⊎ ((i : ℕ) × Means tables 0 bs (reads-stuck i))
-either tables bs (reads-text t) m = inl (t, m)
-either tables bs (reads-stuck i) m = inr (i, m)
+either : (scheme : Scheme) (bs : List ℕ) (a : Answer) → Means scheme 0 bs a
+    → ((t : List ℕ) × Means scheme 0 bs (reads-text t)) ⊎ ((i : ℕ) × Means scheme 0 bs (reads-stuck i))
+either scheme bs (reads-text t) m = inl (t, m)
+either scheme bs (reads-stuck i) m = inr (i, m)
 
 pub carries-one : (format : Format) (t u carried : List ℕ) → Carries format t carried → Carries format u carried → t ≡ u
 carries-one Open t u carried p q = sym p ∙ q
@@ -50,8 +46,8 @@ never-unreadable FullAscii t carried i p q = never-both ascii-table.laws p q
 -- data is readable or it is not
 pub readable : (format : Format) (carried : List ℕ) → ((t : List ℕ) × Carries format t carried) ⊎ ((bit : ℕ) × Unreadable format carried bit)
 readable Open carried = inl (carried, refl)
-readable PseudoBinary carried = either pseudo.tables (bits carried) (answer pseudo.tables (length (bits carried)) 0 (bits carried)) (always pseudo-table.laws 0 (bits carried))
-readable FullAscii carried = either ascii.tables (bits carried) (answer ascii.tables (length (bits carried)) 0 (bits carried)) (always ascii-table.laws 0 (bits carried))
+readable PseudoBinary carried = either pseudo.scheme (bits carried) (answer pseudo.scheme (length (bits carried)) 0 (bits carried)) (always pseudo-table.laws 0 (bits carried))
+readable FullAscii carried = either ascii.scheme (bits carried) (answer ascii.scheme (length (bits carried)) 0 (bits carried)) (always ascii-table.laws 0 (bits carried))
 
 -- a text that is carried has codes
 pub carries-coded : (format : Format) (text carried : List ℕ) → Carries format text carried → Coded format text (length text)
@@ -68,7 +64,7 @@ writer-carries FullAscii text h = ascii-built.ours-built text h
 -- and nothing that carries it has fewer bytes
 pub no-fewer : (format : Format) (text carried : List ℕ) → Carries format text carried → length (dataOf format text) ≤ length carried
 no-fewer Open text carried p = le-of-eq (ap length (sym p))
-no-fewer PseudoBinary text carried p = pseudo-least.no-fewer-bytes carried p
+no-fewer PseudoBinary text carried p = pseudo-built.no-fewer-bytes carried p
 no-fewer FullAscii text carried p = ascii-built.no-fewer-bytes carried p
 
 -- some data, some text; and some text, some data
@@ -80,8 +76,8 @@ carries-some FullAscii text carried some p = ascii-built.built-nonempty carried 
 no-data : (format : Format) (text : List ℕ) → Carries format text [] → text ≡ []
 unfolding bits
 no-data Open text p = sym p
-no-data PseudoBinary text p = one-text pseudo-table.laws p (builds-end pseudo.tables no-fill)
-no-data FullAscii text p = one-text ascii-table.laws p (builds-end ascii.tables no-fill)
+no-data PseudoBinary text p = one-text pseudo-table.laws p (builds-end pseudo.scheme (no-fill 7))
+no-data FullAscii text p = one-text ascii-table.laws p (builds-end ascii.scheme (no-fill 7))
 
 pub data-some : (format : Format) (text : List ℕ) → 0 < length text → Coded format text (length text) → 0 < length (dataOf format text)
 data-some format t some coded = pick (dataOf format t) refl

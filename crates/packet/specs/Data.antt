@@ -17,14 +17,14 @@ use Rattle.pseudo_binary.specs.Writer as pseudo-writer
 -- the data is what a maker may build of the text. Open: the data bytes are the text
 abbrev pub Carries : Format → List ℕ → List ℕ → Type 0
 Carries Open text carried = carried ≡ text
-Carries PseudoBinary text carried = Built pseudo.tables text carried
-Carries FullAscii text carried = Built ascii.tables text carried
+Carries PseudoBinary text carried = Built pseudo.scheme text carried
+Carries FullAscii text carried = Built ascii.scheme text carried
 
 -- the data is malformed, and its first unreadable indicator, value or code starts at this bit. Open data never is
 abbrev pub Unreadable : Format → List ℕ → ℕ → Type 0
 Unreadable Open carried i = ⊥
-Unreadable PseudoBinary carried i = Malformed pseudo.tables carried i
-Unreadable FullAscii carried i = Malformed ascii.tables carried i
+Unreadable PseudoBinary carried i = Malformed pseudo.scheme carried i
+Unreadable FullAscii carried i = Malformed ascii.scheme carried i
 
 -- the character has a code
 abbrev pub coded : Format → ℕ → Bool

@@ -11,7 +11,7 @@ use Rattle.codes.specs.Pack.{low, numbers, written}
 use Rattle.codes.proofs.Every.{every}
 use Rattle.codes.proofs.Pack.{length-written}
 use Rattle.codes.proofs.Within.{sized, few-codes, short-text}
-use Rattle.pseudo_binary.specs.Table.{SLASH, slashes, of, indicator, most, indicators, six, tables}
+use Rattle.pseudo_binary.specs.Table.{SLASH, slashes, of, indicator, most, indicators, six, tables, scheme}
 use Rattle.pseudo_binary.specs.Writer.{ours}
 use Rattle.pseudo_binary.proofs.Length.{width, each, takes, bitsAfter, ourBits}
 use Rattle.pseudo_binary.proofs.Characters.{alike-replicate}
@@ -24,14 +24,14 @@ all-sized zero = tt
 all-sized (suc m) = tt
 
 -- how many indicators and values a building has
-pub built-entries : {text : List ℕ} (sent : List ℕ) (b : Built tables text sent) → length (b .entries) ≤ 8 * length sent / 6
-built-entries sent b = omega (arith, few-codes tables 6 16 all-sized sent b)
+pub built-entries : {text : List ℕ} (sent : List ℕ) (b : Built scheme text sent) → length (b .entries) ≤ 8 * length sent / 6
+built-entries sent b = omega (arith, few-codes scheme 6 16 all-sized sent b)
 
 -- how long its text is: for 4,000 bytes at most 85,328 characters
-pub built-bound : {text : List ℕ} (sent : List ℕ) → Built tables text sent → length text ≤ 16 * (8 * length sent / 6)
-built-bound sent b = omega (arith, built-entries sent b, short-text tables 6 16 all-sized sent b)
+pub built-bound : {text : List ℕ} (sent : List ℕ) → Built scheme text sent → length text ≤ 16 * (8 * length sent / 6)
+built-bound sent b = omega (arith, built-entries sent b, short-text scheme 6 16 all-sized sent b)
 
-pub built-most : {text : List ℕ} (sent : List ℕ) → length sent ≤ 4000 → Built tables text sent → length text ≤ 85328
+pub built-most : {text : List ℕ} (sent : List ℕ) → length sent ≤ 4000 → Built scheme text sent → length text ≤ 85328
 built-most sent h b = omega (arith, built-bound sent b)
 
 -- and it may reach that: slashes alone, sixteen to an indicator

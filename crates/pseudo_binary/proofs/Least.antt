@@ -9,11 +9,10 @@ use native.Mathlib.Numerals.{unary-clauses}
 use native.Mathlib.Omega.{arith}
 use lib.ListN.{length, drop, replicate, length-replicate}
 use lib.Seq.{drop-at}
-use Rattle.codes.specs.Chain.{Entry, In, after, Row, codes, texts, Built}
-use Rattle.codes.specs.Pack.{low, written}
-use Rattle.codes.proofs.Least as least
+use Rattle.codes.specs.Chain.{Entry, In, after, Row, codes, texts}
+use Rattle.codes.specs.Pack.{low}
 use Rattle.codes.proofs.Least.{Cost, Shortest, cost-shortest}
-use Rattle.pseudo_binary.specs.Table.{SPACE, SLASH, Kind, values, spaces, slashes, of, characterOf, indicator, most, six, tables}
+use Rattle.pseudo_binary.specs.Table.{SPACE, SLASH, Kind, values, spaces, slashes, of, characterOf, indicator, most, six, tables, scheme}
 use Rattle.pseudo_binary.specs.Writer.{ours, Alike}
 use Rattle.pseudo_binary.proofs.Length.{width, each, bitsAfter, ourBits}
 use Rattle.pseudo_binary.proofs.Characters.{alike-replicate, of-kind, characterOf-value}
@@ -78,13 +77,13 @@ record Announced (m : ℕ) (text : List ℕ) : Type 0 where
   many : length front ≡ m
   alike : Alike values front
 
-values-next : (m : ℕ) (es : List Entry) → Row tables m es 0 → Announced m (texts es)
+values-next : (m : ℕ) (es : List Entry) → Row scheme m es 0 → Announced m (texts es)
 unfolding texts six
 values-next zero es r = record { front = []; rest = texts es; all = refl; many = refl; alike = tt }
 values-next (suc m) [] r = absurd (let no : ⊥ = omega arith in no)
 values-next (suc m) (e ∷ es) r =
     let s = six-of m (r .0) in
-    let next : Row tables m es 0 = subst (λ (n : ℕ). Row tables n es 0) (ap (after (suc m)) (s .2) ∙ after-six m (s .0)) (r .1) in
+    let next : Row scheme m es 0 = subst (λ (n : ℕ). Row scheme n es 0) (ap (after (suc m)) (s .2) ∙ after-six m (s .0)) (r .1) in
     let l : Announced m (texts es) = values-next m es next in
     record {
       front = characterOf (s .0) ∷ l .front;
@@ -120,7 +119,7 @@ repeat-still k x c t e h =
     subst (λ (n : ℕ). ourBits (replicate (suc c) x ++ t) ≤ width k + (each k * n + ourBits t)) (length-replicate (suc c) x)
     (indicator-cost k (replicate (suc c) x) t (alike-replicate k x (suc c) e) (omega arith) (omega (arith, length-replicate {A = ℕ} c x)))
 
-indicator-still : (k : Kind) (c : ℕ) (es : List Entry) → c < most k → Row tables (after 0 (indicator k c)) es 0
+indicator-still : (k : Kind) (c : ℕ) (es : List Entry) → c < most k → Row scheme (after 0 (indicator k c)) es 0
     → still 0 (indicator k c .says ++ texts es) ≤ length (indicator k c .code) + still (after 0 (indicator k c)) (texts es)
 unfolding still indicator after low width each most of
 indicator-still values c es h r =
@@ -132,28 +131,21 @@ six-still : (m v : ℕ) (t : List ℕ) → still (suc m) (six v .says ++ t) ≤ 
 unfolding still six low
 six-still m v t = rw after-six (omega arith)
 
-entry-still : (m : ℕ) (e : Entry) (es : List Entry) → In e (tables m) → Row tables (after m e) es 0
+entry-still : (m : ℕ) (e : Entry) (es : List Entry) → In e (tables m) → Row scheme (after m e) es 0
     → still m (e .says ++ texts es) ≤ length (e .code) + still (after m e) (texts es)
 entry-still zero e es h r =
     let i = indicator-of h in
     subst⁻¹ (λ (d : Entry). still 0 (d .says ++ texts es) ≤ length (d .code) + still (after 0 d) (texts es)) (i .3)
-    (indicator-still (i .0) (i .1) es (i .2) (subst (λ (d : Entry). Row tables (after 0 d) es 0) (i .3) r))
+    (indicator-still (i .0) (i .1) es (i .2) (subst (λ (d : Entry). Row scheme (after 0 d) es 0) (i .3) r))
 entry-still (suc m) e es h r =
     let s = six-of m h in
     subst⁻¹ (λ (d : Entry). still (suc m) (d .says ++ texts es) ≤ length (d .code) + still (after (suc m) d) (texts es)) (s .2)
     (six-still m (s .0) (texts es))
 
-cost : Cost tables still
+cost : Cost scheme still
 unfolding still ourBits bitsAfter
 cost = record { nothing = refl; entry = entry-still }
 
-pub shortest : Shortest tables ours
+pub shortest : Shortest scheme ours
 unfolding still
 shortest = cost-shortest ours cost (λ t. omega (arith, our-bits t))
-
--- no building of the text has fewer bits before its fill than the writer's, and none fewer bytes
-pub no-shorter : {t : List ℕ} (sent : List ℕ) (b : Built tables t sent) → length (codes (ours t)) ≤ length (codes (b .entries))
-no-shorter = least.no-shorter shortest
-
-pub no-fewer-bytes : {t : List ℕ} (sent : List ℕ) → Built tables t sent → length (written (ours t)) ≤ length sent
-no-fewer-bytes = least.no-fewer-bytes shortest

@@ -8,7 +8,7 @@ use native.Mathlib.Nat.{zero-add}
 use lib.ListN.{replicate}
 use borrow.Author.Tests.{eqb-true}
 use Rattle.codes.specs.Chain.{Entry, after, Row, texts}
-use Rattle.pseudo_binary.specs.Table.{SPACE, SLASH, Kind, values, spaces, slashes, of, valueOf, indicator, most, six, tables}
+use Rattle.pseudo_binary.specs.Table.{SPACE, SLASH, Kind, values, spaces, slashes, of, valueOf, indicator, most, six, scheme}
 use Rattle.pseudo_binary.specs.Writer.{besides}
 use Rattle.pseudo_binary.proofs.Characters.{valueOf-back, valueOf-small}
 use Rattle.pseudo_binary.proofs.Entries.{indicator-in, six-in, after-six}
@@ -26,7 +26,7 @@ announced slashes j = 0
 
 -- the entries build the text, where an indicator of kind k before them counts its first j characters
 pub record Counted (k : Kind) (j : ℕ) (t : List ℕ) (es : List Entry) : Type 0 where
-  pub row : Row tables (announced k j) es 0
+  pub row : Row scheme (announced k j) es 0
   pub says : said k j ++ texts es ≡ t
 
 -- where it counts none its kind does not matter
@@ -42,17 +42,17 @@ none-said values t = refl
 none-said spaces t = refl
 none-said slashes t = refl
 
-pub counted-none : (k : Kind) {t : List ℕ} {es : List Entry} → Row tables 0 es 0 → texts es ≡ t → Counted k 0 t es
+pub counted-none : (k : Kind) {t : List ℕ} {es : List Entry} → Row scheme 0 es 0 → texts es ≡ t → Counted k 0 t es
 counted-none k {t} {es} r s = record {
-  row = subst⁻¹ (λ (n : ℕ). Row tables n es 0) (none-announced k) r;
+  row = subst⁻¹ (λ (n : ℕ). Row scheme n es 0) (none-announced k) r;
   says = none-said k (texts es) ∙ s;
 }
 
 -- one character that it counts
-row-one : (k : Kind) (j c : ℕ) (es : List Entry) → Row tables (announced k j) es 0 → Row tables (announced k (suc j)) (besides k c ++ es) 0
+row-one : (k : Kind) (j c : ℕ) (es : List Entry) → Row scheme (announced k j) es 0 → Row scheme (announced k (suc j)) (besides k c ++ es) 0
 unfolding announced besides
 row-one values j c es h =
-    (six-in j (valueOf c) (valueOf-small c), subst⁻¹ (λ (n : ℕ). Row tables n es 0) (after-six j (valueOf c)) h)
+    (six-in j (valueOf c) (valueOf-small c), subst⁻¹ (λ (n : ℕ). Row scheme n es 0) (after-six j (valueOf c)) h)
 row-one spaces j c es h = h
 row-one slashes j c es h = h
 
@@ -84,7 +84,7 @@ pub counted-all : {k : Kind} {j : ℕ} {t : List ℕ} {es : List Entry} (l : Kin
     → Counted l 0 t (indicator k j ∷ es)
 unfolding texts
 counted-all {k} {j} {t} {es} l m h =
-    counted-none l (indicator-in k j m, subst⁻¹ (λ (n : ℕ). Row tables n es 0) (after-indicator k j) (h .row))
+    counted-none l (indicator-in k j m, subst⁻¹ (λ (n : ℕ). Row scheme n es 0) (after-indicator k j) (h .row))
     (ap (λ (s : List ℕ). s ++ texts es) (indicator-says k j) ∙ h .says)
 
 -- what the characters of a run take besides their indicator

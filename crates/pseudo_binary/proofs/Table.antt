@@ -10,20 +10,20 @@ use Rattle.codes.proofs.Fill.{fills}
 use Rattle.codes.proofs.Laws.{Laws, parted, apart, unfilled, tested}
 use Rattle.codes.proofs.Speaks.{Speaks, heard, said, speaks}
 use Rattle.codes.proofs.Pack.{binary}
-use Rattle.pseudo_binary.specs.Table.{indicator, most, indicators, six, tables}
+use Rattle.pseudo_binary.specs.Table.{indicator, most, indicators, six, tables, scheme}
 
 all-apart : (m : ℕ) → T (apart (tables m))
 unfolding indicator most indicators six tables numbers low bit apart parted every begun
 all-apart zero = tt
 all-apart (suc m) = tt
 
-pub laws : Laws tables
+pub laws : Laws scheme
 unfolding indicator most indicators six tables numbers low bit unfilled every fills
-laws = tested tables all-apart tt
+laws = tested scheme all-apart tt
 
-pub sounds : Speaks tables
+pub sounds : Speaks scheme
 unfolding indicator most indicators six tables numbers every heard said
-sounds = speaks tables tt (λ m. tt)
+sounds = speaks scheme tt (λ m. tt)
 
 pub all-bits : (m : ℕ) → T (every binary (tables m))
 unfolding indicator most indicators six tables numbers low bit every binary

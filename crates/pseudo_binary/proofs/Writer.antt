@@ -1,4 +1,4 @@
--- What our writer builds is a building of its text. Texts that can be read have codes, and are never empty.
+-- What our writer builds is a building of its text and no building of that text is shorter. Texts that can be read have codes, and are never empty.
 -- Assumes nothing.
 use mathlib.Core.Path.{_≡_, refl, sym, ap, subst⁻¹, _∙_}
 use mathlib.Core.Bool.{Bool, true, false, cond}
@@ -6,7 +6,7 @@ use mathlib.Core.Logic.{_⊎_, inl, inr, ⊎-elim}
 use mathlib.Core.List.{List, [], _∷_, _++_, append-assoc}
 use Prim.Native.Nat.{ℕ, zero, suc, pred, _≤_, _<_}
 use native.Mathlib.Omega.{arith}
-use lib.Dec.{T}
+use lib.Dec.{T, lit<}
 use lib.ListN.{length}
 use Rattle.bits.specs.Row.{Bytes}
 use Rattle.codes.specs.Chain.{Entry, Row, codes, texts, Built}
@@ -14,9 +14,11 @@ use Rattle.codes.specs.Pack.{Binary, numbers, written}
 use Rattle.codes.proofs.Coded.{coded-rest}
 use Rattle.codes.proofs.Every.{every}
 use Rattle.codes.proofs.Given.{Agrees, agrees}
+use Rattle.codes.proofs.Least as least
+use Rattle.codes.proofs.Pack.{gap-few}
 use Rattle.codes.proofs.Writing as writing
 use Rattle.codes.proofs.Writing.{spells, Writer}
-use Rattle.pseudo_binary.specs.Table.{Kind, values, of, coded, Coded, characterOf, indicator, most, indicators, six, tables}
+use Rattle.pseudo_binary.specs.Table.{Kind, values, of, coded, Coded, characterOf, indicator, most, indicators, six, tables, scheme}
 use Rattle.pseudo_binary.specs.Writer.{kind, run, besides, oursAfter, ours, Alike}
 use Rattle.pseudo_binary.proofs.Table.{laws, sounds, all-bits}
 use Rattle.pseudo_binary.proofs.Characters.{Other, of-kind, kind-of}
@@ -63,7 +65,7 @@ follows k (suc n) (c ∷ t) u =
         (counted-one c x h)
     pick false x h g = follows-new k c t (u 0 (omega arith)) g
 
-pub ours-row : (t : List ℕ) → Coded t → Row tables 0 (ours t) 0
+pub ours-row : (t : List ℕ) → Coded t → Row scheme 0 (ours t) 0
 unfolding ours run announced
 ours-row t u = follows values 0 t u .row
 
@@ -110,24 +112,39 @@ unfolding of coded characterOf indicator most indicators six tables numbers ever
 all-spell zero = tt
 all-spell (suc m) = tt
 
-pub writer : Writer tables coded ours
-writer = record { row = ours-row; says = ours-says; shortest = shortest; all-bits = all-bits; all-spell = all-spell; sounds = sounds }
+pub writer : Writer scheme coded (λ t. t) ours
+writer = record {
+  row = ours-row;
+  closes = λ t h. gap-few (length (codes (ours t)));
+  says = ours-says;
+  shortest = shortest;
+  all-bits = all-bits;
+  all-spell = all-spell;
+  sounds = sounds;
+  few = lit< tt;
+}
 
 pub ours-binary : (t : List ℕ) → Coded t → Binary (codes (ours t))
 ours-binary = writing.ours-binary writer
 
-pub ours-built : (t : List ℕ) → Coded t → Built tables t (written (ours t))
+pub ours-built : (t : List ℕ) → Coded t → Built scheme t (written (ours t))
 ours-built = writing.ours-built writer
 
 pub ours-bytes : (t : List ℕ) → Coded t → Bytes (written (ours t))
 ours-bytes = writing.ours-bytes writer
 
-pub built-coded : {t : List ℕ} (sent : List ℕ) → Built tables t sent → Coded t
+pub built-coded : {t : List ℕ} (sent : List ℕ) → Built scheme t sent → Coded t
 built-coded = writing.built-coded writer
 
-pub built-nonempty : {t : List ℕ} (sent : List ℕ) → 0 < length sent → Built tables t sent → 0 < length t
+pub built-nonempty : {t : List ℕ} (sent : List ℕ) → 0 < length sent → Built scheme t sent → 0 < length t
 built-nonempty = writing.built-nonempty writer
 
+pub no-shorter : {t : List ℕ} (sent : List ℕ) (b : Built scheme t sent) → length (codes (ours t)) ≤ length (codes (b .entries))
+no-shorter = least.no-shorter (writer .shortest)
+
+pub no-fewer-bytes : {t : List ℕ} (sent : List ℕ) → Built scheme t sent → length (written (ours t)) ≤ length sent
+no-fewer-bytes = writing.no-fewer-bytes writer
+
 -- what reading gives, and what a maker may build, agree
-pub agree : Agrees tables
+pub agree : Agrees scheme
 agree = agrees laws

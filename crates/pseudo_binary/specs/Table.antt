@@ -5,7 +5,7 @@ use mathlib.Core.List.{List, [], _∷_, _++_, map}
 use Prim.Native.Nat.{ℕ, zero, suc, _+_, _%_}
 use lib.Dec.{leb, eqb}
 use lib.ListN.{length, replicate}
-use Rattle.codes.specs.Chain.{Entry, Tables}
+use Rattle.codes.specs.Chain.{Entry, Scheme}
 use Rattle.codes.specs.Pack.{low, numbers}
 use Rattle.codes.specs.Size
 
@@ -63,6 +63,10 @@ unfoldable pub six : ℕ → Entry
 six v = record { code = low 6 v; says = characterOf v ∷ []; announces = 0 }
 
 -- where no value is announced, an indicator; else a value
-unfoldable pub tables : Tables
+unfoldable pub tables : ℕ → List Entry
 tables zero = indicators values ++ (indicators spaces ++ indicators slashes)
 tables (suc m) = map six (numbers 0 64)
+
+-- seven bits of the last byte or fewer are unused, and ones (by 01 as in 001, 4.5)
+abbrev pub scheme : Scheme
+scheme = record { table = tables; unused = 7 }

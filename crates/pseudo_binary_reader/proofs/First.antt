@@ -15,7 +15,7 @@ use Rattle.codes.specs.Pack.{Binary, low, value}
 use Rattle.codes.proofs.Ahead.{window-begins, begins-window}
 use Rattle.codes.proofs.Low.{low-mod, low-add, low-value}
 use Rattle.codes.proofs.Reading.{Halts}
-use Rattle.pseudo_binary.specs.Table.{SPACE, SLASH, Kind, values, spaces, slashes, indicator, most, tables}
+use Rattle.pseudo_binary.specs.Table.{SPACE, SLASH, Kind, values, spaces, slashes, indicator, most, scheme}
 use Rattle.pseudo_binary_reader.specs.Taken.{Nine, Takes}
 use Rattle.pseudo_binary_reader.specs.declared.Indicator.{Indicator}
 use Rattle.pseudo_binary.proofs.Entries.{indicator-in}
@@ -105,7 +105,7 @@ module _ (bs : List ℕ) (binary : Binary bs) (w : ℕ) (v : Nine bs w) where
         (sym (drop-at code rest (r .width) (sym (k .width))) ∙ ap (drop (r .width)) (sym split))
 
     -- if they are not there, none begins what there is
-    pub no-indicator : length bs < r .width → Halts tables 0 bs
+    pub no-indicator : length bs < r .width → Halts scheme 0 bs
     no-indicator short e j p =
         let size : length (e .code) ≤ length bs = omega (arith, ap length (p .1), length-append (e .code) (p .0)) in
         let same-entry : e ≡ k .entry =

@@ -133,12 +133,12 @@ module _ (s : List ℕ) (at : ℕ) (b : Buffer) (h : Starts s at b) (inside : at
   starts-all few = sym (ahead-last s (b .held) (b .have) (b .next) (starts-last few)) ∙ h .same
 
   -- what it holds is a fill exactly where what follows the bit is
-  pub starts-fill : Fill (low (b .have) (b .held)) → Fill (drop at (bits s))
-  starts-fill f = subst Fill (starts-all (omega (arith, f .few, length-low (b .have) (b .held)))) f
+  pub starts-fill : Fill 7 (low (b .have) (b .held)) → Fill 7 (drop at (bits s))
+  starts-fill f = subst (Fill 7) (starts-all (omega (arith, f .few, length-low (b .have) (b .held)))) f
 
-  pub starts-no-fill : (Fill (low (b .have) (b .held)) → ⊥) → Fill (drop at (bits s)) → ⊥
+  pub starts-no-fill : (Fill 7 (low (b .have) (b .held)) → ⊥) → Fill 7 (drop at (bits s)) → ⊥
   starts-no-fill none f =
-      none (subst Fill (sym (starts-all (omega (arith, f .few, length-drop at (bits s), length-bits s, starts-left)))) f)
+      none (subst (Fill 7) (sym (starts-all (omega (arith, f .few, length-drop at (bits s), length-bits s, starts-left)))) f)
 
   -- the window is the next nine bits
   pub starts-nine : (w : ℕ) → Window (b .held) (b .have) w → Nine (drop at (bits s)) w

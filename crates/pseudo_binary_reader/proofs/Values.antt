@@ -15,7 +15,7 @@ use Rattle.codes.proofs.Low.{length-low, low-value, value-lt}
 use Rattle.codes.proofs.Pack.{binary-take, binary-drop}
 use Rattle.codes.proofs.Passed.{passed-more}
 use Rattle.codes.proofs.Reading.{stuck-more, stuck-here}
-use Rattle.pseudo_binary.specs.Table.{characterOf, six, tables}
+use Rattle.pseudo_binary.specs.Table.{characterOf, six, tables, scheme}
 use Rattle.pseudo_binary_reader.specs.Taken.{characters}
 use Rattle.pseudo_binary.proofs.Entries.{six-in, six-of, after-six}
 
@@ -41,18 +41,18 @@ module _ (bs : List ℕ) (h : Binary bs) (k : 6 ≤ length bs) where
       (sym (low-value (take 6 bs) (binary-take 6 bs h)) ∙ ap (λ (n : ℕ). low n (value (take 6 bs))) (length-take-le 6 bs k))
 
 -- the values that were announced are passed
-pub passed-values : {bs : List ℕ} (m : ℕ) (rest said : List ℕ) → Binary rest → 6 * m ≤ length rest → Passed tables bs m rest said
-    → Passed tables bs 0 (drop (6 * m) rest) (said ++ characters m rest)
+pub passed-values : {bs : List ℕ} (m : ℕ) (rest said : List ℕ) → Binary rest → 6 * m ≤ length rest → Passed scheme bs m rest said
+    → Passed scheme bs 0 (drop (6 * m) rest) (said ++ characters m rest)
 unfolding characters six first-value
-passed-values {bs} zero rest said h k p = subst⁻¹ (λ (l : List ℕ). Passed tables bs 0 rest l) (append-nil said) p
+passed-values {bs} zero rest said h k p = subst⁻¹ (λ (l : List ℕ). Passed scheme bs 0 rest l) (append-nil said) p
 passed-values {bs} (suc m) rest said h k p =
     let v : ℕ = first-value rest h (omega arith) in
-    let one : Passed tables bs m (drop 6 rest) (said ++ (characterOf v ∷ [])) =
-    subst (λ (n : ℕ). Passed tables bs n (drop 6 rest) (said ++ (characterOf v ∷ []))) (after-six m v)
+    let one : Passed scheme bs m (drop 6 rest) (said ++ (characterOf v ∷ [])) =
+    subst (λ (n : ℕ). Passed scheme bs n (drop 6 rest) (said ++ (characterOf v ∷ []))) (after-six m v)
     (passed-more rest (drop 6 rest) p (six v) (six-in m v (first-small rest h (omega arith))) (first-code rest h (omega arith))) in
-    subst (λ (l : List ℕ). Passed tables bs 0 l (said ++ (characterOf v ∷ characters m (drop 6 rest))))
+    subst (λ (l : List ℕ). Passed scheme bs 0 l (said ++ (characterOf v ∷ characters m (drop 6 rest))))
     (drop-drop (6 * m) 6 rest ∙ ap (λ (n : ℕ). drop n rest) (let e : 6 + 6 * m ≡ 6 * suc m = omega arith in e))
-    (subst (Passed tables bs 0 (drop (6 * m) (drop 6 rest))) (append-assoc said (characterOf v ∷ []) (characters m (drop 6 rest)))
+    (subst (Passed scheme bs 0 (drop (6 * m) (drop 6 rest))) (append-assoc said (characterOf v ∷ []) (characters m (drop 6 rest)))
     (passed-values m (drop 6 rest) (said ++ (characterOf v ∷ [])) (binary-drop 6 rest h) (omega (arith, length-drop 6 rest)) one))
 
 -- fewer than six bits begin no value
@@ -68,22 +68,22 @@ no-value m rest k e j b =
       length-low 6 (s .0),
     )
 
-pub stuck-values : (m : ℕ) (rest : List ℕ) → Binary rest → length rest < 6 * m → Stuck tables m rest (length rest / 6 * 6)
+pub stuck-values : (m : ℕ) (rest : List ℕ) → Binary rest → length rest < 6 * m → Stuck scheme m rest (length rest / 6 * 6)
 unfolding six
 stuck-values zero rest h k = absurd (let none : ⊥ = omega arith in none)
 stuck-values (suc m) rest h k =
     by-cases (decLt (length rest) 6)
     (λ l.
-    subst (Stuck tables (suc m) rest) (let e : 0 ≡ length rest / 6 * 6 = omega arith in e)
+    subst (Stuck scheme (suc m) rest) (let e : 0 ≡ length rest / 6 * 6 = omega arith in e)
     (stuck-here (no-value m rest l) (λ e. absurd (let none : ⊥ = omega arith in none))))
     (λ l.
     let v : ℕ = first-value rest h (omega arith) in
-    let ih : Stuck tables m (drop 6 rest) (length (drop 6 rest) / 6 * 6) =
+    let ih : Stuck scheme m (drop 6 rest) (length (drop 6 rest) / 6 * 6) =
     stuck-values m (drop 6 rest) (binary-drop 6 rest h) (omega (arith, length-drop 6 rest)) in
-    let one : Stuck tables (suc m) (six v .code ++ drop 6 rest) (length (six v .code) + length (drop 6 rest) / 6 * 6) =
+    let one : Stuck scheme (suc m) (six v .code ++ drop 6 rest) (length (six v .code) + length (drop 6 rest) / 6 * 6) =
     stuck-more (six-in m v (first-small rest h (omega arith)))
-    (subst⁻¹ (λ (n : ℕ). Stuck tables n (drop 6 rest) (length (drop 6 rest) / 6 * 6)) (after-six m v) ih) in
-    subst (Stuck tables (suc m) rest)
+    (subst⁻¹ (λ (n : ℕ). Stuck scheme n (drop 6 rest) (length (drop 6 rest) / 6 * 6)) (after-six m v) ih) in
+    subst (Stuck scheme (suc m) rest)
     (let e : length (six v .code) + length (drop 6 rest) / 6 * 6 ≡ length rest / 6 * 6 = omega (arith, length-low 6 v, length-drop 6 rest) in e)
-    (subst⁻¹ (λ (l : List ℕ). Stuck tables (suc m) l (length (six v .code) + length (drop 6 rest) / 6 * 6))
+    (subst⁻¹ (λ (l : List ℕ). Stuck scheme (suc m) l (length (six v .code) + length (drop 6 rest) / 6 * 6))
     (first-code rest h (omega arith)) one))

@@ -14,7 +14,7 @@ ghost use Rattle.codes.specs.Laid.{laid, Readable, Placed};
 ghost use Rattle.codes.specs.Measure.{Measures, Comes, ReadsInto};
 ghost use Rattle.codes.specs.Pack.{value};
 ghost use Rattle.codes.specs.Passed.{Counting, Laying};
-ghost use Rattle.pseudo_binary.specs.Table.{tables};
+ghost use Rattle.pseudo_binary.specs.Table.{scheme};
 ghost use Rattle.pseudo_binary_reader.specs.Taken.{Eight, Nine, Spread, Starts, Takes, Top, characters, saying};
 
 // An indicator: how many bits it has, how many values it announces, and how often it says which character.
@@ -124,7 +124,7 @@ struct Place {
 fn measure_most(s: &[u8]) -> Place
     requires { ⌜ length (now s) < 2 ^ 56 ⌝ }
     ensures { λ r. ⌜ (r .at ≤ length (now (s .entry)) * 8) × (r .n ≤ 3 * r .at) ⌝ }
-    ensures { λ r. ⌜ Counting tables (bits (now (s .entry))) (drop (r .at) (bits (now (s .entry)))) (r .n) ⌝ }
+    ensures { λ r. ⌜ Counting scheme (bits (now (s .entry))) (drop (r .at) (bits (now (s .entry)))) (r .n) ⌝ }
 {
     if s.len() < 8 {
         return Place { at: 0, n: 0 };
@@ -153,7 +153,7 @@ fn measure_most(s: &[u8]) -> Place
 // The length of the text, or the bit at which the data is malformed. Announced values are not looked at: any six bits are a value.
 fn measure(s: &[u8]) -> Measured
     requires { ⌜ length (now s) < 2 ^ 56 ⌝ }
-    ensures { λ r. ⌜ Measures tables (bits (now (s .entry))) r ⌝ }
+    ensures { λ r. ⌜ Measures scheme (bits (now (s .entry))) r ⌝ }
 {
     let end = s.len() * 8;
     let most = measure_most(s);
@@ -336,9 +336,9 @@ fn read_run(s: &[u8], at: usize, run: Indicator, out: &mut [u8], n: usize)
 // The indicators that start in the eighth byte from the end of the data or before it, and what they and their values say at the front of the
 // buffer.
 fn read_front(s: &[u8], out: &mut [u8]) -> Place
-    requires { ⌜ (length (now s) < 2 ^ 56) × Readable tables (bits (now s)) (length (now out)) ⌝ }
+    requires { ⌜ (length (now s) < 2 ^ 56) × Readable scheme (bits (now s)) (length (now out)) ⌝ }
     ensures { λ r. ⌜ (r .at ≤ length (now (s .entry)) * 8) × (r .n ≤ length (now (out .entry))) ⌝ }
-    ensures { λ r. ⌜ Laying tables (bits (now (s .entry))) (drop (r .at) (bits (now (s .entry)))) (now (out .entry)) (now (out .exit)) 0 (r .n) ⌝ }
+    ensures { λ r. ⌜ Laying scheme (bits (now (s .entry))) (drop (r .at) (bits (now (s .entry)))) (now (out .entry)) (now (out .exit)) 0 (r .n) ⌝ }
 {
     if s.len() < 8 {
         return Place { at: 0, n: 0 };
@@ -364,9 +364,9 @@ fn read_front(s: &[u8], out: &mut [u8]) -> Place
 
 // The indicators that have nine bits or more before the end of the data, and what they and their values say at the front of the buffer.
 fn read_most(s: &[u8], out: &mut [u8]) -> Place
-    requires { ⌜ (length (now s) < 2 ^ 56) × Readable tables (bits (now s)) (length (now out)) ⌝ }
+    requires { ⌜ (length (now s) < 2 ^ 56) × Readable scheme (bits (now s)) (length (now out)) ⌝ }
     ensures { λ r. ⌜ (r .at ≤ length (now (s .entry)) * 8) × (length (now (s .entry)) * 8 ≤ r .at + 8) × (r .n ≤ length (now (out .entry))) ⌝ }
-    ensures { λ r. ⌜ Laying tables (bits (now (s .entry))) (drop (r .at) (bits (now (s .entry)))) (now (out .entry)) (now (out .exit)) 0 (r .n) ⌝ }
+    ensures { λ r. ⌜ Laying scheme (bits (now (s .entry))) (drop (r .at) (bits (now (s .entry)))) (now (out .entry)) (now (out .exit)) 0 (r .n) ⌝ }
 {
     let front = read_front(s, out);
     let mut at = front.at;
@@ -382,8 +382,8 @@ fn read_most(s: &[u8], out: &mut [u8]) -> Place
 
 // The text of the data, at the front of the buffer; its length. In the last eight bits there are no values.
 fn put_text(s: &[u8], out: &mut [u8]) -> usize
-    requires { ⌜ (length (now s) < 2 ^ 56) × Readable tables (bits (now s)) (length (now out)) ⌝ }
-    ensures { λ r. ⌜ Placed tables (bits (now (s .entry))) (now (out .entry)) (now (out .exit)) 0 r ⌝ }
+    requires { ⌜ (length (now s) < 2 ^ 56) × Readable scheme (bits (now s)) (length (now out)) ⌝ }
+    ensures { λ r. ⌜ Placed scheme (bits (now (s .entry))) (now (out .entry)) (now (out .exit)) 0 r ⌝ }
 {
     let most = read_most(s, out);
     let mut at = most.at;
@@ -402,7 +402,7 @@ fn put_text(s: &[u8], out: &mut [u8]) -> usize
 
 // The data taken apart, whatever its length.
 pub fn take_apart(s: &[u8]) -> Outcome
-    ensures { λ r. ⌜ Comes tables (now (s .entry)) r ⌝ }
+    ensures { λ r. ⌜ Comes scheme (now (s .entry)) r ⌝ }
 {
     if Outcome::LIMIT <= s.len() {
         return Outcome::TooLong;
@@ -416,7 +416,7 @@ pub fn take_apart(s: &[u8]) -> Outcome
 
 // The data taken apart, and then its text at the front of the buffer, where there is room for it; whatever their lengths.
 pub fn read(s: &[u8], out: &mut [u8]) -> Taken
-    ensures { λ r. ⌜ ReadsInto tables (now (s .entry)) (now (out .entry)) r (now (out .exit)) ⌝ }
+    ensures { λ r. ⌜ ReadsInto scheme (now (s .entry)) (now (out .entry)) r (now (out .exit)) ⌝ }
 {
     let outcome = take_apart(s);
     match outcome {

@@ -12,7 +12,7 @@ use Rattle.codes.proofs.Low.{length-low}
 use Rattle.codes.proofs.Pack.{length-bits}
 use Rattle.codes.proofs.Within.{builds-within, stuck-within}
 use Rattle.full_ascii_reader.specs.Passing.{Counted}
-use Rattle.full_ascii.specs.Table.{tables}
+use Rattle.full_ascii.specs.Table.{scheme}
 use Rattle.full_ascii.proofs.Table.{briefs}
 use borrow.Author.Needs.{needs}
 use Rattle.full_ascii_reader.proofs.measure.Statement.{statement}
@@ -40,19 +40,19 @@ counted b =
 
 -- what these come to, in the arm of each answer
 last-text : (c : tie.After-known-told)
-    → Measures tables (low (c .before .before .before .before .last-bits .result .have) (c .before .before .before .before .last-bits .result .held))
+    → Measures scheme (low (c .before .before .before .before .last-bits .result .have) (c .before .before .before .before .last-bits .result .held))
     (Text (c .before .last .given .0 .0))
 last-text c =
     let m = c .before .before .before in
-    subst (Measures tables (low (m .before .last-bits .result .have) (m .before .last-bits .result .held))) (c .before .last .given .1)
+    subst (Measures scheme (low (m .before .last-bits .result .have) (m .before .last-bits .result .held))) (c .before .last .given .1)
     (m .measure-last .ensures)
 
 last-malformed : (c : tie.After-known-told2)
-    → Measures tables (low (c .before .before .before .before .last-bits .result .have) (c .before .before .before .before .last-bits .result .held))
+    → Measures scheme (low (c .before .before .before .before .last-bits .result .have) (c .before .before .before .before .last-bits .result .held))
     (Malformed (c .before .last2 .given .0 .0))
 last-malformed c =
     let m = c .before .before .before in
-    subst (Measures tables (low (m .before .last-bits .result .have) (m .before .last-bits .result .held))) (c .before .last2 .given .1)
+    subst (Measures scheme (low (m .before .last-bits .result .have) (m .before .last-bits .result .held))) (c .before .last2 .given .1)
     (m .measure-last .ensures)
 
 add-t8 : tie.Need-add-t8
@@ -63,7 +63,7 @@ add-t8 c =
     omega (
       arith,
       last-text k .1,
-      builds-within tables 1 briefs (last-text k .2),
+      builds-within scheme 1 briefs (last-text k .2),
       length-low (b .last-bits .result .have) (b .last-bits .result .held),
       b .last-bits .ensures .size,
       p .measure-words .ensures .0 .within,

@@ -10,7 +10,7 @@ use Rattle.codes.specs.Pack.{low}
 use Rattle.codes.proofs.Laying.{counting-none, counting-end, counting-stuck}
 use Rattle.codes.proofs.Low.{length-low}
 use Rattle.full_ascii_reader.specs.Passing.{Counted}
-use Rattle.full_ascii.specs.Table.{tables}
+use Rattle.full_ascii.specs.Table.{scheme}
 use Rattle.full_ascii_reader.proofs.Steps.{counted-code, no-code}
 use Rattle.full_ascii_reader.proofs.measure_last.Statement.{statement}
 use Rattle.full_ascii_reader.proofs.measure_last.Tie as tie
@@ -22,7 +22,7 @@ abbrev μ-loop : tie.MeasureT-loop
 μ-loop held have left₀ n₀ left n = left
 
 loop-holds : tie.Need-loop-holds Inv-loop μ-loop
-loop-holds c = (omega arith, omega arith, counting-none tables (low (c .args .have) (c .args .held)))
+loop-holds c = (omega arith, omega arith, counting-none scheme (low (c .args .have) (c .args .held)))
 
 at-end-requires : tie.Need-at-end-requires Inv-loop μ-loop
 at-end-requires c κs = omega arith
@@ -32,7 +32,7 @@ returns c =
     let a = c .before .before in
     let rest = low (a .loop .left) (a .before .args .held) in
     counting-end (a .loop .inv .2)
-    (subst (λ (b : Bool). Says b (Fill rest)) (c .if1 .taken) (c .before .at-end .ensures))
+    (subst (λ (b : Bool). Says b (Fill 7 rest)) (c .if1 .taken) (c .before .at-end .ensures))
 
 window-requires : tie.Need-window-requires Inv-loop μ-loop
 window-requires c κs = omega arith
@@ -53,7 +53,7 @@ returns-2 c =
     (omega (arith, length-low (a .before .args .have) held, length-low (a .loop .left) held))
     (no-code held (a .loop .left) (f .before .window .result) (f .first-code .result) (f .before .window .ensures) (f .first-code .ensures)
     (c .if2 .taken))
-    (subst (λ (b : Bool). Says b (Fill rest)) (f .before .before .if1 .left) (f .before .before .before .at-end .ensures))
+    (subst (λ (b : Bool). Says b (Fill 7 rest)) (f .before .before .if1 .left) (f .before .before .before .at-end .ensures))
 
 add-n : tie.Need-add-n Inv-loop μ-loop
 add-n c = omega (arith, c .before .before .before .before .first-code .ensures .short, c .before .before .before .before .first-code .ensures .few)

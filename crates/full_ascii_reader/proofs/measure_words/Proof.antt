@@ -6,7 +6,7 @@ use lib.ListN.{length}
 use Rattle.bits.specs.Row.{bits}
 use Rattle.codes.proofs.Laying.{counting-none}
 use Rattle.full_ascii_reader.specs.Passing.{Counted, beyond}
-use Rattle.full_ascii.specs.Table.{tables}
+use Rattle.full_ascii.specs.Table.{scheme}
 use Rattle.full_ascii_reader.proofs.Words.{counted-word}
 use Rattle.full_ascii_reader.proofs.measure_words.Statement.{statement}
 use Rattle.full_ascii_reader.proofs.measure_words.Tie as tie
@@ -20,7 +20,7 @@ abbrev μ-loop : tie.MeasureT-loop
 
 loop-holds : tie.Need-loop-holds Inv-loop μ-loop
 unfolding beyond
-loop-holds c = (omega arith, omega arith, omega arith, counting-none tables (bits (c .before .args .s .now)))
+loop-holds c = (omega arith, omega arith, omega arith, counting-none scheme (bits (c .before .args .s .now)))
 
 sub-loop : tie.Need-sub-loop Inv-loop μ-loop
 sub-loop c = omega arith

@@ -10,7 +10,7 @@ use Rattle.codes.specs.Laid.{laid}
 use Rattle.codes.specs.Pack.{low}
 use Rattle.codes.proofs.Laying.{laying-none, laying-length}
 use Rattle.full_ascii_reader.specs.Passing.{Laying}
-use Rattle.full_ascii.specs.Table.{tables}
+use Rattle.full_ascii.specs.Table.{scheme}
 use Rattle.full_ascii_reader.specs.Taken.{characters}
 use Rattle.full_ascii_reader.proofs.Laying.{puts-room, puts-code}
 use Rattle.full_ascii_reader.proofs.put_each.Statement.{statement}
@@ -29,7 +29,7 @@ loop-holds c =
     let bs = low (e .args .have) (e .args .held) in (
       omega arith,
       subst⁻¹ (Laying bs bs (e .args .out .now) (e .args .out .now) (e .args .n)) (add-zero (e .args .n))
-          (laying-none tables bs (e .args .out .now) (e .args .n)),
+          (laying-none scheme bs (e .args .out .now) (e .args .n)),
     )
 
 window-requires : tie.Need-window-requires Inv-loop μ-loop

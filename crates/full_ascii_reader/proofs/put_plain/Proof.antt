@@ -11,7 +11,7 @@ use Rattle.codes.specs.Laid.{laid}
 use Rattle.codes.specs.Pack.{low}
 use Rattle.codes.proofs.Laying.{laying-none, laying-length}
 use Rattle.full_ascii_reader.specs.Passing.{Laying}
-use Rattle.full_ascii.specs.Table.{tables}
+use Rattle.full_ascii.specs.Table.{scheme}
 use Rattle.full_ascii_reader.specs.Taken.{Takes, characters}
 use Rattle.full_ascii_reader.proofs.Laying.{puts-room, puts-code}
 use Rattle.full_ascii_reader.proofs.Seven.{top-seven, seven-takes, top-on}
@@ -41,7 +41,7 @@ loop-holds c =
       omega arith,
       refl,
       subst⁻¹ (Laying bs bs (e .args .out .now) (e .args .out .now) (e .args .n)) (add-zero (e .args .n))
-          (laying-none tables bs (e .args .out .now) (e .args .n)),
+          (laying-none scheme bs (e .args .out .now) (e .args .n)),
     )
 
 first-plain-requires : tie.Need-first-plain-requires Inv-loop μ-loop

@@ -9,7 +9,7 @@ use Rattle.codes.specs.Laid.{Readable}
 use Rattle.codes.specs.Pack.{low}
 use Rattle.codes.proofs.Laying.{laying-later, laying-last}
 use Rattle.full_ascii_reader.specs.Passing.{Laying}
-use Rattle.full_ascii.specs.Table.{tables}
+use Rattle.full_ascii.specs.Table.{scheme}
 use Rattle.full_ascii.proofs.Table.{laws}
 use borrow.Author.Needs.{needs}
 use Rattle.full_ascii_reader.proofs.put_text.Statement.{statement}
@@ -43,7 +43,7 @@ read-last-requires c κs =
     let same : length out ≡ length (e .args .out .now) = w .read-words .kept .1 .0 in (
       omega (arith, b .last-bits .ensures .size, w .read-words .ensures .0 .few),
       omega (arith, same, w .read-words .ensures .1),
-      subst (Readable tables last) (let x : 0 + length (e .args .out .now) - n ≡ length out - n = omega (arith, same) in x)
+      subst (Readable scheme last) (let x : 0 + length (e .args .out .now) - n ≡ length out - n = omega (arith, same) in x)
           (laying-later (laying b) laws (e .pre)),
     )
 

@@ -12,7 +12,7 @@ use Rattle.codes.specs.Laid.{laid}
 use Rattle.codes.specs.Pack.{low}
 use Rattle.codes.proofs.Laying.{laying-none, laying-length, laying-end, laying-later, laying-within}
 use Rattle.full_ascii_reader.specs.Passing.{Laying}
-use Rattle.full_ascii.specs.Table.{tables}
+use Rattle.full_ascii.specs.Table.{scheme}
 use Rattle.full_ascii_reader.specs.Taken.{characters}
 use Rattle.full_ascii_reader.proofs.Laying.{laying-code, code-there}
 use Rattle.full_ascii.proofs.Table.{laws}
@@ -29,7 +29,7 @@ abbrev μ-loop : tie.MeasureT-loop
 loop-holds : tie.Need-loop-holds Inv-loop μ-loop
 loop-holds c =
     let b = low (c .before .args .have) (c .before .args .held) in
-    (omega arith, omega arith, laying-none tables b (c .before .args .out .now) (c .before .args .n))
+    (omega arith, omega arith, laying-none scheme b (c .before .args .out .now) (c .before .args .n))
 
 at-end-requires : tie.Need-at-end-requires Inv-loop μ-loop
 at-end-requires c κs = omega arith
@@ -41,7 +41,7 @@ returns : tie.Need-returns Inv-loop μ-loop
 returns c =
     let a = c .before .before in
     let rest = low (a .loop .left) (a .before .before .args .held) in
-    laying-end (a .loop .inv .2) (subst (λ (b : Bool). Says b (Fill rest)) (c .if1 .taken) (c .before .at-end .ensures))
+    laying-end (a .loop .inv .2) (subst (λ (b : Bool). Says b (Fill 7 rest)) (c .if1 .taken) (c .before .at-end .ensures))
 
 window-requires : tie.Need-window-requires Inv-loop μ-loop
 window-requires c κs = omega arith
@@ -59,7 +59,7 @@ there f =
     code-there (e .args .held) (a .loop .left) (f .before .window .result) (f .first-code .result) (e .args .n + room - a .loop .at)
     (f .before .window .ensures) (f .first-code .ensures)
     (laying-later (a .loop .inv .2) laws (e .pre .2))
-    (subst (λ (b : Bool). Says b (Fill rest)) (f .before .before .if1 .left) (f .before .before .before .at-end .ensures))
+    (subst (λ (b : Bool). Says b (Fill 7 rest)) (f .before .before .if1 .left) (f .before .before .before .at-end .ensures))
 
 step : (f : tie.After-first-code Inv-loop μ-loop)
     → Laying (low (f .before .before .before .before .before .before .args .have) (f .before .before .before .before .before .before .args .held))

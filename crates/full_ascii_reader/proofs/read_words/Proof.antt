@@ -8,7 +8,7 @@ use Rattle.bits.specs.Row.{bits}
 use Rattle.codes.specs.Laid.{Readable}
 use Rattle.codes.proofs.Laying.{laying-none, laying-length, laying-later, laying-within}
 use Rattle.full_ascii_reader.specs.Passing.{Laying, beyond}
-use Rattle.full_ascii.specs.Table.{tables}
+use Rattle.full_ascii.specs.Table.{scheme}
 use Rattle.full_ascii_reader.proofs.Words.{laying-word, begun-word}
 use Rattle.full_ascii.proofs.Table.{laws}
 use Rattle.full_ascii_reader.proofs.read_words.Statement.{statement}
@@ -25,7 +25,7 @@ loop-holds : tie.Need-loop-holds Inv-loop μ-loop
 unfolding beyond
 loop-holds c =
     let e = c .before .before in
-    (omega arith, omega arith, omega arith, laying-none tables (bits (e .args .s .now)) (e .args .out .now) 0)
+    (omega arith, omega arith, omega arith, laying-none scheme (bits (e .args .s .now)) (e .args .out .now) 0)
 
 sub-loop : tie.Need-sub-loop Inv-loop μ-loop
 sub-loop c = omega arith
@@ -50,7 +50,7 @@ put-word-requires c κs =
       omega (arith, same a),
       begun-word s (a .loop .next) (w .eight .result) (omega arith) (w .eight .ensures .1) (w .eight .ensures .0) (a .loop .skip) (a .loop .inv .0)
           (length (a .loop .out) - a .loop .n)
-          (subst (Readable tables (beyond s (a .loop .next) (a .loop .skip)))
+          (subst (Readable scheme (beyond s (a .loop .next) (a .loop .skip)))
           (let x : 0 + length (e .args .out .now) - a .loop .n ≡ length (a .loop .out) - a .loop .n = omega (arith, same a) in x)
           (laying-later (a .loop .inv .3) laws (e .pre))),
     )

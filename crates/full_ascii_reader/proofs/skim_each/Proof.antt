@@ -5,7 +5,7 @@ use native.Mathlib.Omega.{arith}
 use Rattle.codes.specs.Pack.{low}
 use Rattle.codes.proofs.Laying.{counting-none}
 use Rattle.full_ascii_reader.specs.Passing.{Counted}
-use Rattle.full_ascii.specs.Table.{tables}
+use Rattle.full_ascii.specs.Table.{scheme}
 use Rattle.full_ascii_reader.proofs.Steps.{counted-code}
 use Rattle.full_ascii_reader.proofs.skim_each.Statement.{statement}
 use Rattle.full_ascii_reader.proofs.skim_each.Tie as tie
@@ -17,7 +17,7 @@ abbrev μ-loop : tie.MeasureT-loop
 μ-loop held have left₀ count₀ left count = left
 
 loop-holds : tie.Need-loop-holds Inv-loop μ-loop
-loop-holds c = (omega arith, counting-none tables (low (c .args .have) (c .args .held)))
+loop-holds c = (omega arith, counting-none scheme (low (c .args .have) (c .args .held)))
 
 window-requires : tie.Need-window-requires Inv-loop μ-loop
 window-requires c κs = omega arith

@@ -7,7 +7,7 @@ use Rattle.codes.specs.Ahead.{Window}
 use Rattle.codes.specs.Pack.{low}
 use Rattle.codes.proofs.Laying.{counting-none}
 use Rattle.full_ascii_reader.specs.Passing.{Counted}
-use Rattle.full_ascii.specs.Table.{tables}
+use Rattle.full_ascii.specs.Table.{scheme}
 use Rattle.full_ascii_reader.specs.Taken.{Takes}
 use Rattle.full_ascii_reader.proofs.Seven.{top-seven, seven-takes, top-on}
 use Rattle.full_ascii_reader.proofs.Steps.{counted-code}
@@ -29,7 +29,7 @@ shl-top : tie.Need-shl-top Inv-loop μ-loop
 shl-top c = omega arith
 
 loop-holds : tie.Need-loop-holds Inv-loop μ-loop
-loop-holds c = (omega arith, omega arith, omega arith, refl, counting-none tables (low (c .args .have) (c .args .held)))
+loop-holds c = (omega arith, omega arith, omega arith, refl, counting-none scheme (low (c .args .have) (c .args .held)))
 
 first-plain-requires : tie.Need-first-plain-requires Inv-loop μ-loop
 first-plain-requires c κs =

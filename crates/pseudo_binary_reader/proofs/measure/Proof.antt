@@ -11,7 +11,7 @@ use Rattle.codes.specs.Chain.{Fill}
 use Rattle.codes.specs.Pack.{low}
 use Rattle.codes.specs.Passed.{Counting}
 use Rattle.codes.proofs.Laying.{counting-end}
-use Rattle.pseudo_binary.specs.Table.{tables}
+use Rattle.pseudo_binary.specs.Table.{scheme}
 use Rattle.pseudo_binary_reader.specs.Taken.{Nine}
 use Rattle.pseudo_binary_reader.proofs.Starts.{starts-fill, starts-no-fill, starts-nine}
 use Rattle.pseudo_binary_reader.proofs.Steps.{counting-run, stuck-indicator, stuck-value}
@@ -19,7 +19,7 @@ use Rattle.pseudo_binary_reader.proofs.measure.Statement.{statement}
 use Rattle.pseudo_binary_reader.proofs.measure.Tie as tie
 
 abbrev Inv-loop : tie.InvT-loop
-Inv-loop s end at₀ n₀ at n = (at ≤ length s * 8) × (n ≤ 3 * at) × Counting tables (bits s) (drop at (bits s)) n
+Inv-loop s end at₀ n₀ at n = (at ≤ length s * 8) × (n ≤ 3 * at) × Counting scheme (bits s) (drop at (bits s)) n
 
 abbrev μ-loop : tie.MeasureT-loop
 μ-loop s end at₀ n₀ at n = length s * 8 - at
@@ -46,7 +46,7 @@ returns c =
     let s = a .before .before .before .args .s .now in
     counting-end (a .loop .inv .2)
     (starts-fill s (a .loop .at) (b .buffer-at .result) (b .buffer-at .ensures) (omega (arith, a .loop .inv))
-    (subst (λ (t : Bool). Says t (Fill (low (b .buffer-at .result .have) (b .buffer-at .result .held)))) (c .if1 .taken) (c .before .at-end .ensures)))
+    (subst (λ (t : Bool). Says t (Fill 7 (low (b .buffer-at .result .have) (b .buffer-at .result .held)))) (c .if1 .taken) (c .before .at-end .ensures)))
 
 window-requires : tie.Need-window-requires Inv-loop μ-loop
 window-requires c κs = omega (arith, c .before .before .buffer-at .ensures .few)
@@ -77,7 +77,7 @@ returns-2 c =
     stuck-indicator s (a .loop .at) inside (f .before .window .result) (nine f) (f .first-indicator .result) (f .first-indicator .ensures)
     (a .loop .inv .2 .said) (a .loop .inv .2 .passed) (omega (arith, c .if2 .taken, a .loop .inv))
     (starts-no-fill s (a .loop .at) (b .buffer-at .result) (b .buffer-at .ensures) inside
-    (subst (λ (t : Bool). Says t (Fill (low (b .buffer-at .result .have) (b .buffer-at .result .held)))) (f .before .before .if1 .left)
+    (subst (λ (t : Bool). Says t (Fill 7 (low (b .buffer-at .result .have) (b .buffer-at .result .held)))) (f .before .before .if1 .left)
     (f .before .before .before .at-end .ensures)))
 
 sub-left : tie.Need-sub-left Inv-loop μ-loop

@@ -6,7 +6,7 @@ use lib.ListN.{length, drop}
 use Rattle.bits.specs.Row.{bits}
 use Rattle.codes.specs.Passed.{Counting}
 use Rattle.codes.proofs.Laying.{counting-none}
-use Rattle.pseudo_binary.specs.Table.{tables}
+use Rattle.pseudo_binary.specs.Table.{scheme}
 use Rattle.pseudo_binary_reader.specs.Taken.{Nine}
 use Rattle.pseudo_binary_reader.proofs.Starts.{top-nine}
 use Rattle.pseudo_binary_reader.proofs.Steps.{counting-run, counting-plain, length-left}
@@ -14,13 +14,13 @@ use Rattle.pseudo_binary_reader.proofs.measure_most.Statement.{statemen
 use Rattle.pseudo_binary_reader.proofs.measure_most.Tie as tie
 
 abbrev Inv-loop : tie.InvT-loop
-Inv-loop s end limit at₀ n₀ at n = (at ≤ length s * 8) × (n ≤ 3 * at) × Counting tables (bits s) (drop at (bits s)) n
+Inv-loop s end limit at₀ n₀ at n = (at ≤ length s * 8) × (n ≤ 3 * at) × Counting scheme (bits s) (drop at (bits s)) n
 
 abbrev μ-loop : tie.MeasureT-loop
 μ-loop s end limit at₀ n₀ at n = length s * 8 - at
 
 returns : tie.Need-returns Inv-loop μ-loop
-returns c = ((omega arith, omega arith), counting-none tables (bits (c .before .before .args .s .now)))
+returns c = ((omega arith, omega arith), counting-none scheme (bits (c .before .before .args .s .now)))
 
 mul-end : tie.Need-mul-end Inv-loop μ-loop
 mul-end c = omega (arith, c .before .before .pre)
@@ -29,7 +29,7 @@ sub-limit : tie.Need-sub-limit Inv-loop μ-loop
 sub-limit c = omega (arith, c .if1 .left)
 
 loop-holds : tie.Need-loop-holds Inv-loop μ-loop
-loop-holds c = (omega arith, omega arith, counting-none tables (bits (c .before .before .args .s .now)))
+loop-holds c = (omega arith, omega arith, counting-none scheme (bits (c .before .before .args .s .now)))
 
 top-at-requires : tie.Need-top-at-requires Inv-loop μ-loop
 top-at-requires c κs = omega (arith, c .loop-test .taken)

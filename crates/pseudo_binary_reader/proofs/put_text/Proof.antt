@@ -12,7 +12,7 @@ use Rattle.codes.specs.Chain.{Fill}
 use Rattle.codes.specs.Laid.{Readable}
 use Rattle.codes.specs.Pack.{low}
 use Rattle.codes.proofs.Laying.{laying-length, laying-end}
-use Rattle.pseudo_binary.specs.Table.{tables}
+use Rattle.pseudo_binary.specs.Table.{scheme}
 use Rattle.pseudo_binary_reader.proofs.Starts.{starts-fill, starts-no-fill, starts-nine}
 use Rattle.pseudo_binary_reader.proofs.Steps.{Stands, Whole, whole, whole-plain}
 use Rattle.pseudo_binary_reader.proofs.put_text.Statement.{statement}
@@ -22,7 +22,7 @@ abbrev Inv-loop : tie.InvT-loop
 Inv-loop s out₀ at₀ n₀ out at n =
     (at ≤ length s * 8)
     × (length s * 8 ≤ at + 8)
-    × ((entry : List ℕ) → Readable tables (bits s) (length entry) → Stands s entry out₀ at₀ n₀ → Stands s entry out at n)
+    × ((entry : List ℕ) → Readable scheme (bits s) (length entry) → Stands s entry out₀ at₀ n₀ → Stands s entry out at n)
 
 abbrev μ-loop : tie.MeasureT-loop
 μ-loop s out₀ at₀ n₀ out at n = length s * 8 - at
@@ -62,7 +62,7 @@ returns c =
     let s = a .before .before .before .before .before .before .before .args .s .now in
     laying-end (stands a .1)
     (starts-fill s (a .loop .at) (b .buffer-at .result) (b .buffer-at .ensures) (a .loop .inv .0)
-    (subst (λ (t : Bool). Says t (Fill (low (b .buffer-at .result .have) (b .buffer-at .result .held)))) (c .if1 .taken) (c .before .at-end .ensures)))
+    (subst (λ (t : Bool). Says t (Fill 7 (low (b .buffer-at .result .have) (b .buffer-at .result .held)))) (c .if1 .taken) (c .before .at-end .ensures)))
 
 window-requires : tie.Need-window-requires Inv-loop μ-loop
 window-requires c κs = omega (arith, c .before .before .buffer-at .ensures .few)
@@ -72,7 +72,7 @@ first-indicator-requires c κs = c .window .ensures .small
 
 -- at the indicator that was found: its bits and its values are there, and there is room for what they say
 found : (f : tie.After-first-indicator Inv-loop μ-loop) (entry : List ℕ)
-    → Readable tables (bits (f .before .before .before .before .before .before .before .before .before .before .before .before .args .s .now)) (length entry)
+    → Readable scheme (bits (f .before .before .before .before .before .before .before .before .before .before .before .before .args .s .now)) (length entry)
     → Stands (f .before .before .before .before .before .before .before .before .before .before .before .before .args .s .now) entry
     (f .before .before .before .before .before .loop .out) (f .before .before .before .before .before .loop .at) (f .before .before .before .before .before .loop .n)
     → Whole (f .before .before .before .before .before .before .before .before .before .before .before .before .args .s .now)
@@ -88,7 +88,7 @@ found f entry readable y =
     (starts-nine s at buffer (b .buffer-at .ensures) (a .loop .inv .0) (f .before .window .result) (f .before .window .ensures))
     (f .first-indicator .result) (f .first-indicator .ensures) entry (a .loop .out) (a .loop .n) (y .1) readable
     (starts-no-fill s at buffer (b .buffer-at .ensures) (a .loop .inv .0)
-    (subst (λ (t : Bool). Says t (Fill (low (buffer .have) (buffer .held)))) (f .before .before .if1 .left) (f .before .before .before .at-end .ensures)))
+    (subst (λ (t : Bool). Says t (Fill 7 (low (buffer .have) (buffer .held)))) (f .before .before .if1 .left) (f .before .before .before .at-end .ensures)))
     (y .0)
 
 -- in the buffer that the function was given

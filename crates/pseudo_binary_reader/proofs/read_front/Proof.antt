@@ -7,7 +7,7 @@ use lib.ListN.{length, drop}
 use Rattle.bits.specs.Row.{bits}
 use Rattle.codes.specs.Passed.{Laying}
 use Rattle.codes.proofs.Laying.{laying-none, laying-length}
-use Rattle.pseudo_binary.specs.Table.{tables}
+use Rattle.pseudo_binary.specs.Table.{scheme}
 use Rattle.pseudo_binary_reader.proofs.Starts.{top-nine}
 use Rattle.pseudo_binary_reader.proofs.Steps.{Whole, whole, whole-plain, whole-values, length-left}
 use Rattle.pseudo_binary_reader.proofs.read_front.Statement.{statement}
@@ -15,7 +15,7 @@ use Rattle.pseudo_binary_reader.proofs.read_front.Tie as tie
 
 abbrev Inv-loop : tie.InvT-loop
 Inv-loop s out₀ limit at₀ n₀ out at n =
-    (at ≤ length s * 8) × (n ≤ length out₀) × Laying tables (bits s) (drop at (bits s)) out₀ out 0 n
+    (at ≤ length s * 8) × (n ≤ length out₀) × Laying scheme (bits s) (drop at (bits s)) out₀ out 0 n
 
 abbrev μ-loop : tie.MeasureT-loop
 μ-loop s out₀ limit at₀ n₀ out at n = length s * 8 - at
@@ -27,7 +27,7 @@ given a = a .before .before .before .before
 returns : tie.Need-returns Inv-loop μ-loop
 returns c =
     let e = c .before .before .before in
-    ((omega arith, omega arith), laying-none tables (bits (e .args .s .now)) (e .args .out .now) 0)
+    ((omega arith, omega arith), laying-none scheme (bits (e .args .s .now)) (e .args .out .now) 0)
 
 mul-limit : tie.Need-mul-limit Inv-loop μ-loop
 mul-limit c = omega (arith, c .before .before .before .pre .0)
@@ -38,7 +38,7 @@ sub-limit c = omega (arith, c .if1 .left)
 loop-holds : tie.Need-loop-holds Inv-loop μ-loop
 loop-holds c =
     let e = c .before .before .before in
-    (omega arith, omega arith, laying-none tables (bits (e .args .s .now)) (e .args .out .now) 0)
+    (omega arith, omega arith, laying-none scheme (bits (e .args .s .now)) (e .args .out .now) 0)
 
 top-at-requires : tie.Need-top-at-requires Inv-loop μ-loop
 top-at-requires c κs = omega (arith, c .loop-test .taken)

@@ -8,7 +8,7 @@ use lib.ListN.{length}
 use Rattle.bits.specs.Row.{bits}
 use Rattle.codes.specs.Laid.{Readable}
 use Rattle.codes.proofs.Laying.{laying-length}
-use Rattle.pseudo_binary.specs.Table.{tables}
+use Rattle.pseudo_binary.specs.Table.{scheme}
 use Rattle.pseudo_binary_reader.proofs.Steps.{Stands, Whole, whole, length-left}
 use Rattle.pseudo_binary_reader.proofs.read_most.Statement.{statement}
 use Rattle.pseudo_binary_reader.proofs.read_most.Tie as tie
@@ -16,7 +16,7 @@ use Rattle.pseudo_binary_reader.proofs.read_most.Tie as tie
 abbrev Inv-loop : tie.InvT-loop
 Inv-loop s out₀ at₀ n₀ out at n =
     (at ≤ length s * 8)
-    × ((entry : List ℕ) → Readable tables (bits s) (length entry) → Stands s entry out₀ at₀ n₀ → Stands s entry out at n)
+    × ((entry : List ℕ) → Readable scheme (bits s) (length entry) → Stands s entry out₀ at₀ n₀ → Stands s entry out at n)
 
 abbrev μ-loop : tie.MeasureT-loop
 μ-loop s out₀ at₀ n₀ out at n = length s * 8 - at
@@ -51,7 +51,7 @@ same : (a : tie.At-loop Inv-loop μ-loop) → length (a .loop .out) ≡ length (
 same a = laying-length (stands a .1) (stands a .0)
 
 -- at the indicator that was found: its bits and its values are there, and there is room for what they say
-found : (f : tie.After-first-indicator Inv-loop μ-loop) (entry : List ℕ) → Readable tables (bits (given (f .before .before .before) .args .s .now)) (length entry)
+found : (f : tie.After-first-indicator Inv-loop μ-loop) (entry : List ℕ) → Readable scheme (bits (given (f .before .before .before) .args .s .now)) (length entry)
     → Stands (given (f .before .before .before) .args .s .now) entry (f .before .before .before .loop .out) (f .before .before .before .loop .at) (f .before .before .before .loop .n)
     → Whole (given (f .before .before .before) .args .s .now) (f .before .before .before .loop .at) (f .first-indicator .result) entry (f .before .before .before .loop .out) (f .before .before .before .loop .n)
 found f entry readable y =
