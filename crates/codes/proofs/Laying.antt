@@ -1,4 +1,4 @@
--- Data that is read up to a bit: what was said so far is counted, or laid into a buffer. It holds of every format.
+-- Data that is read up to a bit: what was said so far is counted, or laid into a buffer. It holds of every scheme.
 -- Assumes nothing.
 use mathlib.Core.Path.{_≡_, refl, sym, ap, subst, _∙_}
 use mathlib.Core.List.{List, [], _++_, append-nil}

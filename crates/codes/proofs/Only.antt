@@ -13,7 +13,7 @@ use lib.ListN.{length, drop}
 use Rattle.codes.specs.Chain as chain
 use Rattle.codes.specs.Chain.{Scheme, Built}
 use Rattle.codes.specs.Laid.{Fronted}
-use Rattle.codes.specs.Measure.{Comes, Enters, ReadsInto}
+use Rattle.codes.specs.Measure.{ComesTo, Enters, Comes, ReadsInto}
 use Rattle.codes.specs.declared.Outcome.{Outcome}
 use Rattle.codes.specs.declared.Outcome.the-variants as Outcome
 use Rattle.codes.specs.Size.{Coded, First, Searches, Needs, Stores}
@@ -28,48 +28,52 @@ use Rattle.codes.specs.declared.Uncoded.the-variants.{At, Nowhere}
 use Rattle.codes.proofs.Laws.{Laws}
 use Rattle.codes.proofs.Reading.{one-text, one-place, never-both}
 
-module _ {scheme : Scheme} (laws : Laws scheme) (sent : List ℕ) where
-  pub one-outcome : (a b : Outcome) → Comes scheme sent a → Comes scheme sent b → a ≡ b
-  one-outcome (Outcome.Text m) (Outcome.Text n) h k =
-      ap {B = Outcome} Outcome.Text (sym (h .1 .1) ∙ ap length (one-text laws (h .1 .2) (k .1 .2)) ∙ k .1 .1)
-  one-outcome (Outcome.Text m) (Outcome.Malformed j) h k = absurd (never-both laws (h .1 .2) (k .1))
-  one-outcome (Outcome.Text m) Outcome.TooLong h k = absurd (let no′ : ⊥ = omega (arith, h .0) in no′)
-  one-outcome (Outcome.Malformed i) (Outcome.Text n) h k = absurd (never-both laws (k .1 .2) (h .1))
-  one-outcome (Outcome.Malformed i) (Outcome.Malformed j) h k = ap {B = Outcome} Outcome.Malformed (one-place laws (h .1) (k .1))
-  one-outcome (Outcome.Malformed i) Outcome.TooLong h k = absurd (let no′ : ⊥ = omega (arith, h .0) in no′)
-  one-outcome Outcome.TooLong (Outcome.Text n) h k = absurd (let no′ : ⊥ = omega (arith, k .0) in no′)
-  one-outcome Outcome.TooLong (Outcome.Malformed j) h k = absurd (let no′ : ⊥ = omega (arith, k .0) in no′)
-  one-outcome Outcome.TooLong Outcome.TooLong h k = refl
-
--- ---- reading into a buffer, where data carries one text or is malformed at one place, never both
+-- ---- taking data apart, and reading it into a buffer, where it carries one text or is malformed at one place, never both
 
 module _ (Carried : List ℕ → Type 0) (Place : ℕ → Type 0) (one : (t u : List ℕ) → Carried t → Carried u → t ≡ u)
-    (place : (i j : ℕ) → Place i → Place j → i ≡ j) (never : (t : List ℕ) (i : ℕ) → Carried t → Place i → ⊥) (size : ℕ) (entry : List ℕ) where
-  pub one-entry : (a b : Taken) (x y : List ℕ) → Enters Carried Place size entry a x → Enters Carried Place size entry b y → (a ≡ b) × (x ≡ y)
-  one-entry (Taken.Text m) (Taken.Text n) x y (s, (t, p, l, r, e)) (s′, (u, q, l′, r′, e′)) =
-      let same = one t u p q in
-      let long : m ≡ n = l ∙ ap length same ∙ sym l′ in
-      (ap {B = Taken} Taken.Text long, e ∙ ap₂ (λ (k : List ℕ) (z : ℕ). k ++ drop z entry) same long ∙ sym e′)
-  one-entry (Taken.Text m) (Taken.Malformed j) x y (s, (t, p, l, r, e)) (s′, q, e′) = absurd (never t j p q)
-  one-entry (Taken.Text m) (Taken.NoRoom n) x y (s, (t, p, l, r, e)) (s′, (u, q, l′, r′), e′) =
-      absurd (let no′ : ⊥ = omega (arith, l, ap length (one t u p q), l′, r, r′) in no′)
-  one-entry (Taken.Text m) Taken.TooLong x y (s, h) (s′, e′) = absurd (let no′ : ⊥ = omega (arith, s, s′) in no′)
-  one-entry (Taken.Malformed i) (Taken.Text n) x y (s, p, e) (s′, (u, q, l′, r′, e′)) = absurd (never u i q p)
-  one-entry (Taken.Malformed i) (Taken.Malformed j) x y (s, p, e) (s′, q, e′) = (ap {B = Taken} Taken.Malformed (place i j p q), e ∙ sym e′)
-  one-entry (Taken.Malformed i) (Taken.NoRoom n) x y (s, p, e) (s′, (u, q, l′, r′), e′) = absurd (never u i q p)
-  one-entry (Taken.Malformed i) Taken.TooLong x y (s, p, e) (s′, e′) = absurd (let no′ : ⊥ = omega (arith, s, s′) in no′)
-  one-entry (Taken.NoRoom m) (Taken.Text n) x y (s, (t, p, l, r), e) (s′, (u, q, l′, r′, e′)) =
-      absurd (let no′ : ⊥ = omega (arith, l, ap length (one t u p q), l′, r, r′) in no′)
-  one-entry (Taken.NoRoom m) (Taken.Malformed j) x y (s, (t, p, l, r), e) (s′, q, e′) = absurd (never t j p q)
-  one-entry (Taken.NoRoom m) (Taken.NoRoom n) x y (s, (t, p, l, r), e) (s′, (u, q, l′, r′), e′) =
-      (ap {B = Taken} Taken.NoRoom (l ∙ ap length (one t u p q) ∙ sym l′), e ∙ sym e′)
-  one-entry (Taken.NoRoom m) Taken.TooLong x y (s, h, e) (s′, e′) = absurd (let no′ : ⊥ = omega (arith, s, s′) in no′)
-  one-entry Taken.TooLong (Taken.Text n) x y (s, e) (s′, k) = absurd (let no′ : ⊥ = omega (arith, s, s′) in no′)
-  one-entry Taken.TooLong (Taken.Malformed j) x y (s, e) (s′, q, e′) = absurd (let no′ : ⊥ = omega (arith, s, s′) in no′)
-  one-entry Taken.TooLong (Taken.NoRoom n) x y (s, e) (s′, k, e′) = absurd (let no′ : ⊥ = omega (arith, s, s′) in no′)
-  one-entry Taken.TooLong Taken.TooLong x y (s, e) (s′, e′) = (refl, e ∙ sym e′)
+    (place : (i j : ℕ) → Place i → Place j → i ≡ j) (never : (t : List ℕ) (i : ℕ) → Carried t → Place i → ⊥) (size : ℕ) where
+  pub one-coming : (a b : Outcome) → ComesTo Carried Place size a → ComesTo Carried Place size b → a ≡ b
+  one-coming (Outcome.Text m) (Outcome.Text n) (s, (t, l, p)) (s′, (u, l′, q)) = ap {B = Outcome} Outcome.Text (sym l ∙ ap length (one t u p q) ∙ l′)
+  one-coming (Outcome.Text m) (Outcome.Malformed j) (s, (t, l, p)) (s′, q) = absurd (never t j p q)
+  one-coming (Outcome.Text m) Outcome.TooLong (s, h) k = absurd (let no′ : ⊥ = omega (arith, s, k) in no′)
+  one-coming (Outcome.Malformed i) (Outcome.Text n) (s, p) (s′, (u, l′, q)) = absurd (never u i q p)
+  one-coming (Outcome.Malformed i) (Outcome.Malformed j) (s, p) (s′, q) = ap {B = Outcome} Outcome.Malformed (place i j p q)
+  one-coming (Outcome.Malformed i) Outcome.TooLong (s, h) k = absurd (let no′ : ⊥ = omega (arith, s, k) in no′)
+  one-coming Outcome.TooLong (Outcome.Text n) h (s′, k) = absurd (let no′ : ⊥ = omega (arith, h, s′) in no′)
+  one-coming Outcome.TooLong (Outcome.Malformed j) h (s′, k) = absurd (let no′ : ⊥ = omega (arith, h, s′) in no′)
+  one-coming Outcome.TooLong Outcome.TooLong h k = refl
 
--- of a format whose table has the laws
+  module _ (entry : List ℕ) where
+    pub one-entry : (a b : Taken) (x y : List ℕ) → Enters Carried Place size entry a x → Enters Carried Place size entry b y → (a ≡ b) × (x ≡ y)
+    one-entry (Taken.Text m) (Taken.Text n) x y (s, (t, p, l, r, e)) (s′, (u, q, l′, r′, e′)) =
+        let same = one t u p q in
+        let long : m ≡ n = l ∙ ap length same ∙ sym l′ in
+        (ap {B = Taken} Taken.Text long, e ∙ ap₂ (λ (k : List ℕ) (z : ℕ). k ++ drop z entry) same long ∙ sym e′)
+    one-entry (Taken.Text m) (Taken.Malformed j) x y (s, (t, p, l, r, e)) (s′, q, e′) = absurd (never t j p q)
+    one-entry (Taken.Text m) (Taken.NoRoom n) x y (s, (t, p, l, r, e)) (s′, (u, q, l′, r′), e′) =
+        absurd (let no′ : ⊥ = omega (arith, l, ap length (one t u p q), l′, r, r′) in no′)
+    one-entry (Taken.Text m) Taken.TooLong x y (s, h) (s′, e′) = absurd (let no′ : ⊥ = omega (arith, s, s′) in no′)
+    one-entry (Taken.Malformed i) (Taken.Text n) x y (s, p, e) (s′, (u, q, l′, r′, e′)) = absurd (never u i q p)
+    one-entry (Taken.Malformed i) (Taken.Malformed j) x y (s, p, e) (s′, q, e′) = (ap {B = Taken} Taken.Malformed (place i j p q), e ∙ sym e′)
+    one-entry (Taken.Malformed i) (Taken.NoRoom n) x y (s, p, e) (s′, (u, q, l′, r′), e′) = absurd (never u i q p)
+    one-entry (Taken.Malformed i) Taken.TooLong x y (s, p, e) (s′, e′) = absurd (let no′ : ⊥ = omega (arith, s, s′) in no′)
+    one-entry (Taken.NoRoom m) (Taken.Text n) x y (s, (t, p, l, r), e) (s′, (u, q, l′, r′, e′)) =
+        absurd (let no′ : ⊥ = omega (arith, l, ap length (one t u p q), l′, r, r′) in no′)
+    one-entry (Taken.NoRoom m) (Taken.Malformed j) x y (s, (t, p, l, r), e) (s′, q, e′) = absurd (never t j p q)
+    one-entry (Taken.NoRoom m) (Taken.NoRoom n) x y (s, (t, p, l, r), e) (s′, (u, q, l′, r′), e′) =
+        (ap {B = Taken} Taken.NoRoom (l ∙ ap length (one t u p q) ∙ sym l′), e ∙ sym e′)
+    one-entry (Taken.NoRoom m) Taken.TooLong x y (s, h, e) (s′, e′) = absurd (let no′ : ⊥ = omega (arith, s, s′) in no′)
+    one-entry Taken.TooLong (Taken.Text n) x y (s, e) (s′, k) = absurd (let no′ : ⊥ = omega (arith, s, s′) in no′)
+    one-entry Taken.TooLong (Taken.Malformed j) x y (s, e) (s′, q, e′) = absurd (let no′ : ⊥ = omega (arith, s, s′) in no′)
+    one-entry Taken.TooLong (Taken.NoRoom n) x y (s, e) (s′, k, e′) = absurd (let no′ : ⊥ = omega (arith, s, s′) in no′)
+    one-entry Taken.TooLong Taken.TooLong x y (s, e) (s′, e′) = (refl, e ∙ sym e′)
+
+-- of a scheme that has the laws
+pub one-outcome : {scheme : Scheme} → Laws scheme → (sent : List ℕ) (a b : Outcome) → Comes scheme sent a → Comes scheme sent b → a ≡ b
+one-outcome {scheme} laws sent =
+    one-coming (λ (text : List ℕ). Built scheme text sent) (chain.Malformed scheme sent) (λ t u p q. one-text laws p q) (λ i j p q. one-place laws p q)
+    (λ t i p q. never-both laws p q) (length sent)
+
 pub one-reading : {scheme : Scheme} → Laws scheme → (sent entry : List ℕ) (a b : Taken) (x y : List ℕ)
     → ReadsInto scheme sent entry a x → ReadsInto scheme sent entry b y → (a ≡ b) × (x ≡ y)
 one-reading {scheme} laws sent entry =
@@ -94,8 +98,8 @@ module _ (has : ℕ → Bool) (text : List ℕ) where
   all-coded : (i : ℕ) → First has text i → Coded has text (length text) → ⊥
   all-coded i f c = f .none (c i (f .there))
 
-  module _ (carried : List ℕ) where
-    pub one-need : (a b : Needed) → Needs has text carried a → Needs has text carried b → a ≡ b
+  module _ (most : ℕ) (carried : List ℕ) where
+    pub one-need : (a b : Needed) → Needs most has text carried a → Needs most has text carried b → a ≡ b
     one-need (NoCode i) (NoCode j) h k = ap {B = Needed} NoCode (first-one i j h k)
     one-need (NoCode i) TooMany h k = absurd (all-coded i h (k .0))
     one-need (NoCode i) (Bytes n) h k = absurd (all-coded i h (k .0))
@@ -119,7 +123,7 @@ module _ (has : ℕ → Bool) (text : List ℕ) where
       stored TooMany = (Stored.TooMany, entry)
       stored (Bytes n) = cond (ltb (length entry) n) (Stored.NoRoom n, entry) (Stored.Bytes n, carried ++ drop n entry)
 
-      needed : (a : Stored) (x : List ℕ) → Stores has text carried entry a x → Needs has text carried (need a) × ((a, x) ≡ stored (need a))
+      needed : (a : Stored) (x : List ℕ) → Stores most has text carried entry a x → Needs most has text carried (need a) × ((a, x) ≡ stored (need a))
       unfolding need stored
       needed (Stored.NoCode i) x h = (h .0, ap (λ (l : List ℕ). (Stored.NoCode i, l)) (h .1))
       needed Stored.TooMany x h = (h .0, ap (λ (l : List ℕ). (Stored.TooMany, l)) (h .1))
@@ -128,7 +132,7 @@ module _ (has : ℕ → Bool) (text : List ℕ) where
       needed (Stored.Bytes n) x h =
           (h .0, ap (λ (l : List ℕ). (Stored.Bytes n, l)) (h .2) ∙ sym (ap (λ (t : Bool). cond t (Stored.NoRoom n, entry) (Stored.Bytes n, carried ++ drop n entry)) (le-ltb (length entry) n (h .1))))
 
-      pub one-store : (a b : Stored) (x y : List ℕ) → Stores has text carried entry a x → Stores has text carried entry b y → (a ≡ b) × (x ≡ y)
+      pub one-store : (a b : Stored) (x y : List ℕ) → Stores most has text carried entry a x → Stores most has text carried entry b y → (a ≡ b) × (x ≡ y)
       one-store a b x y h k =
           let same = needed a x h .1 ∙ ap stored (one-need (need a) (need b) (needed a x h .0) (needed b y k .0)) ∙ sym (needed b y k .1) in
           (ap (λ (p : Stored × List ℕ). p .0) same, ap (λ (p : Stored × List ℕ). p .1) same)

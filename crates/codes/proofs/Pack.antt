@@ -12,7 +12,7 @@ use lib.Seq.{drop-nil, length-take-le, drop-append-add}
 use Rattle.bits.specs.Row.{bits, Bytes}
 use Rattle.bits.specs.Word.{bit}
 use Rattle.codes.specs.Chain.{Entry, Scheme, after, Row, codes, texts, Built}
-use Rattle.codes.specs.Pack.{Binary, low, value, bytes, packed, gap, filled, written, Closes}
+use Rattle.codes.specs.Pack.{Binary, low, value, bytes, packed, gap, filled, written}
 use Rattle.bits.proofs.Said.{and-left, and-right}
 use Rattle.codes.proofs.Every.{every, every-at}
 use Rattle.codes.proofs.Fill.{ones-fill}
@@ -153,6 +153,10 @@ row-binary scheme t m n [] r = tt
 row-binary scheme t m n (e ∷ es) r =
     binary-append (e .code) (codes es) (every-binary (e .code) (every-at binary (scheme .table m) (t m) e (r .0)))
     (row-binary scheme t (after m e) n es (r .1))
+
+-- where the codes of these entries end, no more is left of the last byte than may be unused
+abbrev pub Closes : Scheme → List Entry → Type 0
+Closes scheme es = gap (length (codes es)) ≤ scheme .unused
 
 -- what entries are written as
 module _ (es : List Entry) where

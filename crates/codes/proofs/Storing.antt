@@ -12,23 +12,23 @@ use Rattle.codes.specs.declared.Needed.the-variants as Needed
 use Rattle.codes.specs.declared.Stored.the-variants.{NoCode, NoRoom, Bytes}
 
 -- each number of the answer with what it must be, so that a wrong one is refused where it stands
-module _ (has : ℕ → Bool) (text carried : List ℕ) where
-  pub need-code : (index i : ℕ) → Needs has text carried (Needed.NoCode i) → index ≡ i → Needs has text carried (Needed.NoCode index)
-  need-code index i need e = subst⁻¹ (λ (k : ℕ). Needs has text carried (Needed.NoCode k)) e need
+module _ (most : ℕ) (has : ℕ → Bool) (text carried : List ℕ) where
+  pub need-code : (index i : ℕ) → Needs most has text carried (Needed.NoCode i) → index ≡ i → Needs most has text carried (Needed.NoCode index)
+  need-code index i need e = subst⁻¹ (λ (k : ℕ). Needs most has text carried (Needed.NoCode k)) e need
 
   module _ (entry : List ℕ) where
-    pub store-no-code : (index i : ℕ) → Needs has text carried (Needed.NoCode i) → index ≡ i → Stores has text carried entry (NoCode index) entry
+    pub store-no-code : (index i : ℕ) → Needs most has text carried (Needed.NoCode i) → index ≡ i → Stores most has text carried entry (NoCode index) entry
     store-no-code index i need e = (need-code index i need e, refl)
 
-    module _ (n : ℕ) (need : Needs has text carried (Needed.Bytes n)) where
-      needs : (m : ℕ) → m ≡ n → Needs has text carried (Needed.Bytes m)
-      needs m e = subst⁻¹ (λ (k : ℕ). Needs has text carried (Needed.Bytes k)) e need
+    module _ (n : ℕ) (need : Needs most has text carried (Needed.Bytes n)) where
+      needs : (m : ℕ) → m ≡ n → Needs most has text carried (Needed.Bytes m)
+      needs m e = subst⁻¹ (λ (k : ℕ). Needs most has text carried (Needed.Bytes k)) e need
 
-      pub store-no-room : (needed : ℕ) → needed ≡ n → length entry < n → Stores has text carried entry (NoRoom needed) entry
+      pub store-no-room : (needed : ℕ) → needed ≡ n → length entry < n → Stores most has text carried entry (NoRoom needed) entry
       store-no-room needed e short = (needs needed e, omega arith, refl)
 
       pub store-bytes : (exit : List ℕ) (r long : ℕ) → n ≤ length entry → Fronted carried entry exit r → long ≡ r
-          → Stores has text carried entry (Bytes long) exit
+          → Stores most has text carried entry (Bytes long) exit
       store-bytes exit r long held f e =
           let same : long ≡ n = e ∙ f .size ∙ sym (need .1) in
           (needs long same, omega arith, f .whole ∙ ap (λ (k : ℕ). carried ++ drop k entry) (sym e))

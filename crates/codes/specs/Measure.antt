@@ -6,7 +6,6 @@ use Prim.Native.Nat.{ℕ, _^_, _≤_, _<_}
 use lib.ListN.{length, drop}
 use Rattle.codes.specs.Chain as chain
 use Rattle.codes.specs.Chain.{Scheme, Builds, Stuck, Built}
-use Rattle.bits.specs.Row.{bits}
 use Rattle.codes.specs.declared.Outcome.{Outcome}
 use Rattle.codes.specs.declared.Outcome.the-variants as Outcome
 use Rattle.codes.specs.declared.Measured.{Measured}
@@ -19,19 +18,19 @@ abbrev pub Measures : Scheme → List ℕ → Measured → Type 0
 Measures scheme bs (Text n) = (text : List ℕ) × (length text ≡ n) × Builds scheme 0 bs text
 Measures scheme bs (Malformed i) = Stuck scheme 0 bs i
 
--- data of fewer bytes has no more bits or characters than a number of 64 bits counts
+-- data of fewer bytes has fewer bits than a number of 64 bits counts, and fewer characters where a scheme says at most 32 for a bit
 abbrev pub countable : ℕ
 countable = 2 ^ 56
 
--- the data comes to a text or a place, or is so long that they may not be counted
-abbrev pub Comes : Scheme → List ℕ → Outcome → Type 0
-Comes scheme sent (Outcome.Text n) = (length sent < countable) × Measures scheme (bits sent) (Text n)
-Comes scheme sent (Outcome.Malformed i) = (length sent < countable) × Measures scheme (bits sent) (Malformed i)
-Comes scheme sent Outcome.TooLong = countable ≤ length sent
+-- data of so many bytes taken apart, by which texts it carries and at which bits it is malformed: the length of its text, or the malformed bit, or that
+-- the data is so long that they may not be counted
+abbrev pub ComesTo : (List ℕ → Type 0) → (ℕ → Type 0) → ℕ → Outcome → Type 0
+ComesTo Carried Place size (Outcome.Text n) = (size < countable) × ((text : List ℕ) × (length text ≡ n) × Carried text)
+ComesTo Carried Place size (Outcome.Malformed i) = (size < countable) × Place i
+ComesTo Carried Place size Outcome.TooLong = countable ≤ size
 
--- data of so many bytes read into a buffer, by which texts it carries and at which bits it is malformed: its text at the front, of this length, and
--- behind it the buffer as it was; or the buffer as it was, and the malformed bit, the length of a text that has no room, or that the data is too long to
--- be counted
+-- the same read into a buffer: its text at the front, of this length, and behind it the buffer as it was; or the buffer as it was, and the malformed
+-- bit, the length of a text that has no room, or that the data is too long to be counted
 abbrev pub Enters : (List ℕ → Type 0) → (ℕ → Type 0) → ℕ → List ℕ → Taken → List ℕ → Type 0
 Enters Carried Place size entry (Taken.Text n) exit =
     (size < countable) × ((text : List ℕ) × Carried text × (n ≡ length text) × (n ≤ length entry) × (exit ≡ text ++ drop n entry))
@@ -40,6 +39,9 @@ Enters Carried Place size entry (Taken.NoRoom n) exit =
     (size < countable) × ((text : List ℕ) × Carried text × (n ≡ length text) × (length entry < n)) × (exit ≡ entry)
 Enters Carried Place size entry Taken.TooLong exit = (countable ≤ size) × (exit ≡ entry)
 
--- data of a format read into a buffer
+-- data of a scheme
+abbrev pub Comes : Scheme → List ℕ → Outcome → Type 0
+Comes scheme sent = ComesTo (λ text. Built scheme text sent) (chain.Malformed scheme sent) (length sent)
+
 abbrev pub ReadsInto : Scheme → List ℕ → List ℕ → Taken → List ℕ → Type 0
 ReadsInto scheme sent = Enters (λ text. Built scheme text sent) (chain.Malformed scheme sent) (length sent)

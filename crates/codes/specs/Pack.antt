@@ -1,10 +1,10 @@
 -- Bits of a number in a row, and bits in bytes, the most significant first (001, 4.2.1 and 4.5; 01, "What a packet is here").
 -- Assumes nothing.
 use mathlib.Core.List.{List, [], _∷_, _++_}
-use Prim.Native.Nat.{ℕ, zero, suc, _+_, _-_, _*_, _/_, _%_, _^_, _≤_, _<_}
+use Prim.Native.Nat.{ℕ, zero, suc, _+_, _-_, _*_, _/_, _%_, _^_, _<_}
 use lib.ListN.{length, take, drop, replicate}
 use Rattle.bits.specs.Word.{bit}
-use Rattle.codes.specs.Chain.{Entry, Scheme, codes}
+use Rattle.codes.specs.Chain.{Entry, codes}
 
 -- a row of bits: each is 0 or 1
 abbrev pub Binary : List ℕ → Type 0
@@ -41,10 +41,6 @@ filled bs = bs ++ replicate (gap (length bs)) 1
 -- the data of these entries: their codes in a row, then fill, in bytes
 unfoldable pub written : List Entry → List ℕ
 written es = packed (filled (codes es))
-
--- where the codes of these entries end, no more is left of the last byte than may be unused
-abbrev pub Closes : Scheme → List Entry → Type 0
-Closes scheme es = gap (length (codes es)) ≤ scheme .unused
 
 -- the n numbers from a on, for the tables
 unfoldable pub numbers : ℕ → ℕ → List ℕ

@@ -1,4 +1,4 @@
--- Data that is read up to a bit: the entries that were passed, and what they said, counted or laid into a buffer. It holds of every format.
+-- Data that is read up to a bit: the entries that were passed, and what they said, counted or laid into a buffer. It holds of every scheme.
 -- Assumes nothing.
 use mathlib.Core.Path.{_≡_}
 use mathlib.Core.List.{List, _++_}

@@ -33,16 +33,16 @@ Searches has text (At index) = First has text index
 Searches has text Nowhere = Coded has text (length text)
 
 -- how many bytes the data has that our writer makes of the text; or the index of the first character that has no code; or that the bytes are more than
--- one packet's
-abbrev pub Needs : (ℕ → Bool) → List ℕ → List ℕ → Needed → Type 0
-Needs has text carried (NoCode index) = First has text index
-Needs has text carried TooMany = Coded has text (length text) × (longest < length carried)
-Needs has text carried (Bytes n) = Coded has text (length text) × (n ≡ length carried) × (n ≤ longest)
+-- the most that may be
+abbrev pub Needs : ℕ → (ℕ → Bool) → List ℕ → List ℕ → Needed → Type 0
+Needs most has text carried (NoCode index) = First has text index
+Needs most has text carried TooMany = Coded has text (length text) × (most < length carried)
+Needs most has text carried (Bytes n) = Coded has text (length text) × (n ≡ length carried) × (n ≤ most)
 
 -- that data written into a buffer: at its front, so many bytes, and behind it the buffer as it was; or the buffer as it was, and why
-abbrev pub Stores : (ℕ → Bool) → List ℕ → List ℕ → List ℕ → Stored → List ℕ → Type 0
-Stores has text carried entry (Stored.NoCode index) exit = Needs has text carried (NoCode index) × (exit ≡ entry)
-Stores has text carried entry Stored.TooMany exit = Needs has text carried TooMany × (exit ≡ entry)
-Stores has text carried entry (Stored.NoRoom n) exit = Needs has text carried (Bytes n) × (length entry < n) × (exit ≡ entry)
-Stores has text carried entry (Stored.Bytes n) exit =
-    Needs has text carried (Bytes n) × (n ≤ length entry) × (exit ≡ carried ++ drop n entry)
+abbrev pub Stores : ℕ → (ℕ → Bool) → List ℕ → List ℕ → List ℕ → Stored → List ℕ → Type 0
+Stores most has text carried entry (Stored.NoCode index) exit = Needs most has text carried (NoCode index) × (exit ≡ entry)
+Stores most has text carried entry Stored.TooMany exit = Needs most has text carried TooMany × (exit ≡ entry)
+Stores most has text carried entry (Stored.NoRoom n) exit = Needs most has text carried (Bytes n) × (length entry < n) × (exit ≡ entry)
+Stores most has text carried entry (Stored.Bytes n) exit =
+    Needs most has text carried (Bytes n) × (n ≤ length entry) × (exit ≡ carried ++ drop n entry)

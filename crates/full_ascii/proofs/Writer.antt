@@ -9,20 +9,18 @@ use native.Mathlib.Nat.{le-of-eq}
 use native.Mathlib.Omega.{arith}
 use lib.Dec.{T, eqb, eqb→eq, lit<}
 use lib.ListN.{length, length-append}
-use Rattle.bits.specs.Row.{Bytes}
 use Rattle.bits.specs.Word.{bit}
-use Rattle.codes.specs.Chain.{Entry, Row, codes, texts, Builds, Built}
-use Rattle.codes.specs.Pack.{Binary, low, numbers, written}
+use Rattle.codes.specs.Chain.{Entry, Row, codes, texts, Builds}
+use Rattle.codes.specs.Pack.{low, numbers}
 use Rattle.codes.proofs.Coded.{coded-rest}
 use Rattle.bits.proofs.Said.{and-left, and-right}
 use Rattle.codes.proofs.Every.{every}
 use Rattle.codes.proofs.Given.{Agrees, agrees}
-use Rattle.codes.proofs.Least as least
 use Rattle.codes.proofs.Least.{Cost, cost-shortest}
 use Rattle.codes.proofs.Pack.{gap-few}
 use Rattle.codes.proofs.Single.{row-one, builds-one}
 use Rattle.codes.proofs.Writing as writing
-use Rattle.codes.proofs.Writing.{spells, Writer}
+use Rattle.codes.proofs.Writing.{spells, Writer, Writes}
 use Rattle.full_ascii.specs.Table.{LF, CR, six, seven, special, pair, table, scheme}
 use Rattle.full_ascii.specs.Writer.{coded, Coded, own, ours}
 use Rattle.full_ascii.proofs.Table.{laws, sounds, mutes, all-bits}
@@ -106,39 +104,22 @@ all-spell : (m : ℕ) → T (every (spells coded) (scheme .table m))
 unfolding table six seven special pair numbers coded every spells
 all-spell m = tt
 
-pub writer : Writer scheme coded (λ t. t) ours
+writer : Writer scheme coded (λ t. t) ours
 unfolding size
 writer = record {
   row = ours-row;
   closes = λ t h. gap-few (length (codes (ours t)));
   says = λ t h. ours-says t;
-  shortest = cost-shortest ours cost (λ t. refl);
+  shortest = λ t h es r x says. cost-shortest ours cost (λ u. refl) t es r says;
+  kept = λ es r x. refl;
   all-bits = all-bits;
   all-spell = all-spell;
   sounds = sounds;
   few = lit< tt;
 }
 
-pub ours-binary : (t : List ℕ) → Coded t → Binary (codes (ours t))
-ours-binary = writing.ours-binary writer
-
-pub ours-built : (t : List ℕ) → Coded t → Built scheme t (written (ours t))
-ours-built = writing.ours-built writer
-
-pub ours-bytes : (t : List ℕ) → Coded t → Bytes (written (ours t))
-ours-bytes = writing.ours-bytes writer
-
-pub built-coded : {t : List ℕ} (sent : List ℕ) → Built scheme t sent → Coded t
-built-coded = writing.built-coded writer
-
-pub built-nonempty : {t : List ℕ} (sent : List ℕ) → 0 < length sent → Built scheme t sent → 0 < length t
-built-nonempty = writing.built-nonempty writer
-
-pub no-shorter : {t : List ℕ} (sent : List ℕ) (b : Built scheme t sent) → length (codes (ours t)) ≤ length (codes (b .entries))
-no-shorter = least.no-shorter (writer .shortest)
-
-pub no-fewer-bytes : {t : List ℕ} (sent : List ℕ) → Built scheme t sent → length (written (ours t)) ≤ length sent
-no-fewer-bytes = writing.no-fewer-bytes writer
+pub writes : Writes scheme coded (λ t. t) ours
+writes = writing.writes writer
 
 -- what reading gives, and what a maker may build, agree
 pub agree : Agrees scheme

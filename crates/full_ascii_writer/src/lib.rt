@@ -13,7 +13,7 @@ ghost use lib.ListN.{length, drop, getD};
 ghost use Rattle.bits.specs.Says.{Says};
 ghost use Rattle.codes.specs.Chain.{codes};
 ghost use Rattle.codes.specs.Pack.{written};
-ghost use Rattle.codes.specs.Size.{Searches, Needs, Stores};
+ghost use Rattle.codes.specs.Size.{longest, Searches, Needs, Stores};
 ghost use Rattle.codes.specs.declared.Uncoded.the-variants.{Nowhere};
 ghost use Rattle.full_ascii.specs.Writer.{coded, Coded, ours, LineEnd};
 ghost use Rattle.full_ascii_writer.specs.Sending.{OwnOf, FirstOf, bitsFor, Each, TotalOf, FourPlain, Pushed, Writes};
@@ -142,7 +142,7 @@ fn bits_for(before: u8, c: u8) -> u8
 
 // The bits of a text so far: those of the characters up to `next`. The mark is 2^56 where the last of them is CR, and else 0.
 struct Total {
-    pub bits: u16,
+    pub bits: u32,
     pub next: usize,
     pub mark: u64,
 }
@@ -174,7 +174,7 @@ fn add_eight(text: &[u8], b: Total) -> Total
     let pair = lf & (cr / 256 + b.mark);
     let each = 0x0606060606060606 + bit_of_each(eight, 6) + control * 3 - pair * 9;
     Total {
-        bits: b.bits + (each % 255) as u16,
+        bits: b.bits + (each % 255) as u32,
         next: b.next + 8,
         mark: cr % 256 * 0x100_0000_0000_0000,
     }
@@ -197,7 +197,7 @@ fn add_eights(text: &[u8]) -> Total
 }
 
 // How many bits our codes of the text have together.
-fn code_bits(text: &[u8]) -> u16
+fn code_bits(text: &[u8]) -> u32
     requires { ⌜ Coded (now text) × (9 * length (now text) ≤ 64000) ⌝ }
     ensures { λ r. ⌜ r ≡ length (codes (ours (now (text .entry)))) ⌝ }
 {
@@ -209,7 +209,7 @@ fn code_bits(text: &[u8]) -> u16
         before = Character::CR;
     }
     while i < text.len() {
-        n += bits_for(before, text[i]) as u16;
+        n += bits_for(before, text[i]) as u32;
         before = text[i];
         i += 1;
     }
@@ -220,7 +220,7 @@ fn code_bits(text: &[u8]) -> u16
 // end has nine for two: one that is certainly too long is not looked at.
 fn coded_length(text: &[u8]) -> Needed
     requires { ⌜ Coded (now text) ⌝ }
-    ensures { λ r. ⌜ Needs coded (now (text .entry)) (written (ours (now (text .entry)))) r ⌝ }
+    ensures { λ r. ⌜ Needs longest coded (now (text .entry)) (written (ours (now (text .entry)))) r ⌝ }
 {
     if Needed::MOST * 2 / 9 < text.len() {
         return Needed::TooMany;
@@ -345,7 +345,7 @@ fn put_data(text: &[u8], out: &mut [u8]) -> usize
 
 // How many bytes our data of the text has; or the first character that has no code; or that one packet does not hold the data.
 pub fn data_length(text: &[u8]) -> Needed
-    ensures { λ r. ⌜ Needs coded (now (text .entry)) (written (ours (now (text .entry)))) r ⌝ }
+    ensures { λ r. ⌜ Needs longest coded (now (text .entry)) (written (ours (now (text .entry)))) r ⌝ }
 {
     let uncoded = first_uncoded(text);
     match uncoded {
@@ -356,7 +356,7 @@ pub fn data_length(text: &[u8]) -> Needed
 
 // Our data of the text at the front of the buffer, where the text has it and there is room for it; whatever their lengths.
 pub fn write(text: &[u8], out: &mut [u8]) -> Stored
-    ensures { λ r. ⌜ Stores coded (now (text .entry)) (written (ours (now (text .entry)))) (now (out .entry)) r (now (out .exit)) ⌝ }
+    ensures { λ r. ⌜ Stores longest coded (now (text .entry)) (written (ours (now (text .entry)))) (now (out .entry)) r (now (out .exit)) ⌝ }
 {
     let needed = data_length(text);
     match needed {

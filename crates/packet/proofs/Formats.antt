@@ -52,26 +52,26 @@ readable FullAscii carried = either ascii.scheme (bits carried) (answer ascii.sc
 -- a text that is carried has codes
 pub carries-coded : (format : Format) (text carried : List ℕ) → Carries format text carried → Coded format text (length text)
 carries-coded Open text carried p = λ i lt. tt
-carries-coded PseudoBinary text carried p = pseudo-built.built-coded carried p
-carries-coded FullAscii text carried p = ascii-built.built-coded carried p
+carries-coded PseudoBinary text carried p = pseudo-built.writes .built-coded text carried p
+carries-coded FullAscii text carried p = ascii-built.writes .built-coded text carried p
 
 -- what our writer makes of a text that has codes carries it
 pub writer-carries : (format : Format) (text : List ℕ) → Coded format text (length text) → Carries format text (dataOf format text)
 writer-carries Open text h = refl
-writer-carries PseudoBinary text h = pseudo-built.ours-built text h
-writer-carries FullAscii text h = ascii-built.ours-built text h
+writer-carries PseudoBinary text h = pseudo-built.writes .ours-built text h
+writer-carries FullAscii text h = ascii-built.writes .ours-built text h
 
 -- and nothing that carries it has fewer bytes
 pub no-fewer : (format : Format) (text carried : List ℕ) → Carries format text carried → length (dataOf format text) ≤ length carried
 no-fewer Open text carried p = le-of-eq (ap length (sym p))
-no-fewer PseudoBinary text carried p = pseudo-built.no-fewer-bytes carried p
-no-fewer FullAscii text carried p = ascii-built.no-fewer-bytes carried p
+no-fewer PseudoBinary text carried p = pseudo-built.writes .no-fewer-bytes text carried (carries-coded PseudoBinary text carried p) p
+no-fewer FullAscii text carried p = ascii-built.writes .no-fewer-bytes text carried (carries-coded FullAscii text carried p) p
 
 -- some data, some text; and some text, some data
 pub carries-some : (format : Format) (text carried : List ℕ) → 0 < length carried → Carries format text carried → 0 < length text
 carries-some Open text carried some p = omega (arith, ap length p)
-carries-some PseudoBinary text carried some p = pseudo-built.built-nonempty carried some p
-carries-some FullAscii text carried some p = ascii-built.built-nonempty carried some p
+carries-some PseudoBinary text carried some p = pseudo-built.writes .built-nonempty text carried some p
+carries-some FullAscii text carried some p = ascii-built.writes .built-nonempty text carried some p
 
 no-data : (format : Format) (text : List ℕ) → Carries format text [] → text ≡ []
 unfolding bits

@@ -9,7 +9,7 @@ use Rattle.header.specs.Fields.{fieldsIn}
 use Rattle.header.specs.Valid.{lengthIn}
 use Rattle.mending.specs.Mends.{distance}
 use Rattle.codes.specs.Measure.{Enters}
-use Rattle.codes.specs.Size.{Needs, Stores}
+use Rattle.codes.specs.Size.{longest, Needs, Stores}
 use Rattle.codes.specs.declared.Needed.{Needed}
 use Rattle.codes.specs.declared.Needed.the-variants as Needed
 use Rattle.codes.specs.declared.Stored.{Stored}
@@ -42,11 +42,11 @@ Takes format carried = Enters (λ text. Carries format text carried) (Unreadable
 
 -- what the text needs
 abbrev pub NeedsIn : Format → List ℕ → Needed → Type 0
-NeedsIn format text = Needs (coded format) text (dataOf format text)
+NeedsIn format text = Needs longest (coded format) text (dataOf format text)
 
 -- the data of the text in a buffer: what it needs, and the data at the buffer's front
 abbrev pub StoresIn : Format → List ℕ → List ℕ → Stored → List ℕ → Type 0
-StoresIn format text = Stores (coded format) text (dataOf format text)
+StoresIn format text = Stores longest (coded format) text (dataOf format text)
 
 -- tests 9, 11 and 8, and the data in its place in the packet, from byte 4 on, where they are passed
 abbrev pub Places : Format → List ℕ → List ℕ → Stored → List ℕ → Type 0

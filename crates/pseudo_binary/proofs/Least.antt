@@ -11,7 +11,7 @@ use lib.ListN.{length, drop, replicate, length-replicate}
 use lib.Seq.{drop-at}
 use Rattle.codes.specs.Chain.{Entry, In, after, Row, codes, texts}
 use Rattle.codes.specs.Pack.{low}
-use Rattle.codes.proofs.Least.{Cost, Shortest, cost-shortest}
+use Rattle.codes.proofs.Least.{Cost, cost-shortest}
 use Rattle.pseudo_binary.specs.Table.{SPACE, SLASH, Kind, values, spaces, slashes, of, characterOf, indicator, most, six, tables, scheme}
 use Rattle.pseudo_binary.specs.Writer.{ours, Alike}
 use Rattle.pseudo_binary.proofs.Length.{width, each, bitsAfter, ourBits}
@@ -146,6 +146,6 @@ cost : Cost scheme still
 unfolding still ourBits bitsAfter
 cost = record { nothing = refl; entry = entry-still }
 
-pub shortest : Shortest scheme ours
+pub shortest : (t : List ℕ) (es : List Entry) → Row scheme 0 es 0 → texts es ≡ t → length (codes (ours t)) ≤ length (codes es)
 unfolding still
 shortest = cost-shortest ours cost (λ t. omega (arith, our-bits t))

@@ -8,16 +8,14 @@ use Prim.Native.Nat.{ℕ, zero, suc, pred, _≤_, _<_}
 use native.Mathlib.Omega.{arith}
 use lib.Dec.{T, lit<}
 use lib.ListN.{length}
-use Rattle.bits.specs.Row.{Bytes}
-use Rattle.codes.specs.Chain.{Entry, Row, codes, texts, Built}
-use Rattle.codes.specs.Pack.{Binary, numbers, written}
+use Rattle.codes.specs.Chain.{Entry, Row, codes, texts}
+use Rattle.codes.specs.Pack.{numbers}
 use Rattle.codes.proofs.Coded.{coded-rest}
 use Rattle.codes.proofs.Every.{every}
 use Rattle.codes.proofs.Given.{Agrees, agrees}
-use Rattle.codes.proofs.Least as least
 use Rattle.codes.proofs.Pack.{gap-few}
 use Rattle.codes.proofs.Writing as writing
-use Rattle.codes.proofs.Writing.{spells, Writer}
+use Rattle.codes.proofs.Writing.{spells, Writer, Writes}
 use Rattle.pseudo_binary.specs.Table.{Kind, values, of, coded, Coded, characterOf, indicator, most, indicators, six, tables, scheme}
 use Rattle.pseudo_binary.specs.Writer.{kind, run, besides, oursAfter, ours, Alike}
 use Rattle.pseudo_binary.proofs.Table.{laws, sounds, all-bits}
@@ -112,38 +110,21 @@ unfolding of coded characterOf indicator most indicators six tables numbers ever
 all-spell zero = tt
 all-spell (suc m) = tt
 
-pub writer : Writer scheme coded (λ t. t) ours
+writer : Writer scheme coded (λ t. t) ours
 writer = record {
   row = ours-row;
   closes = λ t h. gap-few (length (codes (ours t)));
   says = ours-says;
-  shortest = shortest;
+  shortest = λ t h es r x says. shortest t es r says;
+  kept = λ es r x. refl;
   all-bits = all-bits;
   all-spell = all-spell;
   sounds = sounds;
   few = lit< tt;
 }
 
-pub ours-binary : (t : List ℕ) → Coded t → Binary (codes (ours t))
-ours-binary = writing.ours-binary writer
-
-pub ours-built : (t : List ℕ) → Coded t → Built scheme t (written (ours t))
-ours-built = writing.ours-built writer
-
-pub ours-bytes : (t : List ℕ) → Coded t → Bytes (written (ours t))
-ours-bytes = writing.ours-bytes writer
-
-pub built-coded : {t : List ℕ} (sent : List ℕ) → Built scheme t sent → Coded t
-built-coded = writing.built-coded writer
-
-pub built-nonempty : {t : List ℕ} (sent : List ℕ) → 0 < length sent → Built scheme t sent → 0 < length t
-built-nonempty = writing.built-nonempty writer
-
-pub no-shorter : {t : List ℕ} (sent : List ℕ) (b : Built scheme t sent) → length (codes (ours t)) ≤ length (codes (b .entries))
-no-shorter = least.no-shorter (writer .shortest)
-
-pub no-fewer-bytes : {t : List ℕ} (sent : List ℕ) → Built scheme t sent → length (written (ours t)) ≤ length sent
-no-fewer-bytes = writing.no-fewer-bytes writer
+pub writes : Writes scheme coded (λ t. t) ours
+writes = writing.writes writer
 
 -- what reading gives, and what a maker may build, agree
 pub agree : Agrees scheme

@@ -11,7 +11,7 @@ ghost use Prim.Native.Nat.{_+_, _*_, _/_, _≤_, _<_, _^_};
 ghost use lib.ListN.{length, take, drop, getD};
 ghost use Rattle.bits.specs.Says.{Says};
 ghost use Rattle.codes.specs.Pack.{low, written};
-ghost use Rattle.codes.specs.Size.{Searches, Needs, Stores};
+ghost use Rattle.codes.specs.Size.{longest, Searches, Needs, Stores};
 ghost use Rattle.pseudo_binary_writer.specs.Sending.{Between, FirstOf, Writes, ExtentOf, NextOf, Sends, twoValues, fourValues, eightValues};
 ghost use Rattle.pseudo_binary.specs.Table.{Kind, coded, Coded, values};
 ghost use Rattle.pseudo_binary.specs.Writer.{run, ours, Alike};
@@ -223,7 +223,7 @@ fn next_extent(text: &[u8], i: usize) -> Extent
 // How many bytes our data of the text has, or that one packet does not hold them: the loop ends where that is certain.
 fn coded_length(text: &[u8]) -> Needed
     requires { ⌜ Coded (now text) ⌝ }
-    ensures { λ r. ⌜ Needs coded (now (text .entry)) (written (ours (now (text .entry)))) r ⌝ }
+    ensures { λ r. ⌜ Needs longest coded (now (text .entry)) (written (ours (now (text .entry)))) r ⌝ }
 {
     let mut i: usize = 0;
     let mut n: usize = 0;
@@ -363,7 +363,7 @@ fn put_data(text: &[u8], out: &mut [u8]) -> usize
 
 // How many bytes our data of the text has; or the first character that has no code; or that one packet does not hold the data.
 pub fn data_length(text: &[u8]) -> Needed
-    ensures { λ r. ⌜ Needs coded (now (text .entry)) (written (ours (now (text .entry)))) r ⌝ }
+    ensures { λ r. ⌜ Needs longest coded (now (text .entry)) (written (ours (now (text .entry)))) r ⌝ }
 {
     let uncoded = first_uncoded(text);
     match uncoded {
@@ -374,7 +374,7 @@ pub fn data_length(text: &[u8]) -> Needed
 
 // Our data of the text at the front of the buffer, where the text has it and there is room for it; whatever their lengths.
 pub fn write(text: &[u8], out: &mut [u8]) -> Stored
-    ensures { λ r. ⌜ Stores coded (now (text .entry)) (written (ours (now (text .entry)))) (now (out .entry)) r (now (out .exit)) ⌝ }
+    ensures { λ r. ⌜ Stores longest coded (now (text .entry)) (written (ours (now (text .entry)))) (now (out .entry)) r (now (out .exit)) ⌝ }
 {
     let needed = data_length(text);
     match needed {

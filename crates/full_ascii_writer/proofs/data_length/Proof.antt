@@ -4,7 +4,7 @@ use mathlib.Core.Path.{subst}
 use native.Mathlib.Omega.{arith}
 use borrow.Author.Needs.{needs}
 use Rattle.codes.specs.Pack.{written}
-use Rattle.codes.specs.Size.{Searches}
+use Rattle.codes.specs.Size.{longest, Searches}
 use Rattle.codes.proofs.Storing.{need-code}
 use Rattle.full_ascii.specs.Writer.{coded, ours}
 use Rattle.full_ascii_writer.proofs.data_length.Statement.{statement}
@@ -29,7 +29,7 @@ returns c =
     let u = c .before .before .before in
     let t = u .before .before .args .text .now in
     let k = c .before .uncoded .given in
-    need-code coded t (written (ours t)) _ (k .0 .0) (subst (Searches coded t) (k .1) (u .first-uncoded .ensures)) (omega arith)
+    need-code longest coded t (written (ours t)) _ (k .0 .0) (subst (Searches coded t) (k .1) (u .first-uncoded .ensures)) (omega arith)
 
 returns-2 : tie.Need-returns-2
 returns-2 c = search needs

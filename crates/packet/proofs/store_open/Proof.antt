@@ -5,6 +5,7 @@ use native.Mathlib.Omega.{arith}
 use borrow.Author.Needs.{needs}
 use lib.ListN.{length}
 use Rattle.header.specs.declared.Format.the-variants.{Open}
+use Rattle.codes.specs.Size.{longest}
 use Rattle.codes.proofs.Storing.{store-no-room, store-bytes}
 use Rattle.packet.specs.Data.{coded}
 use Rattle.packet.proofs.OpenData.{copied, open-need, open-many}
@@ -21,7 +22,7 @@ returns-2 : tie.Need-returns-2
 returns-2 c =
     let a = c .before .before .before .before .args in
     let t = a .text .now in
-    store-no-room (coded Open) t t (a .«data» .now) (length t) (open-need t (omega arith)) _ (omega arith) (omega (arith, c .if2 .taken))
+    store-no-room longest (coded Open) t t (a .«data» .now) (length t) (open-need t (omega arith)) _ (omega arith) (omega (arith, c .if2 .taken))
 
 copy-requires : tie.Need-copy-requires
 copy-requires c κs = search needs
@@ -34,7 +35,7 @@ returns-3 c =
     let k = c .before .before in
     let a = k .before .before .before .before .before .before .args in
     let t = a .text .now in
-    store-bytes (coded Open) t t (a .«data» .now) (length t) (open-need t (omega arith)) (k .copy .last .1 .0) (k .copy .result) _
+    store-bytes longest (coded Open) t t (a .«data» .now) (length t) (open-need t (omega arith)) (k .copy .last .1 .0) (k .copy .result) _
     (omega (arith, k .before .before .if2 .left))
     (copied t (a .«data» .now) (k .copy .last .1 .0) (k .copy .result) (k .copy .ensures .0) (k .copy .ensures .1)) (omega arith)
 

@@ -21,7 +21,7 @@ use Rattle.pseudo_binary.specs.Writer.{Alike, oursAfter, ours}
 use Rattle.pseudo_binary_writer.specs.declared.Held.{Held}
 use Rattle.pseudo_binary_writer.proofs.Announced.{ours-end}
 use Rattle.pseudo_binary_writer.proofs.Sends.{Proceeds, row-next, row-fewer, next-proceeds, eight-length, eight-proceeds}
-use Rattle.pseudo_binary.proofs.Writer.{ours-bytes, ours-binary}
+use Rattle.pseudo_binary.proofs.Writer.{writes}
 use Rattle.pseudo_binary_writer.proofs.put_data.Statement.{statement}
 use Rattle.pseudo_binary_writer.proofs.put_data.Tie as tie
 
@@ -46,7 +46,7 @@ loop-holds c =
       omega arith,
       omega arith,
       tt,
-      subst (Pending (written (ours t)) (e .args .out .now) (e .args .out .now) 0 0 0 0) (bits-written (ours t) (ours-binary t (e .pre .0)))
+      subst (Pending (written (ours t)) (e .args .out .now) (e .args .out .now) 0 0 0 0) (bits-written (ours t) (writes .ours-binary t (e .pre .0)))
           (pending-none (written (ours t)) (e .args .out .now) 0),
     )
 
@@ -59,7 +59,7 @@ module _ (a : tie.At-loop Inv-loop μ-loop) where
   first = a .before .before .before .args .out .now
 
   bytes : Bytes (written (ours text))
-  bytes = ours-bytes text (a .before .before .before .pre .0)
+  bytes = writes .ours-bytes text (a .before .before .before .pre .0)
 
   fits : 0 + length (written (ours text)) ≤ length first
   fits = omega (arith, a .before .before .before .pre .1)
