@@ -25,8 +25,8 @@ use Rattle.checksum.proofs.Row.{sent-length}
 use Rattle.packet.specs.declared.Reading.{Reading}
 use Rattle.packet.specs.declared.ReadAnswer.{ReadAnswer}
 use Rattle.packet.specs.declared.ReadAnswer.the-variants.{Accepted, Refused}
-use Rattle.packet.specs.declared.Refusal.{Refusal}
-use Rattle.packet.specs.declared.Refusal.the-variants.{Short, NoHeader, OtherType, OtherLength, CutOff, Checksum, Malformed, NoRoom, NoCode, Empty, TooLong, OtherFormat}
+use Rattle.refusals.specs.declared.Refusal.{Refusal}
+use Rattle.refusals.specs.declared.Refusal.the-variants.{Short, NoHeader, OtherType, OtherLength, CutOff, Checksum, Malformed, NoRoom, NoCode, Empty, TooLong, OtherFormat}
 use Rattle.packet.specs.declared.WriteAnswer.{WriteAnswer}
 use Rattle.packet.specs.declared.WriteAnswer.the-variants.{Written, Refused as NotWritten}
 use Rattle.packet.specs.Data.{Carries, Unreadable, coded, Coded, Uncoded, dataOf}
@@ -39,7 +39,7 @@ use Rattle.pseudo_binary.specs.Table as pseudo
 use Rattle.pseudo_binary.proofs.Writer as pseudo-writer
 use Rattle.packet.specs.Packet.{received, dataIn, sumIn, packetOf, headerFor}
 use Rattle.packet.specs.Reader.{Fault, Accepts, Reads}
-use Rattle.packet.specs.Refusals.{numberOf, valueOf, Of, First, readerTurn, writerTurn}
+use Rattle.refusals.specs.Refusals.{numberOf, valueOf, Of, First, readerTurn, writerTurn}
 use Rattle.packet.specs.Writer.{WriteFault, Writes, ourPacket}
 use Rattle.packet.proofs.Formats.{carries-coded, readable, never-unreadable, writer-carries, no-fewer}
 use Rattle.packet.proofs.ReadOnce.{reads-one, under}

@@ -25,7 +25,7 @@ use Rattle.packet.specs.declared.ReadAnswer.{ReadAnswer}
 use Rattle.packet.specs.declared.ReadAnswer.the-variants.{Accepted}
 use Rattle.packet.specs.declared.WriteAnswer.{WriteAnswer}
 use Rattle.packet.specs.declared.WriteAnswer.the-variants.{Written, Refused as NotWritten}
-use Rattle.packet.specs.declared.Refusal.the-variants.{Empty}
+use Rattle.refusals.specs.declared.Refusal.the-variants.{Empty}
 use Rattle.packet.specs.Data.{Coded, dataOf}
 use Rattle.packet.specs.Packet.{received, dataIn, packetOf, headerFor}
 use Rattle.packet.specs.Reader.{Accepts, Reads}

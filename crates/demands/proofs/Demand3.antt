@@ -18,7 +18,7 @@ use Rattle.checksum.specs.Checksum.{checksumOf, sent}
 use Rattle.checksum.proofs.Detect.{sent-detects}
 use Rattle.packet.specs.declared.ReadAnswer.{ReadAnswer}
 use Rattle.packet.specs.declared.ReadAnswer.the-variants.{Accepted, Refused}
-use Rattle.packet.specs.declared.Refusal.the-variants.{Checksum}
+use Rattle.refusals.specs.declared.Refusal.the-variants.{Checksum}
 use Rattle.codes.specs.Size.{longest}
 use Rattle.packet.specs.Packet.{received, packetOf, headerFor}
 use Rattle.packet.specs.Reader.{Refuses, Reads}

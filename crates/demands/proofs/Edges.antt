@@ -40,7 +40,7 @@ use Rattle.full_ascii.proofs.Table as ascii-table
 use Rattle.pseudo_binary.specs.Table as pseudo
 use Rattle.pseudo_binary.specs.Writer as pseudo-writer
 use Rattle.pseudo_binary.proofs.Table as pseudo-table
-use Rattle.packet.specs.declared.Refusal.the-variants.{NoHeader, OtherType}
+use Rattle.refusals.specs.declared.Refusal.the-variants.{NoHeader, OtherType}
 use Rattle.packet.specs.Data.{Carries, Unreadable, dataOf}
 use Rattle.packet.specs.Packet.{received, headerFor}
 use Rattle.packet.specs.Reader.{Refuses}

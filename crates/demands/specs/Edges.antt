@@ -14,8 +14,8 @@ use Rattle.mending.specs.declared.Mending.the-variants.{Mended}
 use Rattle.mending.specs.Mends.{Mends}
 use Rattle.full_ascii.specs.Table.{CR, LF}
 use Rattle.pseudo_binary.specs.Table.{SPACE, SLASH}
-use Rattle.packet.specs.declared.Refusal.{Refusal}
-use Rattle.packet.specs.declared.Refusal.the-variants.{NoHeader, OtherType}
+use Rattle.refusals.specs.declared.Refusal.{Refusal}
+use Rattle.refusals.specs.declared.Refusal.the-variants.{NoHeader, OtherType}
 use Rattle.packet.specs.Data.{Carries, Unreadable, dataOf}
 use Rattle.packet.specs.Packet.{received, headerFor}
 use Rattle.packet.specs.Reader.{Refuses}

@@ -10,7 +10,7 @@ use Rattle.bits.specs.Says.{Says}
 use Rattle.header.specs.Valid.{lengthIn}
 use Rattle.checksum.specs.Checksum.{sent}
 use Rattle.codes.specs.Size.{longest}
-use Rattle.packet.specs.declared.Refusal.the-variants.{Checksum, Malformed, NoRoom}
+use Rattle.refusals.specs.declared.Refusal.the-variants.{Checksum, Malformed, NoRoom}
 use Rattle.packet.specs.declared.Opened.{Opened}
 use Rattle.packet.specs.Data.{Carries, Unreadable}
 use Rattle.packet.specs.Packet.{dataIn, sumIn}

@@ -3,7 +3,6 @@ pub mod Formats
 pub mod InPlace
 pub mod OpenData
 pub mod ReadOnce
-pub mod Refused
 pub mod Sent
 pub mod Stages
 pub mod WriteAnswers

@@ -14,8 +14,8 @@ use Rattle.header.proofs.Typed.{one-format}
 use Rattle.mending.specs.Mends.{Near, distance}
 use Rattle.mending.proofs.Unique.{one-near}
 use Rattle.checksum.specs.Checksum.{sent}
-use Rattle.packet.specs.declared.Refusal.{Refusal}
-use Rattle.packet.specs.declared.Refusal.the-variants.{Short, NoHeader, OtherType, OtherLength, CutOff, Checksum, Malformed, NoRoom, NoCode, Empty, TooLong, OtherFormat}
+use Rattle.refusals.specs.declared.Refusal.{Refusal}
+use Rattle.refusals.specs.declared.Refusal.the-variants.{Short, NoHeader, OtherType, OtherLength, CutOff, Checksum, Malformed, NoRoom, NoCode, Empty, TooLong, OtherFormat}
 use Rattle.packet.specs.declared.Reading.{Reading}
 use Rattle.packet.specs.declared.ReadAnswer.{ReadAnswer}
 use Rattle.packet.specs.declared.ReadAnswer.the-variants.{Accepted, Refused}
@@ -23,8 +23,8 @@ use Rattle.packet.specs.Data.{Carries, Unreadable}
 use Rattle.codes.specs.Size.{longest}
 use Rattle.packet.specs.Packet.{received, dataIn, sumIn}
 use Rattle.packet.specs.Reader.{Under, Fault, Refuses, Accepts, Reads}
-use Rattle.packet.specs.Refusals.{numberOf, valueOf, readerTurn}
-use Rattle.packet.proofs.Refused.{refusalFrom, from-both, same-number, plain, first-one}
+use Rattle.refusals.specs.Refusals.{numberOf, valueOf, readerTurn}
+use Rattle.refusals.proofs.Refused.{refusalFrom, from-both, same-number, plain, first-one}
 use Rattle.packet.proofs.Formats.{carries-one, unreadable-one, never-unreadable}
 
 -- ---- the header is one, and what is said under it is said of it

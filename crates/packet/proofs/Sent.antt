@@ -21,7 +21,7 @@ use Rattle.packet.specs.declared.Reading.{Reading}
 use Rattle.packet.specs.Data.{Carries}
 use Rattle.codes.specs.Size.{longest}
 use Rattle.packet.specs.Packet.{received, dataIn, sumIn, headerFor}
-use Rattle.packet.specs.declared.Refusal.the-variants.{Checksum}
+use Rattle.refusals.specs.declared.Refusal.the-variants.{Checksum}
 use Rattle.packet.specs.Reader.{Framed, Accepts, Refuses}
 use Rattle.packet.proofs.Stages.{clear-six}
 

@@ -13,16 +13,16 @@ use Rattle.header.specs.Valid.{lengthIn}
 use Rattle.header.proofs.Typed.{one-format}
 use Rattle.mending.specs.Mends.{Near}
 use Rattle.checksum.specs.Checksum.{sent}
-use Rattle.packet.specs.declared.Refusal.{Refusal}
-use Rattle.packet.specs.declared.Refusal.the-variants.{Short, NoHeader, OtherType, OtherLength, CutOff, Checksum, Malformed, NoRoom, NoCode, Empty, TooLong, OtherFormat}
+use Rattle.refusals.specs.declared.Refusal.{Refusal}
+use Rattle.refusals.specs.declared.Refusal.the-variants.{Short, NoHeader, OtherType, OtherLength, CutOff, Checksum, Malformed, NoRoom, NoCode, Empty, TooLong, OtherFormat}
 use Rattle.packet.specs.Data.{Carries, Unreadable}
 use Rattle.codes.specs.Size.{longest}
 use Rattle.packet.specs.Packet.{received, dataIn, sumIn}
 use Rattle.packet.specs.Reader.{Fault, Framed}
-use Rattle.packet.specs.Refusals.{numberOf, readerTurn}
+use Rattle.refusals.specs.Refusals.{numberOf, readerTurn}
 use Rattle.packet.proofs.Formats.{never-unreadable}
 use Rattle.packet.proofs.ReadOnce.{under}
-use Rattle.packet.proofs.Refused.{refusalFrom, Clear, clear-next}
+use Rattle.refusals.proofs.Refused.{refusalFrom, Clear, clear-next}
 
 numbers-from-one : (r : Refusal) → 1 ≤ numberOf r
 numbers-from-one Short = omega arith

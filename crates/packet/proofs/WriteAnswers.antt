@@ -9,7 +9,7 @@ use lib.ListN.{length, take, drop}
 use Rattle.header.specs.declared.Format.{Format}
 use Rattle.header.specs.Typed.{formatNumber}
 use Rattle.codes.specs.declared.Stored.the-variants as Stored
-use Rattle.packet.specs.declared.Refusal.the-variants.{NoCode, TooLong, NoRoom}
+use Rattle.refusals.specs.declared.Refusal.the-variants.{NoCode, TooLong, NoRoom}
 use Rattle.packet.specs.declared.WriteAnswer.the-variants.{Written, Refused}
 use Rattle.packet.specs.Data.{Uncoded, dataOf}
 use Rattle.packet.specs.Packet.{packetOf, headerFor}

@@ -9,16 +9,16 @@ use lib.ListN.{length, getD, drop}
 use Rattle.header.specs.declared.Format.{Format}
 use Rattle.header.specs.Typed.{formatNumber}
 use Rattle.header.proofs.Typed.{one-number}
-use Rattle.packet.specs.declared.Refusal.{Refusal}
-use Rattle.packet.specs.declared.Refusal.the-variants.{Short, NoHeader, OtherType, OtherLength, CutOff, Checksum, Malformed, NoRoom, NoCode, Empty, TooLong, OtherFormat}
+use Rattle.refusals.specs.declared.Refusal.{Refusal}
+use Rattle.refusals.specs.declared.Refusal.the-variants.{Short, NoHeader, OtherType, OtherLength, CutOff, Checksum, Malformed, NoRoom, NoCode, Empty, TooLong, OtherFormat}
 use Rattle.packet.specs.declared.WriteAnswer.{WriteAnswer}
 use Rattle.packet.specs.declared.WriteAnswer.the-variants.{Written, Refused}
 use Rattle.packet.specs.Data.{coded, Uncoded, dataOf}
 use Rattle.codes.specs.Size.{longest}
-use Rattle.packet.specs.Refusals.{numberOf, valueOf, turnIn, writerOrder, writerTurn}
+use Rattle.refusals.specs.Refusals.{numberOf, valueOf, turnIn, writerOrder, writerTurn}
 use Rattle.packet.specs.Writer.{Named, WriteFault, WriteRefuses, WriteAccepts, Writes, ourPacket}
 use Rattle.codes.proofs.Only.{first-one}
-use Rattle.packet.proofs.Refused.{refusalFrom, from-both, same-number, plain, first-one as first-match}
+use Rattle.refusals.proofs.Refused.{refusalFrom, from-both, same-number, plain, first-one as first-match}
 
 module _ (number : ℕ) (text : List ℕ) (room : ℕ) where
   -- the condition of a refusal, of the format that is named

@@ -9,9 +9,9 @@ use Rattle.header.specs.declared.Format.{Format}
 use Rattle.header.specs.Typed.{formatNumber}
 use Rattle.packet.specs.Data.{Uncoded, Coded, dataOf}
 use Rattle.codes.specs.Size.{longest}
-use Rattle.packet.specs.Refusals.{turnIn, writerOrder, writerTurn}
+use Rattle.refusals.specs.Refusals.{turnIn, writerOrder, writerTurn}
 use Rattle.packet.specs.Writer.{WriteFault}
-use Rattle.packet.proofs.Refused.{refusalFrom, Clear, clear-next}
+use Rattle.refusals.proofs.Refused.{refusalFrom, Clear, clear-next}
 use Rattle.packet.proofs.WriteOnce.{at-turn, named}
 
 module _ (number : ℕ) (text : List ℕ) (room : ℕ) where

@@ -1,6 +1,5 @@
 pub mod Data
 pub mod Packet
 pub mod Reader
-pub mod Refusals
 pub mod Steps
 pub mod Writer

@@ -12,15 +12,15 @@ use Rattle.header.specs.Typed.{Typed}
 use Rattle.header.specs.Valid.{lengthIn}
 use Rattle.mending.specs.Mends.{Near, distance}
 use Rattle.checksum.specs.Checksum.{sent}
-use Rattle.packet.specs.declared.Refusal.{Refusal}
-use Rattle.packet.specs.declared.Refusal.the-variants.{Short, NoHeader, OtherType, OtherLength, CutOff, Checksum, Malformed, NoRoom, NoCode, Empty, TooLong, OtherFormat}
+use Rattle.refusals.specs.declared.Refusal.{Refusal}
+use Rattle.refusals.specs.declared.Refusal.the-variants.{Short, NoHeader, OtherType, OtherLength, CutOff, Checksum, Malformed, NoRoom, NoCode, Empty, TooLong, OtherFormat}
 use Rattle.packet.specs.declared.Reading.{Reading}
 use Rattle.packet.specs.declared.ReadAnswer.{ReadAnswer}
 use Rattle.packet.specs.declared.ReadAnswer.the-variants.{Accepted, Refused}
 use Rattle.packet.specs.Data.{Carries, Unreadable}
 use Rattle.codes.specs.Size.{longest}
 use Rattle.packet.specs.Packet.{received, dataIn, sumIn}
-use Rattle.packet.specs.Refusals.{readerTurn, First}
+use Rattle.refusals.specs.Refusals.{readerTurn, First}
 
 -- the valid header that the packet is read as, at most two bits away, with what the condition says of it
 abbrev pub Under : List ℕ → (ℕ → Type 0) → Type 0

@@ -8,14 +8,14 @@ use Prim.Native.Nat.{ℕ, _+_, _≤_, _<_}
 use lib.ListN.{length, drop}
 use Rattle.header.specs.declared.Format.{Format}
 use Rattle.header.specs.Typed.{formatNumber}
-use Rattle.packet.specs.declared.Refusal.{Refusal}
-use Rattle.packet.specs.declared.Refusal.the-variants.{Short, NoHeader, OtherType, OtherLength, CutOff, Checksum, Malformed, NoRoom, NoCode, Empty, TooLong, OtherFormat}
+use Rattle.refusals.specs.declared.Refusal.{Refusal}
+use Rattle.refusals.specs.declared.Refusal.the-variants.{Short, NoHeader, OtherType, OtherLength, CutOff, Checksum, Malformed, NoRoom, NoCode, Empty, TooLong, OtherFormat}
 use Rattle.packet.specs.declared.WriteAnswer.{WriteAnswer}
 use Rattle.packet.specs.declared.WriteAnswer.the-variants.{Written, Refused}
 use Rattle.packet.specs.Data.{Uncoded, Coded, dataOf}
 use Rattle.codes.specs.Size.{longest}
 use Rattle.packet.specs.Packet.{packetOf, headerFor}
-use Rattle.packet.specs.Refusals.{writerTurn, First}
+use Rattle.refusals.specs.Refusals.{writerTurn, First}
 
 -- the format of this number, with what the condition says of it
 abbrev pub Named : ℕ → (Format → Type 0) → Type 0

@@ -9,8 +9,8 @@ use Rattle.codes.specs.Laid.{Fronted}
 use Rattle.codes.proofs.Only.{one-front}
 use Rattle.packet.specs.declared.ReadAnswer.{ReadAnswer}
 use Rattle.packet.specs.declared.ReadAnswer.the-variants.{Refused}
-use Rattle.packet.specs.declared.Refusal.{Refusal}
-use Rattle.packet.specs.declared.Refusal.the-variants.{NoHeader}
+use Rattle.refusals.specs.declared.Refusal.{Refusal}
+use Rattle.refusals.specs.declared.Refusal.the-variants.{NoHeader}
 use Rattle.packet.specs.Reader.{Refuses}
 use Rattle.packet.proofs.ReadOnce.{reads-one}
 use Rattle.report.specs.Line.{decimalIn, decimal, spaced, line, lineOf}

@@ -7,10 +7,10 @@ use Rattle.header.specs.Fields.{oneIf}
 use Rattle.header.specs.Typed.{formatNumber}
 use Rattle.codes.specs.Laid.{Fronted}
 use Rattle.packet.specs.declared.Reading.{Reading}
-use Rattle.packet.specs.declared.Refusal.{Refusal}
+use Rattle.refusals.specs.declared.Refusal.{Refusal}
 use Rattle.packet.specs.declared.ReadAnswer.{ReadAnswer}
 use Rattle.packet.specs.declared.ReadAnswer.the-variants.{Accepted, Refused}
-use Rattle.packet.specs.Refusals.{numberOf}
+use Rattle.refusals.specs.Refusals.{numberOf}
 use Rattle.packet.specs.Reader.{Reads}
 use Rattle.report.specs.Line.{ok, refused, line, lineOf}
 use Rattle.report.specs.Report.{Reports}

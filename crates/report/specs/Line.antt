@@ -12,7 +12,7 @@ use Rattle.header.specs.Typed.{formatNumber}
 use Rattle.codes.specs.Laid.{laid}
 use Rattle.packet.specs.declared.ReadAnswer.{ReadAnswer}
 use Rattle.packet.specs.declared.ReadAnswer.the-variants.{Accepted, Refused}
-use Rattle.packet.specs.Refusals as refusals
+use Rattle.refusals.specs.Refusals as refusals
 
 -- the ASCII code of a digit
 abbrev pub digit : ℕ → ℕ

@@ -12,7 +12,7 @@ use Rattle.packet.specs.declared.ReadAnswer.the-variants.{Accepted, Refused}
 use Rattle.packet.specs.declared.WriteAnswer.{WriteAnswer}
 use Rattle.packet.specs.declared.WriteAnswer.the-variants.{Written, Refused as NotWritten}
 use Rattle.packet.specs.Reader as reader
-use Rattle.packet.specs.Refusals.{numberOf, valueOf}
+use Rattle.refusals.specs.Refusals.{numberOf, valueOf}
 use Rattle.packet.specs.Writer as writer
 use Rattle.rosopyat_c.specs.declared.ReadReply.{ReadReply}
 use Rattle.rosopyat_c.specs.declared.WriteReply.{WriteReply}

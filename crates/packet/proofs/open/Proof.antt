@@ -20,8 +20,8 @@ use Rattle.mending.specs.Mends.{Near, Mends, distance}
 use Rattle.codes.specs.Size.{longest}
 use Rattle.packet.specs.Packet.{received}
 use Rattle.packet.specs.Reader.{Fault}
-use Rattle.packet.specs.Refusals.{readerTurn}
-use Rattle.packet.proofs.Refused.{Clear}
+use Rattle.refusals.specs.Refusals.{readerTurn}
+use Rattle.refusals.proofs.Refused.{Clear}
 use Rattle.packet.proofs.Stages.{clear-one, clear-two, clear-three, clear-four, clear-five}
 use Rattle.packet.proofs.open.Statement.{statement}
 use Rattle.packet.proofs.open.Tie as tie

@@ -6,8 +6,8 @@ use mathlib.Core.List.{List, [], _∷_}
 use mathlib.Core.Path.{_≡_}
 use Prim.Native.Nat.{ℕ, suc, _<_}
 use lib.Dec.{eqb}
-use Rattle.packet.specs.declared.Refusal.{Refusal}
-use Rattle.packet.specs.declared.Refusal.the-variants.{Short, NoHeader, OtherType, OtherLength, CutOff, Checksum, Malformed, NoRoom, NoCode, Empty, TooLong, OtherFormat}
+use Rattle.refusals.specs.declared.Refusal.{Refusal}
+use Rattle.refusals.specs.declared.Refusal.the-variants.{Short, NoHeader, OtherType, OtherLength, CutOff, Checksum, Malformed, NoRoom, NoCode, Empty, TooLong, OtherFormat}
 
 -- the number, and the one that comes with it
 abbrev pub told : Refusal → ℕ × ℕ
