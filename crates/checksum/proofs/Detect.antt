@@ -12,7 +12,7 @@ use Rattle.bits.specs.Row.{Bytes}
 use Rattle.bits.proofs.Xor.{xor-assoc}
 use Rattle.checksum.proofs.Register.{steps-xor, steps-add, steps-low, steps-tell}
 use Rattle.checksum.proofs.Row.{byte-lt, sent-tells}
-use Rattle.checksum.specs.Checksum.{start, bitSteps, byteStep, checksumFrom, checksumOf, sent}
+use Rattle.checksum.specs.Checksum.{start, bitSteps, byteStep, checksumFrom, checksumOf, checksumBytes}
 use Rattle.checksum.specs.Alike.{AlikeBut}
 use Rattle.checksum.proofs.Alike.{head, tail, back}
 
@@ -76,5 +76,5 @@ unfolding checksumOf start
 detects {place} {a} {b} h ha hb differ e = differ (detects-from place start a b h ha hb (lit< tt) e)
 
 -- and so have the two bytes that a reader compares
-pub sent-detects : {place : ℕ} {a b : List ℕ} → AlikeBut place a b → Bytes a → Bytes b → a ≢ b → sent a ≢ sent b
+pub sent-detects : {place : ℕ} {a b : List ℕ} → AlikeBut place a b → Bytes a → Bytes b → a ≢ b → checksumBytes a ≢ checksumBytes b
 sent-detects {a = a} {b = b} h ha hb differ e = detects h ha hb differ (sent-tells a b e)

@@ -10,7 +10,7 @@ use lib.Pow.{pow-add, shl-lt, shr-shr, field, mod-mod-pow, high, low}
 use Rattle.bits.proofs.Xor.{two-pos, xor-half, xor-odd, xor-digits, xor-cross}
 use Rattle.checksum.proofs.Register.{bit-xor, steps-xor, steps-low}
 use Rattle.checksum.specs.Checksum.{feedback, bitStep, bitSteps, byteStep}
-use Rattle.checksum.specs.Words.{entered}
+use Rattle.checksum.specs.Steps.Words.{entered}
 
 -- a digit at the register's top
 top-xor : (u v : ℕ) → bitXor u v % 2 * 2 ^ 15 ≡ bitXor (u % 2 * 2 ^ 15) (v % 2 * 2 ^ 15)

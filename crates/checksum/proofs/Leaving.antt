@@ -11,7 +11,7 @@ use Rattle.bits.proofs.Xor.{digit-of, xor-assoc, xor-cross}
 use Rattle.checksum.proofs.Register.{bit-xor, steps-xor, steps-add}
 use Rattle.checksum.proofs.Entered.{steps-last, steps-none, entered-xor, entered-zero, entered-apart, entered-add, entered-low, entered-front}
 use Rattle.checksum.specs.Checksum.{feedback, start, bitStep, bitSteps}
-use Rattle.checksum.specs.Words.{entered, three, bothMoved, carried}
+use Rattle.checksum.specs.Steps.Words.{entered, three, bothMoved, carried}
 
 -- ---- the polynomial
 

@@ -3,7 +3,7 @@
 use mathlib.Core.Path.{_≡_, refl, ap}
 use mathlib.Core.List.{List, [], _∷_}
 use Prim.Native.Nat.{ℕ, zero, suc, _/_, _%_}
-use Rattle.checksum.specs.Checksum.{feedback, start, bitStep, bitSteps, byteStep, checksumFrom, checksumOf, sent}
+use Rattle.checksum.specs.Checksum.{feedback, start, bitStep, bitSteps, byteStep, checksumFrom, checksumOf, checksumBytes}
 
 -- n numbers, from k upward
 unfoldable pub upward : ℕ → ℕ → List ℕ
@@ -14,6 +14,6 @@ pub open-binary : checksumOf (upward 256 0) ≡ 0x4B55
 unfolding feedback start bitStep bitSteps byteStep checksumFrom checksumOf upward
 open-binary = refl
 
-pub open-binary-sent : sent (upward 256 0) ≡ 0x55 ∷ 0x4B ∷ []
-unfolding sent
+pub open-binary-sent : checksumBytes (upward 256 0) ≡ 0x55 ∷ 0x4B ∷ []
+unfolding checksumBytes
 open-binary-sent = ap (λ (n : ℕ). n % 256 ∷ n / 256 ∷ []) open-binary

@@ -9,7 +9,7 @@ use lib.ListN.{length, getD, take, drop, take-append-drop, length-drop}
 use lib.Seq.{drop-cons, take-add, take-all}
 use lib.Bits.{bitXor}
 use Rattle.checksum.proofs.Register.{bit-lt, steps-lt}
-use Rattle.checksum.specs.Checksum.{start, bitStep, bitSteps, byteStep, checksumFrom, checksumOf, sent}
+use Rattle.checksum.specs.Checksum.{start, bitStep, bitSteps, byteStep, checksumFrom, checksumOf, checksumBytes}
 
 checksum-append : (r : ℕ) (a b : List ℕ) → checksumFrom r (a ++ b) ≡ checksumFrom (checksumFrom r a) b
 unfolding checksumFrom
@@ -56,26 +56,26 @@ pub byte-lt : (r b : ℕ) → byteStep r b < 2 ^ 16
 unfolding byteStep bitSteps
 byte-lt r b = steps-lt 7 (bitStep (bitXor r (b * 2 ^ 8))) (bit-lt (bitXor r (b * 2 ^ 8)))
 
-pub sent-length : (s : List ℕ) → length (sent s) ≡ 2
-unfolding sent
+pub sent-length : (s : List ℕ) → length (checksumBytes s) ≡ 2
+unfolding checksumBytes
 sent-length s = refl
 
 -- two bytes are the ones that are sent just where the first is the low byte of the checksum and the second the high byte
 module _ (s : List ℕ) {low high : ℕ} where
-  pub sent-is : low ≡ checksumOf s % 256 → high ≡ checksumOf s / 256 → low ∷ high ∷ [] ≡ sent s
-  unfolding sent
+  pub sent-is : low ≡ checksumOf s % 256 → high ≡ checksumOf s / 256 → low ∷ high ∷ [] ≡ checksumBytes s
+  unfolding checksumBytes
   sent-is l h = cc
 
-  pub sent-low : low ∷ high ∷ [] ≡ sent s → low ≡ checksumOf s % 256
-  unfolding sent
+  pub sent-low : low ∷ high ∷ [] ≡ checksumBytes s → low ≡ checksumOf s % 256
+  unfolding checksumBytes
   sent-low e = cc
 
-  pub sent-high : low ∷ high ∷ [] ≡ sent s → high ≡ checksumOf s / 256
-  unfolding sent
+  pub sent-high : low ∷ high ∷ [] ≡ checksumBytes s → high ≡ checksumOf s / 256
+  unfolding checksumBytes
   sent-high e = cc
 
-pub sent-tells : (a b : List ℕ) → sent a ≡ sent b → checksumOf a ≡ checksumOf b
-unfolding sent
+pub sent-tells : (a b : List ℕ) → checksumBytes a ≡ checksumBytes b → checksumOf a ≡ checksumOf b
+unfolding checksumBytes
 sent-tells a b e =
     sym (div-add-mod' (checksumOf a) 256)
     ∙ ap₂ (λ (high low : ℕ). high * 256 + low) (sent-high b e) (sent-low b e)

@@ -11,7 +11,7 @@ use lib.Seq.{drop-drop}
 use Rattle.checksum.proofs.Entered.{entered-add, entered-low, entered-parts, entered-byte}
 use Rattle.checksum.proofs.Row.{checksum-first, checksum-more}
 use Rattle.checksum.specs.Checksum.{byteStep, checksumFrom}
-use Rattle.checksum.specs.Words.{entered}
+use Rattle.checksum.specs.Steps.Words.{entered}
 
 -- ---- a word made of bytes
 

@@ -36,5 +36,5 @@ unfoldable pub checksumOf : List ℕ → ℕ
 checksumOf s = checksumFrom start s
 
 -- the two bytes that follow the data: the least significant byte is transmitted first
-unfoldable pub sent : List ℕ → List ℕ
-sent s = checksumOf s % 256 ∷ checksumOf s / 256 ∷ []
+unfoldable pub checksumBytes : List ℕ → List ℕ
+checksumBytes s = checksumOf s % 256 ∷ checksumOf s / 256 ∷ []

@@ -1,3 +1,3 @@
 pub mod Alike
 pub mod Checksum
-pub mod Words
+pub mod Steps

@@ -4,8 +4,8 @@ ghost use mathlib.Core.Path.{_≡_};
 ghost use mathlib.Core.List.{[], _∷_};
 ghost use Prim.Native.Nat.{ℕ, _+_, _*_, _/_, _%_, _^_, _≤_, _<_};
 ghost use lib.ListN.{length, take, drop};
-ghost use Rattle.checksum.specs.Checksum.{bitStep, byteStep, start, checksumFrom, checksumOf, sent};
-ghost use Rattle.checksum.specs.Words.{entered, bothMoved, Carries};
+ghost use Rattle.checksum.specs.Checksum.{bitStep, byteStep, start, checksumFrom, checksumOf, checksumBytes};
+ghost use Rattle.checksum.specs.Steps.Words.{entered, bothMoved, StandsFor};
 ghost use Rattle.bits.specs.Says.{Says};
 
 const START: u16 = 0xFFFF;
@@ -141,7 +141,7 @@ fn both_moved(first: u64, second: u64) -> u64
 
 // One word more is left out.
 fn turn(carry: Carry, word: u64) -> Carry
-    ensures { λ r. ⌜ ((register : ℕ) → Carries carry register → Carries r (entered 64 register word)) ⌝ }
+    ensures { λ r. ⌜ ((register : ℕ) → StandsFor carry register → StandsFor r (entered 64 register word)) ⌝ }
 {
     let newest = word ^ (carry.newest ^ both_moved(carry.oldest, carry.middle));
     Carry {
@@ -154,7 +154,7 @@ fn turn(carry: Carry, word: u64) -> Carry
 // Three words more, from a place on.
 fn three_turns(carry: Carry, data: &[u8], i: usize) -> Carry
     requires { ⌜ i + 24 ≤ length (now «data») ⌝ }
-    ensures { λ r. ⌜ ((register : ℕ) → Carries carry register → Carries r (checksumFrom register (take 24 (drop i (now («data» .entry)))))) ⌝ }
+    ensures { λ r. ⌜ ((register : ℕ) → StandsFor carry register → StandsFor r (checksumFrom register (take 24 (drop i (now («data» .entry)))))) ⌝ }
 {
     let first = turn(carry, word_at(data, i));
     let second = turn(first, word_at(data, i + 8));
@@ -164,7 +164,7 @@ fn three_turns(carry: Carry, data: &[u8], i: usize) -> Carry
 // The last three words, from a place on, on which falls what is carried.
 fn last_steps(carry: Carry, data: &[u8], i: usize) -> u16
     requires { ⌜ i + 24 ≤ length (now «data») ⌝ }
-    ensures { λ r. ⌜ ((register : ℕ) → Carries carry register → r ≡ checksumFrom register (take 24 (drop i (now («data» .entry))))) ⌝ }
+    ensures { λ r. ⌜ ((register : ℕ) → StandsFor carry register → r ≡ checksumFrom register (take 24 (drop i (now («data» .entry))))) ⌝ }
 {
     let first = word_at(data, i) ^ (carry.newest ^ both_moved(carry.oldest, carry.middle));
     let second = word_at(data, i + 8) ^ both_moved(carry.middle, carry.newest);
@@ -230,7 +230,7 @@ pub fn high_byte(sum: u16) -> u8
 
 // Whether the two bytes that follow the data are its checksum, the low byte first.
 pub fn agrees(data: &[u8], low: u8, high: u8) -> bool
-    ensures { λ r. ⌜ Says r (low ∷ high ∷ [] ≡ sent (now («data» .entry))) ⌝ }
+    ensures { λ r. ⌜ Says r (low ∷ high ∷ [] ≡ checksumBytes (now («data» .entry))) ⌝ }
 {
     let sum = checksum(data);
     low_byte(sum) == low && high_byte(sum) == high

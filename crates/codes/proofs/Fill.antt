@@ -9,7 +9,7 @@ use lib.Dec.{T, leb, eqb, leb→le, le→leb, eqb→eq}
 use lib.ListN.{length, replicate, length-append, length-replicate}
 use Rattle.codes.specs.Chain.{Fill}
 use Rattle.bits.proofs.Said.{and-left, and-right, and-both}
-use Rattle.codes.proofs.Every.{every, every-front}
+use Rattle.codes.proofs.EveryElement.{every, every-front}
 
 unfoldable pub fills : ℕ → List ℕ → Bool
 fills unused f = leb (length f) unused && every (eqb 1) f

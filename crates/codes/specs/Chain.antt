@@ -29,13 +29,13 @@ abbrev pub In : Entry → List Entry → Type 0
 In e table = List·Memᴰ e table
 
 -- the state after an entry that was met in state m: a value uses up one of those announced (001, 4.2.2.2)
-unfoldable pub after : ℕ → Entry → ℕ
-after m e = pred m + e .announces
+unfoldable pub stateAfter : ℕ → Entry → ℕ
+stateAfter m e = pred m + e .announces
 
 -- the entries, each out of the table of the state that it is met in, lead from state m to state n
 abbrev pub Row : Scheme → ℕ → List Entry → ℕ → Type 0
 Row scheme m [] n = m ≡ n
-Row scheme m (e ∷ es) n = In e (scheme .table m) × Row scheme (after m e) es n
+Row scheme m (e ∷ es) n = In e (scheme .table m) × Row scheme (stateAfter m e) es n
 
 -- their codes in a row: a stream of bits and not of bytes (001, 4.2.2.2 and 4.5)
 unfoldable pub codes : List Entry → List ℕ

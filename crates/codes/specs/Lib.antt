@@ -1,10 +1,6 @@
-pub mod Ahead
 pub mod Chain
-pub mod Laid
-pub mod Measure
+pub mod Coded
+pub mod Consecutive
 pub mod Pack
-pub mod Passed
-pub mod Pending
 pub mod Reading
-pub mod Size
-pub mod Words
+pub mod Steps

@@ -7,7 +7,7 @@ use mathlib.Core.List.{List, [], _++_}
 use Prim.Native.Nat.{ℕ, _+_}
 use lib.ListN.{length}
 use Rattle.bits.specs.Row.{bits}
-use Rattle.codes.specs.Chain.{Entry, Scheme, In, after, Fill, Begins}
+use Rattle.codes.specs.Chain.{Entry, Scheme, In, stateAfter, Fill, Begins}
 
 -- the text, or the bit at which the reading is stuck
 pub data Answer : Type 0 where
@@ -33,9 +33,9 @@ Halts scheme m bs = (e : Entry) → In e (scheme .table m) → Begins (e .code) 
 pub data Gives (scheme : Scheme) : ℕ → List ℕ → Answer → Type 0 where
   ends : {m : ℕ} {bs : List ℕ} → Ends scheme m bs → Gives scheme m bs (text [])
   takes : {m : ℕ} {e : Entry} {rest : List ℕ} {a : Answer} → (Ends scheme m (e .code ++ rest) → ⊥) → In e (scheme .table m)
-      → Gives scheme (after m e) rest a → Gives scheme m (e .code ++ rest) (front e a)
+      → Gives scheme (stateAfter m e) rest a → Gives scheme m (e .code ++ rest) (front e a)
   stops : {m : ℕ} {bs : List ℕ} → (Ends scheme m bs → ⊥) → Halts scheme m bs → Gives scheme m bs (stuck 0)
 
 -- what reading data bytes gives, from where no value is announced
-abbrev pub Reads : Scheme → List ℕ → Answer → Type 0
-Reads scheme sent a = Gives scheme 0 (bits sent) a
+abbrev pub DataGives : Scheme → List ℕ → Answer → Type 0
+DataGives scheme sent a = Gives scheme 0 (bits sent) a

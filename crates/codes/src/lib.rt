@@ -6,11 +6,11 @@ ghost use mathlib.Core.List.{_++_};
 ghost use Prim.Native.Nat.{ℕ, _+_, _*_, _/_, _^_, _≤_, _<_};
 ghost use lib.ListN.{length, getD};
 ghost use Rattle.bits.specs.Says.{Says};
-ghost use Rattle.codes.specs.Ahead.{Window};
+ghost use Rattle.codes.specs.Steps.BitBuffer.{Window};
 ghost use Rattle.codes.specs.Chain.{Fill};
-ghost use Rattle.codes.specs.Laid.{Flushed};
+ghost use Rattle.codes.specs.Steps.Laid.{Flushed};
 ghost use Rattle.codes.specs.Pack.{low};
-ghost use Rattle.codes.specs.Words.{eightAt, spilled};
+ghost use Rattle.codes.specs.Steps.EightBytes.{eightAt, spilled};
 
 // The bits that are still to be read: the lowest `have` bits of `held`, then those of the bytes from `next` on.
 pub struct Buffer {

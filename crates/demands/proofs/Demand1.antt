@@ -16,11 +16,11 @@ use lib.Seq.{drop-at, length-take-le, getD-take, take-append-le, drop-append-le}
 use Rattle.header.specs.declared.Format.{Format}
 use Rattle.header.specs.declared.Format.the-variants.{Open, PseudoBinary, FullAscii}
 use Rattle.header.specs.Fields.{fieldsIn, wordOf, bytesOf}
-use Rattle.header.specs.Typed.{Typed}
+use Rattle.header.specs.Typed.{HasFormat}
 use Rattle.header.specs.Valid.{lengthIn}
-use Rattle.mending.specs.Mends.{Near, distance}
+use Rattle.mending.specs.Mends.{ValidWithin, distance}
 use Rattle.mending.proofs.Unique.{one-near}
-use Rattle.checksum.specs.Checksum.{sent}
+use Rattle.checksum.specs.Checksum.{checksumBytes}
 use Rattle.checksum.proofs.Row.{sent-length}
 use Rattle.packet.specs.declared.Reading.{Reading}
 use Rattle.packet.specs.declared.ReadAnswer.{ReadAnswer}
@@ -32,7 +32,7 @@ use Rattle.packet.specs.declared.WriteAnswer.the-variants.{Written, Refused as 
 use Rattle.packet.specs.Data.{Carries, Unreadable, coded, Coded, Uncoded, dataOf}
 use Rattle.codes.specs.Reading as codes-reading
 use Rattle.codes.specs.Reading.{stuck}
-use Rattle.codes.specs.Size.{longest}
+use Rattle.codes.specs.Steps.Size.{longest}
 use Rattle.full_ascii.specs.Table as ascii
 use Rattle.full_ascii.proofs.Writer as ascii-writer
 use Rattle.pseudo_binary.specs.Table as pseudo
@@ -107,13 +107,13 @@ malformed-means format carried = (
 -- and its bit is where reading the data, as 01 has it read, is stuck
 abbrev Stops : Format → List ℕ → ℕ → Type 0
 Stops Open carried bit = ⊥
-Stops PseudoBinary carried bit = codes-reading.Reads pseudo.scheme carried (stuck bit)
-Stops FullAscii carried bit = codes-reading.Reads ascii.scheme carried (stuck bit)
+Stops PseudoBinary carried bit = codes-reading.DataGives pseudo.scheme carried (stuck bit)
+Stops FullAscii carried bit = codes-reading.DataGives ascii.scheme carried (stuck bit)
 
 pub malformed-bit : (format : Format) (carried : List ℕ) (bit : ℕ) → Unreadable format carried bit ↔ Stops format carried bit
 malformed-bit Open carried bit = (λ u. u, λ s. s)
-malformed-bit PseudoBinary carried bit = (pseudo-writer.agree .malformed-is-stuck bit carried, pseudo-writer.agree .stuck-is-malformed bit carried)
-malformed-bit FullAscii carried bit = (ascii-writer.agree .malformed-is-stuck bit carried, ascii-writer.agree .stuck-is-malformed bit carried)
+malformed-bit PseudoBinary carried bit = (pseudo-writer.reading-agrees .malformed-is-stuck bit carried, pseudo-writer.reading-agrees .stuck-is-malformed bit carried)
+malformed-bit FullAscii carried bit = (ascii-writer.reading-agrees .malformed-is-stuck bit carried, ascii-writer.reading-agrees .stuck-is-malformed bit carried)
 
 -- refusal 9: a text has codes exactly when some data carries it
 pub no-code-means : (format : Format) (text : List ℕ) → Coded format text (length text) ↔ ((carried : List ℕ) × Carries format text carried)
@@ -186,7 +186,7 @@ unfolding ourPacket packetOf bytesOf
 our-length format sync text =
     let carried = dataOf format text in
     let header = headerFor format sync (length carried) in
-    omega (arith, length-append (bytesOf header) (carried ++ sent carried), length-append carried (sent carried), sent-length carried)
+    omega (arith, length-append (bytesOf header) (carried ++ checksumBytes carried), length-append carried (checksumBytes carried), sent-length carried)
 
 pub writes-only-counted : (number : ℕ) (sync : Bool) (text entry exit : List ℕ) (n : ℕ) → Writes number sync text entry (Written n) exit
     → drop n exit ≡ drop n entry
@@ -196,34 +196,34 @@ writes-only-counted number sync text entry exit n (format, a, e) =
 -- ---- bytes after the checksum change nothing
 
 -- two slices that hold whole packets under one header, with the same data and the same two bytes behind it, meet the same conditions
-module _ (p q : List ℕ) (header : ℕ) (near : Near 2 (received p) header) (near′ : Near 2 (received q) header) (whole : lengthIn header + 6 ≤ length p)
+module _ (p q : List ℕ) (header : ℕ) (near : ValidWithin 2 (received p) header) (near′ : ValidWithin 2 (received q) header) (whole : lengthIn header + 6 ≤ length p)
     (same-data : dataIn header q ≡ dataIn header p) (same-sum : sumIn header q ≡ sumIn header p) where
   moves : (room : ℕ) (r : Refusal) → Fault p room r → Fault q room r
   moves room Short f = absurd (let no′ : ⊥ = omega arith in no′)
   moves room NoHeader f = absurd (f header near)
-  moves room OtherType f = (header, near′, under p room (λ (h : ℕ). (k : Format) → Typed (fieldsIn h) k → ⊥) header near f)
+  moves room OtherType f = (header, near′, under p room (λ (h : ℕ). (k : Format) → HasFormat (fieldsIn h) k → ⊥) header near f)
   moves room OtherLength f = (header, near′, under p room (λ (h : ℕ). (lengthIn h ≡ 0) ⊎ (longest < lengthIn h)) header near f)
   moves room CutOff f =
       let short = under p room (λ (h : ℕ). length p < lengthIn h + 6) header near f in absurd (let no′ : ⊥ = omega arith in no′)
   moves room Checksum f = (
     header,
     near′,
-    λ e. under p room (λ (h : ℕ). sumIn h p ≡ sent (dataIn h p) → ⊥) header near f (sym same-sum ∙ e ∙ ap sent same-data),
+    λ e. under p room (λ (h : ℕ). sumIn h p ≡ checksumBytes (dataIn h p) → ⊥) header near f (sym same-sum ∙ e ∙ ap checksumBytes same-data),
   )
   moves room (Malformed i) f =
-      let u = under p room (λ (h : ℕ). (k : Format) × Typed (fieldsIn h) k × Unreadable k (dataIn h p) i) header near f in
+      let u = under p room (λ (h : ℕ). (k : Format) × HasFormat (fieldsIn h) k × Unreadable k (dataIn h p) i) header near f in
       (header, near′, (u .0, u .1, subst (λ (l : List ℕ). Unreadable (u .0) l i) (sym same-data) (u .2)))
   moves room (NoRoom n) f =
       let u =
       under p room
-      (λ (h : ℕ). (k : Format) × Typed (fieldsIn h) k × ((t : List ℕ) × Carries k t (dataIn h p) × (length t ≡ n) × (room < n))) header near f in
+      (λ (h : ℕ). (k : Format) × HasFormat (fieldsIn h) k × ((t : List ℕ) × Carries k t (dataIn h p) × (length t ≡ n) × (room < n))) header near f in
       (header, near′, (u .0, u .1, (u .2 .0, subst (Carries (u .0) (u .2 .0)) (sym same-data) (u .2 .1), u .2 .2, u .2 .3)))
   moves room (NoCode i) f = f
   moves room Empty f = f
   moves room TooLong f = f
   moves room OtherFormat f = f
 
-module _ (packet after : List ℕ) (header : ℕ) (near : Near 2 (received packet) header) (whole : lengthIn header + 6 ≤ length packet) where
+module _ (packet after : List ℕ) (header : ℕ) (near : ValidWithin 2 (received packet) header) (whole : lengthIn header + 6 ≤ length packet) where
   same-byte : (i : ℕ) → i < length packet → getD (packet ++ after) i 0 ≡ getD packet i 0
   same-byte i lt = List·getD-append packet after 0 i lt
 
@@ -247,8 +247,8 @@ module _ (packet after : List ℕ) (header : ℕ) (near : Near 2 (received packe
   same-sum =
       ap₂ (λ (x y : ℕ). x ∷ y ∷ []) (same-byte (4 + lengthIn header) (omega arith)) (same-byte (5 + lengthIn header) (omega arith))
 
-  near-behind : Near 2 (received (packet ++ after)) header
-  near-behind = subst (λ (w : ℕ). Near 2 w header) (sym same-received) near
+  near-behind : ValidWithin 2 (received (packet ++ after)) header
+  near-behind = subst (λ (w : ℕ). ValidWithin 2 w header) (sym same-received) near
 
   longer : length packet ≤ length (packet ++ after)
   longer = omega (arith, length-append packet after)
@@ -260,12 +260,12 @@ module _ (packet after : List ℕ) (header : ℕ) (near : Near 2 (received packe
         header = header;
         framed = record {
           near = near-behind;
-          typed = subst (λ (h : ℕ). Typed (fieldsIn h) (reading .format)) head (a .framed .typed);
+          typed = subst (λ (h : ℕ). HasFormat (fieldsIn h) (reading .format)) head (a .framed .typed);
           some = subst (λ (h : ℕ). 1 ≤ lengthIn h) head (a .framed .some);
           few = subst (λ (h : ℕ). lengthIn h ≤ longest) head (a .framed .few);
           whole = omega (arith, longer);
         };
-        summed = same-sum ∙ subst (λ (h : ℕ). sumIn h packet ≡ sent (dataIn h packet)) head (a .summed) ∙ ap sent (sym same-data);
+        summed = same-sum ∙ subst (λ (h : ℕ). sumIn h packet ≡ checksumBytes (dataIn h packet)) head (a .summed) ∙ ap checksumBytes (sym same-data);
         carries = subst (Carries (reading .format) text) (ap (λ (h : ℕ). dataIn h packet) head ∙ sym same-data) (a .carries);
         held = a .held;
         sync = a .sync ∙ ap (λ (h : ℕ). fieldsIn h .sync) head;

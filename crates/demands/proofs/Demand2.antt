@@ -18,8 +18,8 @@ use Rattle.header.specs.Typed.{formatNumber}
 use Rattle.header.specs.Valid.{lengthIn}
 use Rattle.header.proofs.Typed.{one-number}
 use Rattle.mending.specs.Mends.{distance}
-use Rattle.checksum.specs.Checksum.{sent}
-use Rattle.codes.specs.Size.{longest}
+use Rattle.checksum.specs.Checksum.{checksumBytes}
+use Rattle.codes.specs.Steps.Size.{longest}
 use Rattle.packet.specs.declared.Reading.{Reading}
 use Rattle.packet.specs.declared.ReadAnswer.{ReadAnswer}
 use Rattle.packet.specs.declared.ReadAnswer.the-variants.{Accepted}
@@ -204,7 +204,7 @@ accepted-is-made packet room reading text bytes a =
           ∙ ap (λ (l : List ℕ). bytesOf (received packet) ++ l)
           (behind-header packet h (a .framed .whole)
           ∙ ap (λ (sum : List ℕ). carried ++ (sum ++ drop (6 + lengthIn h) packet)) (a .summed)
-          ∙ sym (append-assoc carried (sent carried) (drop (6 + lengthIn h) packet))),
+          ∙ sym (append-assoc carried (checksumBytes carried) (drop (6 + lengthIn h) packet))),
       a .mended ∙ ap (distance (received packet)) (sym sent-header),
     )
 

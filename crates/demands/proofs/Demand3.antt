@@ -14,12 +14,12 @@ use Rattle.header.specs.declared.Format.{Format}
 use Rattle.header.specs.Fields.{bytesOf}
 use Rattle.mending.specs.Mends.{distance}
 use Rattle.checksum.specs.Alike.{AlikeBut}
-use Rattle.checksum.specs.Checksum.{checksumOf, sent}
+use Rattle.checksum.specs.Checksum.{checksumOf, checksumBytes}
 use Rattle.checksum.proofs.Detect.{sent-detects}
 use Rattle.packet.specs.declared.ReadAnswer.{ReadAnswer}
 use Rattle.packet.specs.declared.ReadAnswer.the-variants.{Accepted, Refused}
 use Rattle.refusals.specs.declared.Refusal.the-variants.{Checksum}
-use Rattle.codes.specs.Size.{longest}
+use Rattle.codes.specs.Steps.Size.{longest}
 use Rattle.packet.specs.Packet.{received, packetOf, headerFor}
 use Rattle.packet.specs.Reader.{Refuses, Reads}
 use Rattle.packet.proofs.ReadOnce.{reads-one}
@@ -29,7 +29,7 @@ use Rattle.demands.specs.Makers.{Made, Flipped, arriving, readingOf}
 module _ (format : Format) (sync : Bool) (text packet : List ℕ) (made : Made format sync text packet) where
   -- the packet is the header that was sent, the data and the checksum
   pub packet-header : received packet ≡ headerFor format sync (length (made .carried))
-  unfolding packetOf sent
+  unfolding packetOf checksumBytes
   packet-header =
       ap received (made .is)
       ∙ received-is (headerFor format sync (length (made .carried))) (made .carried) (checksumOf (made .carried) % 256) (checksumOf (made .carried) / 256) []
@@ -39,7 +39,7 @@ module _ (format : Format) (sync : Bool) (text packet : List ℕ) (made : Made f
   near word flipped = subst (λ (h : ℕ). distance word h ≤ 2) packet-header (flipped .few)
 
   arrives : (word : ℕ) (after : List ℕ) → arriving word packet after ≡ bytesOf word ++ (made .carried ++ (checksumOf (made .carried) % 256 ∷ checksumOf (made .carried) / 256 ∷ after))
-  unfolding arriving packetOf sent bytesOf
+  unfolding arriving packetOf checksumBytes bytesOf
   arrives word after =
       ap (λ (l : List ℕ). bytesOf word ++ (drop 4 l ++ after)) (made .is)
       ∙ ap (λ (l : List ℕ). bytesOf word ++ l) (append-assoc (made .carried) (checksumOf (made .carried) % 256 ∷ checksumOf (made .carried) / 256 ∷ []) after)
@@ -50,7 +50,7 @@ module _ (format : Format) (sync : Bool) (text packet : List ℕ) (made : Made f
   pub intact : length text ≤ length entry → Reads (arriving word packet after) entry answer exit
       → (answer ≡ Accepted (readingOf format sync (distance word (received packet)) (length (made .carried)) (length text)))
       × (exit ≡ text ++ drop (length text) entry)
-  unfolding sent
+  unfolding checksumBytes
   intact held reads =
       let low = checksumOf (made .carried) % 256 in
       let high = checksumOf (made .carried) / 256 in
@@ -74,9 +74,9 @@ module _ (format : Format) (sync : Bool) (text packet : List ℕ) (made : Made f
     (after entry exit : List ℕ) (answer : ReadAnswer) where
   -- one data byte changed, or two neighbouring ones, and what was sent and what came are bytes
   pub damaged-data : (place : ℕ) (other : List ℕ) → Bytes (made .carried) → Bytes other → AlikeBut place other (made .carried) → other ≢ made .carried
-      → Reads (bytesOf word ++ (other ++ (sent (made .carried) ++ after))) entry answer exit
+      → Reads (bytesOf word ++ (other ++ (checksumBytes (made .carried) ++ after))) entry answer exit
       → (answer ≡ Refused Checksum) × (exit ≡ entry)
-  unfolding sent
+  unfolding checksumBytes
   damaged-data place other bytes other-bytes alike differs reads =
       let low = checksumOf (made .carried) % 256 in
       let high = checksumOf (made .carried) / 256 in
@@ -89,7 +89,7 @@ module _ (format : Format) (sync : Bool) (text packet : List ℕ) (made : Made f
       reads
 
   -- one or both checksum bytes changed
-  pub damaged-sum : (low high : ℕ) → low ∷ high ∷ [] ≢ sent (made .carried)
+  pub damaged-sum : (low high : ℕ) → low ∷ high ∷ [] ≢ checksumBytes (made .carried)
       → Reads (bytesOf word ++ (made .carried ++ (low ∷ high ∷ after))) entry answer exit
       → (answer ≡ Refused Checksum) × (exit ≡ entry)
   damaged-sum low high differs reads =

@@ -18,22 +18,22 @@ use Rattle.header.specs.declared.Format.{Format}
 use Rattle.header.specs.declared.Format.the-variants.{Open, PseudoBinary, FullAscii}
 use Rattle.header.specs.declared.Header.{Header}
 use Rattle.header.specs.Check.{generator, remainder, checkOf}
-use Rattle.header.specs.Flag.{Odd, flagBits, spareIn, syncIn, extendedIn, messageIn, parityFor}
+use Rattle.header.specs.Flag.{Odd, flagBits, spareIn, syncIn, extendedTypeIn, messageTypeIn, parityFor}
 use Rattle.header.specs.Valid.{Valid, flagIn, lengthIn, checkIn, informationIn}
 use Rattle.header.specs.Fields.{fieldsIn, headerOf, lowFlag, bytesOf}
-use Rattle.header.specs.Typed.{Typed, formatNumber}
+use Rattle.header.specs.Typed.{HasFormat, formatNumber}
 use Rattle.mending.specs.declared.Mending.the-variants.{Mended}
-use Rattle.mending.specs.Mends.{distance, Near, Mends}
+use Rattle.mending.specs.Mends.{distance, ValidWithin, Mends}
 use Rattle.mending.proofs.All.{all, all-at}
 use Rattle.mending.proofs.Search.{none-at, none-around}
-use Rattle.codes.specs.Chain.{Scheme, after, codes, Builds, Stuck}
+use Rattle.codes.specs.Chain.{Scheme, stateAfter, codes, Builds, Stuck}
 use Rattle.codes.specs.Pack.{low, numbers, value, bytes, packed, gap, filled, written}
-use Rattle.codes.specs.Size.{longest}
-use Rattle.codes.proofs.Begin.{begun}
-use Rattle.codes.proofs.Every.{every}
+use Rattle.codes.specs.Steps.Size.{longest}
+use Rattle.codes.proofs.Beginning.{begun}
+use Rattle.codes.proofs.EveryElement.{every}
 use Rattle.codes.proofs.Fill.{fills}
-use Rattle.codes.proofs.Search.{find}
-use Rattle.codes.proofs.Reading.{Answer, text as reads-text, stuck as reads-stuck, Means, answer, always}
+use Rattle.codes.proofs.TableSearch.{find}
+use Rattle.codes.proofs.OneReading.{Answer, text as reads-text, stuck as reads-stuck, Means, answer, always}
 use Rattle.full_ascii.specs.Table as ascii
 use Rattle.full_ascii.specs.Writer as ascii-writer
 use Rattle.full_ascii.proofs.Table as ascii-table
@@ -69,7 +69,7 @@ flip-lt : (k h : ℕ) → k < 32 → h < 2 ^ 32 → flip k h < 2 ^ 32
 unfolding flip
 flip-lt k h lt small = xor-lt 32 h (2 ^ k) small (pow-lt lt)
 
-none-near : (limit h : ℕ) → h < 2 ^ 32 → T (none limit h) → (v : ℕ) → Near limit h v → ⊥
+none-near : (limit h : ℕ) → h < 2 ^ 32 → T (none limit h) → (v : ℕ) → ValidWithin limit h v → ⊥
 unfolding none
 none-near zero h lt t = none-at h lt (λ v. T-not (valid h) t (valid-test h v))
 none-near (suc limit) h lt t =
@@ -97,20 +97,20 @@ mends-by-test h v bits valid t = (
 
 -- a header of this format
 ours : Header → Format → Bool
-ours f format = _&&_ (not (f .spare)) (_&&_ (eqb (f .message) 2) (eqb (f .extended) (formatNumber format)))
+ours f format = _&&_ (not (f .spare)) (_&&_ (eqb (f .«message_type») 2) (eqb (f .«extended_type») (formatNumber format)))
 
-ours-test : (f : Header) (format : Format) → Typed f format → T (ours f format)
+ours-test : (f : Header) (format : Format) → HasFormat f format → T (ours f format)
 unfolding ours
 ours-test f format t =
-    and-both (not (f .spare)) (_&&_ (eqb (f .message) 2) (eqb (f .extended) (formatNumber format))) (subst (λ (b : Bool). T (not b)) (sym (t .spare)) tt)
-    (and-both (eqb (f .message) 2) (eqb (f .extended) (formatNumber format)) (subst (λ (n : ℕ). T (eqb n 2)) (sym (t .message)) tt)
-    (subst (λ (n : ℕ). T (eqb n (formatNumber format))) (sym (t .extended)) (eqb-refl (formatNumber format))))
+    and-both (not (f .spare)) (_&&_ (eqb (f .«message_type») 2) (eqb (f .«extended_type») (formatNumber format))) (subst (λ (b : Bool). T (not b)) (sym (t .spare)) tt)
+    (and-both (eqb (f .«message_type») 2) (eqb (f .«extended_type») (formatNumber format)) (subst (λ (n : ℕ). T (eqb n 2)) (sym (t .«message_type»)) tt)
+    (subst (λ (n : ℕ). T (eqb n (formatNumber format))) (sym (t .«extended_type»)) (eqb-refl (formatNumber format))))
 
 -- or of none of ours
 other : Header → Bool
 other f = _&&_ (not (ours f Open)) (_&&_ (not (ours f PseudoBinary)) (not (ours f FullAscii)))
 
-other-none : (f : Header) → T (other f) → (format : Format) → Typed f format → ⊥
+other-none : (f : Header) → T (other f) → (format : Format) → HasFormat f format → ⊥
 unfolding other
 other-none f t Open typed =
     T-not (ours f Open) (and-left (not (ours f Open)) (_&&_ (not (ours f PseudoBinary)) (not (ours f FullAscii))) t) (ours-test f Open typed)
@@ -122,31 +122,31 @@ other-none f t FullAscii typed =
     T-not (ours f FullAscii) (and-right (not (ours f PseudoBinary)) (not (ours f FullAscii)) two) (ours-test f FullAscii typed)
 
 -- what starts with four bytes has their word
-front-word : (head after : List ℕ) → length head ≡ 4 → received (head ++ after) ≡ received head
+front-word : (head stateAfter : List ℕ) → length head ≡ 4 → received (head ++ stateAfter) ≡ received head
 unfolding received
-front-word (a ∷ b ∷ c ∷ d ∷ []) after e = refl
-front-word (a ∷ b ∷ c ∷ d ∷ x ∷ l) after e = absurd (let no′ : ⊥ = omega arith in no′)
-front-word (a ∷ b ∷ c ∷ []) after e = absurd (let no′ : ⊥ = omega arith in no′)
-front-word (a ∷ b ∷ []) after e = absurd (let no′ : ⊥ = omega arith in no′)
-front-word (a ∷ []) after e = absurd (let no′ : ⊥ = omega arith in no′)
-front-word [] after e = absurd (let no′ : ⊥ = omega arith in no′)
+front-word (a ∷ b ∷ c ∷ d ∷ []) stateAfter e = refl
+front-word (a ∷ b ∷ c ∷ d ∷ x ∷ l) stateAfter e = absurd (let no′ : ⊥ = omega arith in no′)
+front-word (a ∷ b ∷ c ∷ []) stateAfter e = absurd (let no′ : ⊥ = omega arith in no′)
+front-word (a ∷ b ∷ []) stateAfter e = absurd (let no′ : ⊥ = omega arith in no′)
+front-word (a ∷ []) stateAfter e = absurd (let no′ : ⊥ = omega arith in no′)
+front-word [] stateAfter e = absurd (let no′ : ⊥ = omega arith in no′)
 
-module _ (head : List ℕ) (four : length head ≡ 4) (after : List ℕ) (room : ℕ) where
-  enough : 4 ≤ length (head ++ after)
-  enough = omega (arith, length-append head after)
+module _ (head : List ℕ) (four : length head ≡ 4) (stateAfter : List ℕ) (room : ℕ) where
+  enough : 4 ≤ length (head ++ stateAfter)
+  enough = omega (arith, length-append head stateAfter)
 
-  refuses-hopeless : ((header : ℕ) → Near 2 (received head) header → ⊥) → Refuses (head ++ after) room NoHeader
+  refuses-hopeless : ((header : ℕ) → ValidWithin 2 (received head) header → ⊥) → Refuses (head ++ stateAfter) room NoHeader
   refuses-hopeless far =
       record {
-        fault = λ header near. far header (subst (λ (w : ℕ). Near 2 w header) (front-word head after four) near);
-        first = clear-two (head ++ after) room enough;
+        fault = λ header near. far header (subst (λ (w : ℕ). ValidWithin 2 w header) (front-word head stateAfter four) near);
+        first = clear-two (head ++ stateAfter) room enough;
       }
 
-  refuses-foreign : (header : ℕ) → Near 2 (received head) header → ((format : Format) → Typed (fieldsIn header) format → ⊥)
-      → Refuses (head ++ after) room OtherType
+  refuses-foreign : (header : ℕ) → ValidWithin 2 (received head) header → ((format : Format) → HasFormat (fieldsIn header) format → ⊥)
+      → Refuses (head ++ stateAfter) room OtherType
   refuses-foreign header near none =
-      let near′ : Near 2 (received (head ++ after)) header = subst (λ (w : ℕ). Near 2 w header) (sym (front-word head after four)) near in
-      record { fault = (header, near′, none); first = clear-three (head ++ after) room header near′ enough }
+      let near′ : ValidWithin 2 (received (head ++ stateAfter)) header = subst (λ (w : ℕ). ValidWithin 2 w header) (sym (front-word head stateAfter four)) near in
+      record { fault = (header, near′, none); first = clear-three (head ++ stateAfter) room header near′ enough }
 
 -- ---- data, by a reading that computes
 
@@ -246,12 +246,12 @@ row-holds (reads head format sync length mended) (small, (near, t)) =
       header-sync format sync length few,
       header-length format sync length few,
     )
-row-holds (hopeless head) (four, (small, (far, t))) = λ after room.
-    refuses-hopeless head (eqb→eq (length head) 4 four) after room (none-near 2 (received head) (ltb→lt (received head) (2 ^ 32) small) far)
+row-holds (hopeless head) (four, (small, (far, t))) = λ stateAfter room.
+    refuses-hopeless head (eqb→eq (length head) 4 four) stateAfter room (none-near 2 (received head) (ltb→lt (received head) (2 ^ 32) small) far)
 row-holds (foreign head header mended) (four, (small, (v, (near, (none, t))))) =
     let h = received header in
     let mends = mends-by-test (received head) h mended (valid-by-test h (ltb→lt h (2 ^ 32) small) v) near in
-    (mends, λ after room. refuses-foreign head (eqb→eq (length head) 4 four) after room h (mends .0) (other-none (fieldsIn h) none))
+    (mends, λ stateAfter room. refuses-foreign head (eqb→eq (length head) 4 four) stateAfter room h (mends .0) (other-none (fieldsIn h) none))
 row-holds (writes format text carried) (made, (read, t)) = (same-is (dataOf format text) carried made, carries-by-test format text carried read)
 row-holds (carries format text carried) (read, t) = carries-by-test format text carried read
 row-holds (stops format carried bit) (read, t) = stops-by-test format carried bit read
@@ -268,9 +268,9 @@ rows-hold (e ∷ es) (p, t) = (row-holds e (passed (tests e) p), rows-hold es t)
 -- every row's tests, computed: one `tt` a row
 computed : Passed (every-row edges)
 unfolding Passed every-row every-test tests same other ours reading comes-to stuck-at none all valid flip onesIn Odd received distance differences
-    flagIn checkIn checkOf informationIn lengthIn remainder generator bytesOf headerFor headerOf lowFlag parityFor fieldsIn messageIn extendedIn spareIn syncIn flagBits
-    bits bit low numbers every begun fills find answer after codes value bytes packed gap filled written
-    pseudo.of pseudo.valueOf pseudo.characterOf pseudo.indicator pseudo.most pseudo.indicators pseudo.six pseudo.tables
+    flagIn checkIn checkOf informationIn lengthIn remainder generator bytesOf headerFor headerOf lowFlag parityFor fieldsIn messageTypeIn extendedTypeIn spareIn syncIn flagBits
+    bits bit low numbers every begun fills find answer stateAfter codes value bytes packed gap filled written
+    pseudo.isOf pseudo.valueOf pseudo.characterOf pseudo.indicator pseudo.most pseudo.indicators pseudo.six pseudo.tables
     pseudo-writer.kind pseudo-writer.run pseudo-writer.besides pseudo-writer.oursAfter pseudo-writer.ours
     ascii.six ascii.seven ascii.special ascii.pair ascii.table ascii-writer.own ascii-writer.ours
 computed = (tt, (tt, (tt, (tt, (tt, (tt, (tt, (tt, (tt, (tt, (tt, (tt, (tt, (tt, (tt, (tt, (tt, tt)))))))))))))))))

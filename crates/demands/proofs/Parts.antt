@@ -11,22 +11,22 @@ use lib.Seq.{drop-cons, drop-drop, length-take-le}
 use Rattle.bits.specs.Row.{Bytes}
 use Rattle.header.specs.declared.Format.{Format}
 use Rattle.header.specs.Fields.{fieldsIn, headerOf, sentFields, wordOf, bytesOf}
-use Rattle.header.specs.Typed.{Typed, formatNumber}
+use Rattle.header.specs.Typed.{HasFormat, formatNumber}
 use Rattle.header.specs.Valid.{Valid, lengthIn}
 use Rattle.header.proofs.Made.{valid-made}
 use Rattle.packet.specs.Packet.{received, dataIn, sumIn, headerFor}
 
 -- ---- the header
 
-pub header-is : (header : ℕ) (format : Format) (sync : Bool) → Valid header → Typed (fieldsIn header) format → sync ≡ fieldsIn header .sync
+pub header-is : (header : ℕ) (format : Format) (sync : Bool) → Valid header → HasFormat (fieldsIn header) format → sync ≡ fieldsIn header .sync
     → headerFor format sync (lengthIn header) ≡ header
 unfolding headerFor fieldsIn
 header-is header format sync valid typed same =
     let fields : sentFields (formatNumber format) sync (lengthIn header) ≡ fieldsIn header =
     λ i.
     record {
-      message = sym (typed .message) i;
-      extended = sym (typed .extended) i;
+      «message_type» = sym (typed .«message_type») i;
+      «extended_type» = sym (typed .«extended_type») i;
       sync = same i;
       spare = sym (typed .spare) i;
       length = lengthIn header;

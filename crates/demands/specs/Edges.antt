@@ -8,7 +8,7 @@ use lib.ListN.{replicate}
 use Rattle.header.specs.declared.Format.{Format}
 use Rattle.header.specs.declared.Format.the-variants.{Open, PseudoBinary, FullAscii}
 use Rattle.header.specs.Fields.{fieldsIn, bytesOf}
-use Rattle.header.specs.Typed.{Typed}
+use Rattle.header.specs.Typed.{HasFormat}
 use Rattle.header.specs.Valid.{Valid, flagIn, lengthIn, checkIn}
 use Rattle.mending.specs.declared.Mending.the-variants.{Mended}
 use Rattle.mending.specs.Mends.{Mends}
@@ -49,7 +49,7 @@ Holds (checks flag length check bytes) =
 Holds (heads format sync length bytes) = bytesOf (headerFor format sync length) ≡ bytes
 Holds (reads head format sync length mended) =
     let header = headerFor format sync length in
-    Mends (received head) (Mended header mended) × Typed (fieldsIn header) format × (fieldsIn header .sync ≡ sync) × (lengthIn header ≡ length)
+    Mends (received head) (Mended header mended) × HasFormat (fieldsIn header) format × (fieldsIn header .sync ≡ sync) × (lengthIn header ≡ length)
 Holds (hopeless head) = RefusesAll head NoHeader
 Holds (foreign head header mended) = Mends (received head) (Mended (received header) mended) × RefusesAll head OtherType
 Holds (writes format text carried) = (dataOf format text ≡ carried) × Carries format text carried

@@ -10,10 +10,10 @@ use Rattle.header.specs.Fields.{bytesOf}
 use Rattle.mending.specs.Mends.{distance}
 use Rattle.packet.specs.declared.Reading.{Reading}
 use Rattle.packet.specs.Data.{Carries, dataOf}
-use Rattle.codes.specs.Size.{longest}
+use Rattle.codes.specs.Steps.Size.{longest}
 use Rattle.packet.specs.Packet.{received, dataIn, sumIn, packetOf, headerFor}
 use Rattle.packet.specs.Reader.{Framed}
-use Rattle.checksum.specs.Checksum.{sent}
+use Rattle.checksum.specs.Checksum.{checksumBytes}
 
 -- a packet that a maker could have built: of a text, in a format, with a sync bit. Its data is what a maker may build of the text, runs and line
 -- ends cut as that maker liked, 1 to 4,000 bytes; before it the header of its length, behind it its checksum
@@ -57,6 +57,6 @@ cleanReading format sync text = readingOf format sync 0 (length (dataOf format t
 -- the text; and room for it
 pub record Allowed (packet : List ℕ) (room : ℕ) (format : Format) (header : ℕ) (text : List ℕ) : Type 0 where
   pub framed : Framed packet format header
-  pub summed : sumIn header packet ≡ sent (dataIn header packet)
+  pub summed : sumIn header packet ≡ checksumBytes (dataIn header packet)
   pub carries : Carries format text (dataIn header packet)
   pub held : length text ≤ room

@@ -13,7 +13,7 @@ use borrow.Author.Tests.{eqb-true, lt-ltb, le-ltb, le-leb, ne-eqb}
 use Rattle.codes.specs.Chain.{Entry, In}
 use Rattle.codes.specs.Pack.{numbers}
 use Rattle.bits.proofs.Said.{and-left, and-right}
-use Rattle.codes.proofs.Numbers.{in-numbers, numbers-in}
+use Rattle.codes.proofs.NumberRanges.{in-numbers, numbers-in}
 use Rattle.full_ascii.specs.Table.{HT, LF, CR, six, seven, special, pair, table}
 use Rattle.full_ascii.specs.Writer.{coded, own}
 

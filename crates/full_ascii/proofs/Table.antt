@@ -4,14 +4,14 @@ use Prim.Native.Nat.{ℕ}
 use lib.Dec.{T}
 use Rattle.bits.specs.Word.{bit}
 use Rattle.codes.specs.Pack.{low, numbers}
-use Rattle.codes.proofs.Every.{every}
-use Rattle.codes.proofs.Begin.{begun}
+use Rattle.codes.proofs.EveryElement.{every}
+use Rattle.codes.proofs.Beginning.{begun}
 use Rattle.codes.proofs.Fill.{fills}
-use Rattle.codes.proofs.Laws.{Laws, parted, apart, unfilled, tested}
-use Rattle.codes.proofs.Speaks.{Speaks, heard, said, speaks}
-use Rattle.codes.proofs.Pack.{binary}
-use Rattle.codes.proofs.Single.{mute}
-use Rattle.codes.proofs.Within.{brief}
+use Rattle.codes.proofs.SchemeLaws.{Laws, parted, apart, unfilled, tested}
+use Rattle.codes.proofs.NonemptyText.{Speaks, heard, said, speaks}
+use Rattle.codes.proofs.BitsInBytes.{binary}
+use Rattle.codes.proofs.SingleTable.{mute}
+use Rattle.codes.proofs.SizeBounds.{brief}
 use Rattle.full_ascii.specs.Table.{six, seven, special, pair, table, scheme}
 
 pub laws : Laws scheme

@@ -10,19 +10,20 @@ use native.Mathlib.Omega.{arith}
 use lib.Dec.{T, eqb, eqb→eq, lit<}
 use lib.ListN.{length, length-append}
 use Rattle.bits.specs.Word.{bit}
+use Rattle.codes.specs.Coded.{alone}
 use Rattle.codes.specs.Chain.{Entry, Row, codes, texts, Builds}
 use Rattle.codes.specs.Pack.{low, numbers}
-use Rattle.codes.proofs.Coded.{coded-rest}
+use Rattle.codes.proofs.CodedTexts.{coded-rest}
 use Rattle.bits.proofs.Said.{and-left, and-right}
-use Rattle.codes.proofs.Every.{every}
-use Rattle.codes.proofs.Given.{Agrees, agrees}
-use Rattle.codes.proofs.Least.{Cost, cost-shortest}
-use Rattle.codes.proofs.Pack.{gap-few}
-use Rattle.codes.proofs.Single.{row-one, builds-one}
-use Rattle.codes.proofs.Writing as writing
-use Rattle.codes.proofs.Writing.{spells, Writer, Writes}
+use Rattle.codes.proofs.EveryElement.{every}
+use Rattle.codes.proofs.ReadingAgrees.{Agrees, agrees}
+use Rattle.codes.proofs.LeastCost.{Cost, cost-shortest}
+use Rattle.codes.proofs.BitsInBytes.{gap-few}
+use Rattle.codes.proofs.SingleTable.{row-one, builds-one}
+use Rattle.codes.proofs.WriterLaws as writing
+use Rattle.codes.proofs.WriterLaws.{spells, row-coded, WriterFacts, WriterLaws}
 use Rattle.full_ascii.specs.Table.{LF, CR, six, seven, special, pair, table, scheme}
-use Rattle.full_ascii.specs.Writer.{coded, Coded, own, ours}
+use Rattle.full_ascii.specs.Writer.{comesBack, coded, AllCoded, own, ours}
 use Rattle.full_ascii.proofs.Table.{laws, sounds, mutes, all-bits}
 use Rattle.full_ascii.proofs.Entries.{Sayer, entry-of, own-in, own-says, pair-in}
 
@@ -53,9 +54,9 @@ ours-says =
     ours-has (λ (t : List ℕ) (es : List Entry). texts es ≡ t) refl
     (λ c t es h. ap₂ (λ (a b : List ℕ). a ++ b) (own-says c) h) (λ t es h. ap (λ (l : List ℕ). CR ∷ LF ∷ l) h)
 
-pub ours-row : (t : List ℕ) → Coded t → Row scheme 0 (ours t) 0
+pub ours-row : (t : List ℕ) → AllCoded t → Row scheme 0 (ours t) 0
 ours-row =
-    ours-has (λ (t : List ℕ) (es : List Entry). Coded t → Row scheme 0 es 0) (λ h. refl)
+    ours-has (λ (t : List ℕ) (es : List Entry). AllCoded t → Row scheme 0 es 0) (λ h. refl)
     (λ c t es k h. row-one mutes 7 es (own-in c (h 0 (omega arith))) (k (coded-rest coded c t h)))
     (λ t es k h. row-one mutes 7 es pair-in (k (coded-rest coded LF t (coded-rest coded CR (LF ∷ t) h))))
 
@@ -104,7 +105,7 @@ all-spell : (m : ℕ) → T (every (spells coded) (scheme .table m))
 unfolding table six seven special pair numbers coded every spells
 all-spell m = tt
 
-writer : Writer scheme coded (λ t. t) ours
+writer : WriterFacts scheme (alone coded) comesBack ours
 unfolding size
 writer = record {
   row = ours-row;
@@ -112,18 +113,18 @@ writer = record {
   says = λ t h. ours-says t;
   shortest = λ t h es r x says. cost-shortest ours cost (λ u. refl) t es r says;
   kept = λ es r x. refl;
+  coded = row-coded scheme coded all-spell 0 0;
   all-bits = all-bits;
-  all-spell = all-spell;
   sounds = sounds;
   few = lit< tt;
 }
 
-pub writes : Writes scheme coded (λ t. t) ours
-writes = writing.writes writer
+pub writer-laws : WriterLaws scheme (alone coded) comesBack ours
+writer-laws = writing.writer-laws writer
 
 -- what reading gives, and what a maker may build, agree
-pub agree : Agrees scheme
-agree = agrees laws
+pub reading-agrees : Agrees scheme
+reading-agrees = agrees laws
 
 -- a line end reads the same, cut either way
 pub either-way : {bs t : List ℕ} → Builds scheme 0 bs t

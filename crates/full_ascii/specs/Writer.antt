@@ -7,7 +7,7 @@ use Prim.Native.Nat.{ℕ}
 use lib.Dec.{leb, ltb, eqb}
 use lib.ListN.{length}
 use Rattle.codes.specs.Chain.{Entry}
-use Rattle.codes.specs.Size
+use Rattle.codes.specs.Coded.{alone, CodedBelow}
 use Rattle.full_ascii.specs.Table.{HT, LF, CR, six, seven, special, pair}
 
 -- the character has a code
@@ -15,8 +15,8 @@ unfoldable pub coded : ℕ → Bool
 coded c = eqb c HT || (eqb c LF || (eqb c CR || (leb 32 c && leb c 126)))
 
 -- each character of the text has a code
-abbrev pub Coded : List ℕ → Type 0
-Coded text = Size.Coded coded text (length text)
+abbrev pub AllCoded : List ℕ → Type 0
+AllCoded text = CodedBelow (alone coded) text (length text)
 
 -- the code of a character by itself, where it has one
 unfoldable pub own : ℕ → Entry
@@ -32,6 +32,10 @@ ours (c ∷ d ∷ text) =
     let together = pair ∷ ours text in
     let single = own c ∷ ours (d ∷ text) in
     cond (eqb c CR && eqb d LF) together single
+
+-- what a text comes back as: itself
+abbrev pub comesBack : List ℕ → List ℕ
+comesBack text = text
 
 -- the text begins with a line end, CR and then LF
 abbrev pub LineEnd : List ℕ → Type 0

@@ -11,11 +11,11 @@ use lib.Bits.{bitAnd, and-shr, and-mod}
 use lib.Dec.{eqb}
 use lib.Pow.{field, shr-shr}
 use borrow.Author.Tests.{eqb-true}
-use Rattle.codes.specs.Ahead.{Window}
-use Rattle.codes.proofs.Ahead.{window-whole, window-short}
-use Rattle.codes.proofs.Words.{shifted-down, shifted-on}
-use Rattle.full_ascii_reader.specs.Passing.{Plain}
-use Rattle.full_ascii_reader.specs.Taken.{Takes}
+use Rattle.codes.specs.Steps.BitBuffer.{Window}
+use Rattle.codes.proofs.BitBuffer.{window-whole, window-short}
+use Rattle.codes.proofs.EightBytes.{shifted-down, shifted-on}
+use Rattle.full_ascii_reader.specs.Steps.Passing.{Plain}
+use Rattle.full_ascii_reader.specs.Steps.Taken.{FirstCode}
 use Rattle.full_ascii_reader.specs.declared.Code.{Code}
 
 -- the ones that have another one j places above them
@@ -81,7 +81,7 @@ seven-nine held left h = by-cases (decLe 9 left)
 
 -- what is taken of the seven bits is taken of the window
 pub seven-takes : (held left top : ℕ) (r : Code) → 8 ≤ left → left ≤ 64 → top ≡ held * 2 ^ (64 - left) % 2 ^ 64
-    → ((w : ℕ) → w / 4 ≡ top / 2 ^ 57 → Takes w r) → (w : ℕ) × Window held left w × Takes w r
+    → ((w : ℕ) → w / 4 ≡ top / 2 ^ 57 → FirstCode w r) → (w : ℕ) × Window held left w × FirstCode w r
 seven-takes held left top r h k e takes =
     let n = seven-nine held left h in
     (n .0, n .1, takes (n .0) (n .2 ∙ sym (top-seven held left top (omega arith) k e)))

@@ -8,15 +8,15 @@ use native.Mathlib.Omega.{arith}
 use lib.ListN.{length, drop, getD, drop-of-length-le}
 use lib.Seq.{drop-cons, drop-drop, drop-append-le}
 use Rattle.bits.specs.Row.{bits}
-use Rattle.codes.specs.Laid.{Readable}
+use Rattle.codes.specs.Steps.Laid.{Readable}
 use Rattle.codes.specs.Pack.{low}
-use Rattle.codes.specs.Words.{eightAt}
-use Rattle.codes.proofs.Ahead.{low-drop}
-use Rattle.codes.proofs.Laying.{counting-on, counting-front, laying-on, laying-front}
-use Rattle.codes.proofs.Low.{length-low}
-use Rattle.codes.proofs.Pack.{bits-cons, drop-bits}
-use Rattle.codes.proofs.Words.{eight-bits}
-use Rattle.full_ascii_reader.specs.Passing.{Counted, Laying, Begun, beyond}
+use Rattle.codes.specs.Steps.EightBytes.{eightAt}
+use Rattle.codes.proofs.BitBuffer.{low-drop}
+use Rattle.codes.proofs.ReadSoFar.{counting-on, counting-front, laying-on, laying-front}
+use Rattle.codes.proofs.LowBits.{length-low}
+use Rattle.codes.proofs.BitsInBytes.{bits-cons, drop-bits}
+use Rattle.codes.proofs.EightBytes.{eight-bits}
+use Rattle.full_ascii_reader.specs.Steps.Passing.{CountedSoFar, LaidSoFar, Begun, beyond}
 use Rattle.full_ascii.specs.Table.{scheme}
 
 module _ (s : List ℕ) (next held : ℕ) (here : next + 8 ≤ length s) (bytes : (i : ℕ) → getD s i 0 < 256) (word : held ≡ eightAt s next) where
@@ -44,17 +44,17 @@ module _ (s : List ℕ) (next held : ℕ) (here : next + 8 ≤ length s) (bytes 
         ∙ ap₂ (beyond s) (let e : next + (64 - (64 - skip)) / 8 ≡ next = omega arith in e) (let e : (64 - (64 - skip)) % 8 ≡ skip = omega arith in e)
 
     -- the codes of the number are passed
-    pub counted-word : (bs : List ℕ) (n left count : ℕ) → left ≤ 64 → Counted bs (beyond s next skip) n
-        → Counted (low (64 - skip) held) (low left held) count
-        → Counted bs (beyond s (next + (64 - left) / 8) ((64 - left) % 8)) (n + count)
+    pub counted-word : (bs : List ℕ) (n left count : ℕ) → left ≤ 64 → CountedSoFar bs (beyond s next skip) n
+        → CountedSoFar (low (64 - skip) held) (low left held) count
+        → CountedSoFar bs (beyond s (next + (64 - left) / 8) ((64 - left) % 8)) (n + count)
     counted-word bs n left count h c d =
-        counting-on c (subst₂ (λ (a b : List ℕ). Counted a b count) beyond-here (beyond-left left h) (counting-front d after))
+        counting-on c (subst₂ (λ (a b : List ℕ). CountedSoFar a b count) beyond-here (beyond-left left h) (counting-front d after))
 
     pub laying-word : (bs entry out exit : List ℕ) (n left count : ℕ) → left ≤ 64 → n ≤ length entry
-        → Laying bs (beyond s next skip) entry out 0 n → Laying (low (64 - skip) held) (low left held) out exit n (n + count)
-        → Laying bs (beyond s (next + (64 - left) / 8) ((64 - left) % 8)) entry exit 0 (n + count)
+        → LaidSoFar bs (beyond s next skip) entry out 0 n → LaidSoFar (low (64 - skip) held) (low left held) out exit n (n + count)
+        → LaidSoFar bs (beyond s (next + (64 - left) / 8) ((64 - left) % 8)) entry exit 0 (n + count)
     laying-word bs entry out exit n left count h room y z =
-        laying-on y room (subst₂ (λ (a b : List ℕ). Laying a b out exit n (n + count)) beyond-here (beyond-left left h) (laying-front z after))
+        laying-on y room (subst₂ (λ (a b : List ℕ). LaidSoFar a b out exit n (n + count)) beyond-here (beyond-left left h) (laying-front z after))
 
     pub begun-word : (room : ℕ) → Readable scheme (beyond s next skip) room → Begun held (64 - skip) room
     begun-word room f = (after, subst (λ (l : List ℕ). Readable scheme l room) (sym beyond-here) f)

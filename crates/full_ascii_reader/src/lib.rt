@@ -11,12 +11,12 @@ ghost use mathlib.Core.Path.{_≡_};
 ghost use Prim.Native.Nat.{ℕ, _+_, _-_, _/_, _<_, _≤_, _^_};
 ghost use lib.ListN.{length};
 ghost use Rattle.bits.specs.Row.{bits};
-ghost use Rattle.codes.specs.Laid.{laid, Readable, Placed};
-ghost use Rattle.codes.specs.Measure.{Measures, Comes, ReadsInto};
+ghost use Rattle.codes.specs.Steps.Laid.{laid, Readable, Placed};
+ghost use Rattle.codes.specs.Steps.Measure.{Measures, TakesApartBy, ReadsIntoBufferBy};
 ghost use Rattle.codes.specs.Pack.{low};
 ghost use Rattle.full_ascii.specs.Table.{scheme};
-ghost use Rattle.full_ascii_reader.specs.Taken.{Takes, characters, oneCharacter};
-ghost use Rattle.full_ascii_reader.specs.Passing.{Plain, Skims, Begun, Puts, Near, CountedTo, LaidTo, Last};
+ghost use Rattle.full_ascii_reader.specs.Steps.Taken.{FirstCode, charactersOf, oneCharacter};
+ghost use Rattle.full_ascii_reader.specs.Steps.Passing.{Plain, Skims, Begun, SkimsInto, NearEnd, CountedTo, LaidTo, Last};
 
 // A code: how many bits it has, and the one or two characters that it says.
 struct Code {
@@ -41,7 +41,7 @@ fn one_character(width: u64, first: u8) -> Code
 // The code that begins nine bits: any nine bits begin one.
 fn first_code(w: u64) -> Code
     requires { ⌜ w < 512 ⌝ }
-    ensures { λ r. ⌜ Takes w r ⌝ }
+    ensures { λ r. ⌜ FirstCode w r ⌝ }
 {
     if w < 256 {
         return one_character(6, (w / 8 + 32) as u8);
@@ -65,7 +65,7 @@ fn first_code(w: u64) -> Code
 // The code of six or seven bits that begins seven: any seven bits that are not all ones begin one.
 fn first_plain(bits: u64) -> Code
     requires { ⌜ bits < 127 ⌝ }
-    ensures { λ r. ⌜ (r .width ≤ 7) × (r .count ≡ 1) × ((w : ℕ) → w / 4 ≡ bits → Takes w r) ⌝ }
+    ensures { λ r. ⌜ (r .width ≤ 7) × (r .count ≡ 1) × ((w : ℕ) → w / 4 ≡ bits → FirstCode w r) ⌝ }
 {
     let width = 6 + bits / 64;
     if bits < 64 {
@@ -169,7 +169,7 @@ fn measure_words(s: &[u8]) -> Place
 
 // The last bits in a buffer: those of fewer than eight bytes.
 fn last_bits(s: &[u8], place: Place) -> Buffer
-    requires { ⌜ Near (now s) place ⌝ }
+    requires { ⌜ NearEnd (now s) place ⌝ }
     ensures { λ r. ⌜ Last (now (s .entry)) place r ⌝ }
 {
     let mut held: u64 = 0;
@@ -222,7 +222,7 @@ fn measure(s: &[u8]) -> Measured
 // The one or two characters of a code, from place n on.
 fn put(out: &mut [u8], n: usize, c: Code)
     requires { ⌜ (1 ≤ c .count) × (c .count ≤ 2) × (n + c .count ≤ length (now out)) ⌝ }
-    ensures { λ r. ⌜ now (out .exit) ≡ laid (now (out .entry)) n (characters c) ⌝ }
+    ensures { λ r. ⌜ now (out .exit) ≡ laid (now (out .entry)) n (charactersOf c) ⌝ }
 {
     out[n] = c.first;
     if c.count == 2 {
@@ -233,7 +233,7 @@ fn put(out: &mut [u8], n: usize, c: Code)
 // The characters of eight codes of six or seven bits, from place n on.
 fn put_plain(held: u64, have: u64, out: &mut [u8], n: usize) -> Skimmed
     requires { ⌜ (57 ≤ have) × (have ≤ 64) × Plain held × (n ≤ length (now out)) × Begun held have (length (now out) - n) ⌝ }
-    ensures { λ r. ⌜ Puts held have (now (out .entry)) (now (out .exit)) n r ⌝ }
+    ensures { λ r. ⌜ SkimsInto held have (now (out .entry)) (now (out .exit)) n r ⌝ }
 {
     let mut top = held << (64 - have);
     let mut left = have;
@@ -251,7 +251,7 @@ fn put_plain(held: u64, have: u64, out: &mut [u8], n: usize) -> Skimmed
 // The characters of codes one by one, as long as there are nine bits.
 fn put_each(held: u64, have: u64, out: &mut [u8], n: usize) -> Skimmed
     requires { ⌜ (have ≤ 64) × (n ≤ length (now out)) × Begun held have (length (now out) - n) ⌝ }
-    ensures { λ r. ⌜ Puts held have (now (out .entry)) (now (out .exit)) n r ⌝ }
+    ensures { λ r. ⌜ SkimsInto held have (now (out .entry)) (now (out .exit)) n r ⌝ }
 {
     let mut left = have;
     let mut count: usize = 0;
@@ -267,7 +267,7 @@ fn put_each(held: u64, have: u64, out: &mut [u8], n: usize) -> Skimmed
 // The characters of the codes in the lowest `have` bits of a number, up to its last few bits.
 fn put_word(held: u64, have: u64, out: &mut [u8], n: usize) -> Skimmed
     requires { ⌜ (57 ≤ have) × (have ≤ 64) × (n ≤ length (now out)) × Begun held have (length (now out) - n) ⌝ }
-    ensures { λ r. ⌜ Puts held have (now (out .entry)) (now (out .exit)) n r ⌝ }
+    ensures { λ r. ⌜ SkimsInto held have (now (out .entry)) (now (out .exit)) n r ⌝ }
 {
     if plain(held) {
         return put_plain(held, have, out, n);
@@ -323,7 +323,7 @@ fn put_text(s: &[u8], out: &mut [u8]) -> usize
 
 // The data taken apart, whatever its length.
 pub fn take_apart(s: &[u8]) -> Outcome
-    ensures { λ r. ⌜ Comes scheme (now (s .entry)) r ⌝ }
+    ensures { λ r. ⌜ TakesApartBy scheme (now (s .entry)) r ⌝ }
 {
     if Outcome::LIMIT <= s.len() {
         return Outcome::TooLong;
@@ -337,7 +337,7 @@ pub fn take_apart(s: &[u8]) -> Outcome
 
 // The data taken apart, and then its text at the front of the buffer, where there is room for it; whatever their lengths.
 pub fn read(s: &[u8], out: &mut [u8]) -> Taken
-    ensures { λ r. ⌜ ReadsInto scheme (now (s .entry)) (now (out .entry)) r (now (out .exit)) ⌝ }
+    ensures { λ r. ⌜ ReadsIntoBufferBy scheme (now (s .entry)) (now (out .entry)) r (now (out .exit)) ⌝ }
 {
     let outcome = take_apart(s);
     match outcome {

@@ -15,8 +15,8 @@ use lib.Dec.{T, eqb, ltb, lit<}
 use lib.ListN.{length, drop, getD, List·getD-eq-default}
 use Rattle.codes.specs.Chain.{codes}
 use Rattle.full_ascii.specs.Table.{LF, CR}
-use Rattle.full_ascii.specs.Writer.{coded, Coded, ours}
-use Rattle.full_ascii_writer.specs.Sending.{bitsFor, characterBefore, bitsAfter, TotalOf, eightOf}
+use Rattle.full_ascii.specs.Writer.{coded, AllCoded, ours}
+use Rattle.full_ascii_writer.specs.Steps.Sending.{bitsFor, characterBefore, bitsAfter, TotalOf, eightOf}
 use Rattle.full_ascii_writer.specs.declared.Total.{Total}
 use Rattle.full_ascii_writer.proofs.Counting.{byte-most, pair-most, bits-told, bits-whole, bits-some, bits-before, before-next}
 use Rattle.full_ascii_writer.proofs.Eight.{eight-same, eight-each, sumTo, sum-most, eight-sum}
@@ -78,7 +78,7 @@ known c t = place (kind c t)
     place (lower a b) = (plain CR (c / 4 % 2) a (lit< tt), plain LF (c / 2 % 2) a (lit< tt))
     place (upper a b) = (plain CR (c / 4 % 2) (omega arith) (lit< tt), plain LF (c / 2 % 2) (omega arith) (lit< tt))
 
-pub coded-small : (t : List ℕ) → Coded t → (i : ℕ) → getD t i 0 < 128
+pub coded-small : (t : List ℕ) → AllCoded t → (i : ℕ) → getD t i 0 < 128
 coded-small t h i =
     by-cases (decLt i (length t)) (λ l. omega (arith, coded-most (getD t i 0) (coded-at t i h l)))
     (λ l. omega (arith, List·getD-eq-default t 0 {n = i} (omega arith)))
@@ -107,7 +107,7 @@ eight-counted d y n p e = omega (arith, eight-same (λ k. 6 + y k + d k * 3) (λ
 
 -- ---- eight characters more
 
-module _ (t : List ℕ) (b : Total) (coded : Coded t) (here : b .next + 8 ≤ length t) (so : TotalOf t b) (control one two six : ℕ)
+module _ (t : List ℕ) (b : Total) (coded : AllCoded t) (here : b .next + 8 ≤ length t) (so : TotalOf t b) (control one two six : ℕ)
     (controls : control ≡ eightOf (λ (k : ℕ). boolByte (ltb (getD t (b .next + k) 0) 32)))
     (ones : one ≡ eightOf (λ (k : ℕ). getD t (b .next + k) 0 / 2 % 2))
     (twos : two ≡ eightOf (λ (k : ℕ). getD t (b .next + k) 0 / 4 % 2))

@@ -17,7 +17,7 @@ use Rattle.codes.specs.Chain.{Entry, codes}
 use Rattle.codes.specs.Pack.{low}
 use Rattle.full_ascii.specs.Table.{HT, LF, CR, six, seven, special, pair}
 use Rattle.full_ascii.specs.Writer.{coded, own, ours}
-use Rattle.full_ascii_writer.specs.Sending.{bitsFor, characterBefore, bitsAfter}
+use Rattle.full_ascii_writer.specs.Steps.Sending.{bitsFor, characterBefore, bitsAfter}
 use Rattle.full_ascii.proofs.Entries.{Kind, kind, tab, feed, return, lower, upper, own-lower, own-upper}
 use Rattle.full_ascii_writer.proofs.Eight.{sumTo}
 use Rattle.full_ascii.proofs.Writer.{line-end, ours-has, size, size-feed}

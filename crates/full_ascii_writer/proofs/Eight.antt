@@ -9,8 +9,8 @@ use lib.Bits.{bitAnd, and-block, and-shr, and-high}
 use lib.Dec.{lit<}
 use lib.ListN.{getD}
 use lib.Pow.{pow-add, pow-lt, shl-shr}
-use Rattle.codes.specs.Words.{fourAt, eightAt}
-use Rattle.full_ascii_writer.specs.Sending.{eightOf}
+use Rattle.codes.specs.Steps.EightBytes.{fourAt, eightAt}
+use Rattle.full_ascii_writer.specs.Steps.Sending.{eightOf}
 
 pub eight-same : (g h : ℕ → ℕ) → ((k : ℕ) → k < 8 → g k ≡ h k) → eightOf g ≡ eightOf h
 unfolding eightOf

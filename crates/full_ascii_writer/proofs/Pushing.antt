@@ -11,9 +11,9 @@ use borrow.Author.Tests.{leb-true, leb-false}
 use Rattle.bits.specs.Says.{Says}
 use Rattle.codes.specs.Chain.{codes}
 use Rattle.codes.specs.Pack.{low}
-use Rattle.codes.specs.Pending.{Pending}
+use Rattle.codes.specs.Steps.Pending.{Pending}
 use Rattle.full_ascii.specs.Writer.{ours}
-use Rattle.full_ascii_writer.specs.Sending.{OwnOf, FirstOf, FourPlain, Pushed}
+use Rattle.full_ascii_writer.specs.Steps.Sending.{OwnOf, FirstCodeOf, FourPlain, Pushed}
 use Rattle.full_ascii_writer.specs.declared.Held.{Held}
 use Rattle.full_ascii_writer.specs.declared.Sent.{Sent}
 use Rattle.full_ascii_writer.proofs.Sending.{first-own, end-first, codes-rest, count-rest}
@@ -50,10 +50,10 @@ says-four t i h =
 -- ---- codes put in
 
 -- no line end begins with a plain character: its own code is the first of ours
-pub first-plain : (t : List ℕ) (i : ℕ) (r : Sent) → i < length t → 32 ≤ getD t i 0 → OwnOf (getD t i 0) r → FirstOf (drop i t) r
+pub first-plain : (t : List ℕ) (i : ℕ) (r : Sent) → i < length t → 32 ≤ getD t i 0 → OwnOf (getD t i 0) r → FirstCodeOf (drop i t) r
 first-plain t i r h p o = first-own t i r h (λ e. omega (arith, end-first t i e)) o
 
-pub pushed-code : (t : List ℕ) (most : ℕ) (b : Held) (r : Sent) (held : ℕ) → FirstOf (drop (b .next) t) r → b .next ≤ length t → r .width ≤ most
+pub pushed-code : (t : List ℕ) (most : ℕ) (b : Held) (r : Sent) (held : ℕ) → FirstCodeOf (drop (b .next) t) r → b .next ≤ length t → r .width ≤ most
     → b .have + r .width ≤ 64 → ((k : ℕ) → k + r .width ≤ 64 → low (k + r .width) held ≡ low k (b .held) ++ low (r .width) (r .bits))
     → Pushed t most b (record { held = held; have = b .have + r .width; next = b .next + r .count })
 pushed-code t most b r held f h w k p = record {

@@ -16,8 +16,8 @@ use Rattle.bits.specs.Word.{bit}
 use Rattle.codes.specs.Chain.{Entry, codes}
 use Rattle.codes.specs.Pack.{low}
 use Rattle.full_ascii.specs.Table.{HT, LF, CR, six, seven, special, pair}
-use Rattle.full_ascii.specs.Writer.{coded, Coded, own, ours, LineEnd}
-use Rattle.full_ascii_writer.specs.Sending.{OwnOf, FirstOf}
+use Rattle.full_ascii.specs.Writer.{coded, AllCoded, own, ours, LineEnd}
+use Rattle.full_ascii_writer.specs.Steps.Sending.{OwnOf, FirstCodeOf}
 use Rattle.full_ascii_writer.specs.declared.Sent.{Sent}
 use Rattle.full_ascii.proofs.Entries.{Kind, kind, tab, feed, return, lower, upper, own-lower, own-upper}
 use Rattle.full_ascii.proofs.Writer.{line-end}
@@ -107,11 +107,11 @@ module _ (t : List ℕ) (i : ℕ) where
   )
 
 -- the first code of ours
-pub first-pair : (t : List ℕ) {bits count : ℕ} → LineEnd t → bits ≡ 511 → count ≡ 2 → FirstOf t (record { bits = bits; width = 9; count = count })
+pub first-pair : (t : List ℕ) {bits count : ℕ} → LineEnd t → bits ≡ 511 → count ≡ 2 → FirstCodeOf t (record { bits = bits; width = 9; count = count })
 unfolding ours pair special low bit coded
 first-pair t e f g =
-    subst₂ (λ (b n : ℕ). FirstOf t (record { bits = b; width = 9; count = n })) (sym f) (sym g)
-    (subst⁻¹ (λ (l : List ℕ). FirstOf l (record { bits = 511; width = 9; count = 2 })) (e .1) (record {
+    subst₂ (λ (b n : ℕ). FirstCodeOf t (record { bits = b; width = 9; count = n })) (sym f) (sym g)
+    (subst⁻¹ (λ (l : List ℕ). FirstCodeOf l (record { bits = 511; width = 9; count = 2 })) (e .1) (record {
       entry = pair;
       first = refl;
       sends = record { code = refl; fits = lit< tt; long = lit≤ tt };
@@ -128,7 +128,7 @@ ours-own c (d ∷ t) h = pick (eqb c CR && eqb d LF) refl
     pick true x = let l = line-end c d x in absurd (h (t, ap₂ (λ (y z : ℕ). y ∷ z ∷ t) (l .0) (l .1)))
     pick false x = refl
 
-own-next : (c : ℕ) (t : List ℕ) (r : Sent) → (LineEnd (c ∷ t) → ⊥) → OwnOf c r → FirstOf (c ∷ t) r
+own-next : (c : ℕ) (t : List ℕ) (r : Sent) → (LineEnd (c ∷ t) → ⊥) → OwnOf c r → FirstCodeOf (c ∷ t) r
 own-next c t r h o = record {
   entry = own c;
   first = ours-own c t h ∙ ap (λ (n : ℕ). own c ∷ ours (drop n (c ∷ t))) (sym (o .1));
@@ -137,13 +137,13 @@ own-next c t r h o = record {
   few = omega (arith, o .1);
 }
 
-pub first-own : (t : List ℕ) (i : ℕ) (r : Sent) → i < length t → (LineEnd (drop i t) → ⊥) → OwnOf (getD t i 0) r → FirstOf (drop i t) r
+pub first-own : (t : List ℕ) (i : ℕ) (r : Sent) → i < length t → (LineEnd (drop i t) → ⊥) → OwnOf (getD t i 0) r → FirstCodeOf (drop i t) r
 first-own t i r h e o =
-    subst⁻¹ (λ (l : List ℕ). FirstOf l r) (drop-cons t i 0 h)
+    subst⁻¹ (λ (l : List ℕ). FirstCodeOf l r) (drop-cons t i 0 h)
     (own-next (getD t i 0) (drop (suc i) t) r (subst (λ (l : List ℕ). LineEnd l → ⊥) (drop-cons t i 0 h) e) o)
 
 -- a code more, and at the end no more
-module _ (t : List ℕ) (i : ℕ) (r : Sent) (f : FirstOf (drop i t) r) where
+module _ (t : List ℕ) (i : ℕ) (r : Sent) (f : FirstCodeOf (drop i t) r) where
   pub ours-rest : ours (drop i t) ≡ f .entry ∷ ours (drop (i + r .count) t)
   ours-rest = f .first ∙ ap (λ (l : List ℕ). f .entry ∷ ours l) (drop-drop (r .count) i t)
 
@@ -155,11 +155,11 @@ unfolding ours
 ours-end t i h = ap ours (drop-of-length-le t h)
 
 -- the first code's bits, then those of the rest
-pub codes-rest : (t : List ℕ) (i : ℕ) (r : Sent) → FirstOf (drop i t) r
+pub codes-rest : (t : List ℕ) (i : ℕ) (r : Sent) → FirstCodeOf (drop i t) r
     → codes (ours (drop i t)) ≡ low (r .width) (r .bits) ++ codes (ours (drop (i + r .count) t))
 unfolding codes
 codes-rest t i r f =
     ap codes (ours-rest t i r f) ∙ ap (λ (l : List ℕ). l ++ codes (ours (drop (i + r .count) t))) (f .sends .code)
 
-pub coded-at : (t : List ℕ) (i : ℕ) → Coded t → i < length t → T (coded (getD t i 0))
+pub coded-at : (t : List ℕ) (i : ℕ) → AllCoded t → i < length t → T (coded (getD t i 0))
 coded-at t i c h = c i h

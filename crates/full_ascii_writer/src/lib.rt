@@ -11,12 +11,13 @@ ghost use Prim.Native.Nat.{ℕ, _+_, _*_, _/_, _%_, _<_, _≤_, _^_};
 ghost use lib.Dec.{T, ltb};
 ghost use lib.ListN.{length, drop, getD};
 ghost use Rattle.bits.specs.Says.{Says};
+ghost use Rattle.codes.specs.Coded.{alone};
 ghost use Rattle.codes.specs.Chain.{codes};
 ghost use Rattle.codes.specs.Pack.{written};
-ghost use Rattle.codes.specs.Size.{longest, Searches, Needs, Stores};
+ghost use Rattle.codes.specs.Steps.Size.{longest, FindsUncoded, Needs, PutsData};
 ghost use Rattle.codes.specs.declared.Uncoded.the-variants.{Nowhere};
-ghost use Rattle.full_ascii.specs.Writer.{coded, Coded, ours, LineEnd};
-ghost use Rattle.full_ascii_writer.specs.Sending.{OwnOf, FirstOf, bitsFor, Each, TotalOf, FourPlain, Pushed, Writes};
+ghost use Rattle.full_ascii.specs.Writer.{coded, AllCoded, ours, LineEnd};
+ghost use Rattle.full_ascii_writer.specs.Steps.Sending.{OwnOf, FirstCodeOf, bitsFor, Each, TotalOf, FourPlain, Pushed, PutsOurs};
 
 // A code to be sent: its bits as a number, how many they are, and the characters that it takes.
 struct Sent {
@@ -79,8 +80,8 @@ fn pair_at(text: &[u8], i: usize) -> bool
 
 // The first of our codes of the text from i on.
 fn next_code(text: &[u8], i: usize) -> Sent
-    requires { ⌜ Coded (now text) × (i < length (now text)) ⌝ }
-    ensures { λ r. ⌜ FirstOf (drop i (now (text .entry))) r ⌝ }
+    requires { ⌜ AllCoded (now text) × (i < length (now text)) ⌝ }
+    ensures { λ r. ⌜ FirstCodeOf (drop i (now (text .entry))) r ⌝ }
 {
     if pair_at(text, i) {
         return Sent {
@@ -102,7 +103,7 @@ fn is_coded(c: u8) -> bool
 
 // Whether each character has a code. It goes through the whole text, whatever it meets.
 fn all_coded(text: &[u8]) -> bool
-    ensures { λ r. ⌜ Says r (Searches coded (now (text .entry)) Nowhere) ⌝ }
+    ensures { λ r. ⌜ Says r (FindsUncoded (alone coded) (now (text .entry)) Nowhere) ⌝ }
 {
     let mut all = true;
     let mut i: usize = 0;
@@ -115,7 +116,7 @@ fn all_coded(text: &[u8]) -> bool
 
 // The index of the first character that has no code.
 pub fn first_uncoded(text: &[u8]) -> Uncoded
-    ensures { λ r. ⌜ Searches coded (now (text .entry)) r ⌝ }
+    ensures { λ r. ⌜ FindsUncoded (alone coded) (now (text .entry)) r ⌝ }
 {
     if all_coded(text) {
         return Uncoded::Nowhere;
@@ -164,7 +165,7 @@ fn controls(eight: u64) -> u64
 
 // Eight characters more, each counted as in `bits_for`, in a byte of its own. 256 leaves 1 when it is divided by 255: what is left is the sum of the bytes.
 fn add_eight(text: &[u8], b: Total) -> Total
-    requires { ⌜ Coded (now text) × (9 * length (now text) ≤ 64000) × (b .next + 8 ≤ length (now text)) × TotalOf (now text) b ⌝ }
+    requires { ⌜ AllCoded (now text) × (9 * length (now text) ≤ 64000) × (b .next + 8 ≤ length (now text)) × TotalOf (now text) b ⌝ }
     ensures { λ r. ⌜ (r .next ≡ b .next + 8) × TotalOf (now (text .entry)) r ⌝ }
 {
     let eight = codes::eight(text, b.next);
@@ -182,7 +183,7 @@ fn add_eight(text: &[u8], b: Total) -> Total
 
 // The bits up to fewer than eight characters before the end.
 fn add_eights(text: &[u8]) -> Total
-    requires { ⌜ Coded (now text) × (9 * length (now text) ≤ 64000) ⌝ }
+    requires { ⌜ AllCoded (now text) × (9 * length (now text) ≤ 64000) ⌝ }
     ensures { λ r. ⌜ TotalOf (now (text .entry)) r ⌝ }
 {
     let mut b = Total {
@@ -198,7 +199,7 @@ fn add_eights(text: &[u8]) -> Total
 
 // How many bits our codes of the text have together.
 fn code_bits(text: &[u8]) -> u32
-    requires { ⌜ Coded (now text) × (9 * length (now text) ≤ 64000) ⌝ }
+    requires { ⌜ AllCoded (now text) × (9 * length (now text) ≤ 64000) ⌝ }
     ensures { λ r. ⌜ r ≡ length (codes (ours (now (text .entry)))) ⌝ }
 {
     let b = add_eights(text);
@@ -219,8 +220,8 @@ fn code_bits(text: &[u8]) -> u32
 // How many bytes our data of the text has, or that one packet does not hold them. A text has four and a half bits a character or more, since a line
 // end has nine for two: one that is certainly too long is not looked at.
 fn coded_length(text: &[u8]) -> Needed
-    requires { ⌜ Coded (now text) ⌝ }
-    ensures { λ r. ⌜ Needs longest coded (now (text .entry)) (written (ours (now (text .entry)))) r ⌝ }
+    requires { ⌜ AllCoded (now text) ⌝ }
+    ensures { λ r. ⌜ Needs longest (alone coded) (now (text .entry)) (written (ours (now (text .entry)))) r ⌝ }
 {
     if Needed::MOST * 2 / 9 < text.len() {
         return Needed::TooMany;
@@ -265,7 +266,7 @@ fn plain_code(c: u8) -> Sent
 
 // The next character's code put in, where it is a plain one.
 fn push_plain(text: &[u8], b: Held) -> Held
-    requires { ⌜ Coded (now text) × (b .next < length (now text)) × (32 ≤ getD (now text) (b .next) 0) × (b .have ≤ 57) ⌝ }
+    requires { ⌜ AllCoded (now text) × (b .next < length (now text)) × (32 ≤ getD (now text) (b .next) 0) × (b .have ≤ 57) ⌝ }
     ensures { λ r. ⌜ (r .next ≡ b .next + 1) × Pushed (now (text .entry)) 7 b r ⌝ }
 {
     let i = b.next;
@@ -279,7 +280,7 @@ fn push_plain(text: &[u8], b: Held) -> Held
 
 // Those of the next four.
 fn push_four(text: &[u8], b: Held) -> Held
-    requires { ⌜ Coded (now text) × FourPlain (now text) (b .next) × (b .have < 32) ⌝ }
+    requires { ⌜ AllCoded (now text) × FourPlain (now text) (b .next) × (b .have < 32) ⌝ }
     ensures { λ r. ⌜ Pushed (now (text .entry)) 28 b r ⌝ }
 {
     let one = push_plain(text, b);
@@ -290,7 +291,7 @@ fn push_four(text: &[u8], b: Held) -> Held
 
 // The next code put in, whichever it is.
 fn push_next(text: &[u8], b: Held) -> Held
-    requires { ⌜ Coded (now text) × (b .next < length (now text)) × (b .have < 32) ⌝ }
+    requires { ⌜ AllCoded (now text) × (b .next < length (now text)) × (b .have < 32) ⌝ }
     ensures { λ r. ⌜ Pushed (now (text .entry)) 9 b r ⌝ }
 {
     let c = next_code(text, b.next);
@@ -303,7 +304,7 @@ fn push_next(text: &[u8], b: Held) -> Held
 
 // The next code put in, or the next four.
 fn push_codes(text: &[u8], b: Held) -> Held
-    requires { ⌜ Coded (now text) × (b .next < length (now text)) × (b .have < 32) ⌝ }
+    requires { ⌜ AllCoded (now text) × (b .next < length (now text)) × (b .have < 32) ⌝ }
     ensures { λ r. ⌜ Pushed (now (text .entry)) 28 b r ⌝ }
 {
     if four_plain(text, b.next) {
@@ -314,8 +315,8 @@ fn push_codes(text: &[u8], b: Held) -> Held
 
 // What our writer builds of the text, at the front of the buffer; how many bytes it is.
 fn put_data(text: &[u8], out: &mut [u8]) -> usize
-    requires { ⌜ Coded (now text) × (length (written (ours (now text))) ≤ length (now out)) ⌝ }
-    ensures { λ r. ⌜ Writes (now (text .entry)) (now (out .entry)) (now (out .exit)) r ⌝ }
+    requires { ⌜ AllCoded (now text) × (length (written (ours (now text))) ≤ length (now out)) ⌝ }
+    ensures { λ r. ⌜ PutsOurs (now (text .entry)) (now (out .entry)) (now (out .exit)) r ⌝ }
 {
     let mut held: u64 = 0;
     let mut have: u64 = 0;
@@ -345,7 +346,7 @@ fn put_data(text: &[u8], out: &mut [u8]) -> usize
 
 // How many bytes our data of the text has; or the first character that has no code; or that one packet does not hold the data.
 pub fn data_length(text: &[u8]) -> Needed
-    ensures { λ r. ⌜ Needs longest coded (now (text .entry)) (written (ours (now (text .entry)))) r ⌝ }
+    ensures { λ r. ⌜ Needs longest (alone coded) (now (text .entry)) (written (ours (now (text .entry)))) r ⌝ }
 {
     let uncoded = first_uncoded(text);
     match uncoded {
@@ -356,7 +357,7 @@ pub fn data_length(text: &[u8]) -> Needed
 
 // Our data of the text at the front of the buffer, where the text has it and there is room for it; whatever their lengths.
 pub fn write(text: &[u8], out: &mut [u8]) -> Stored
-    ensures { λ r. ⌜ Stores longest coded (now (text .entry)) (written (ours (now (text .entry)))) (now (out .entry)) r (now (out .exit)) ⌝ }
+    ensures { λ r. ⌜ PutsData longest (alone coded) (now (text .entry)) (written (ours (now (text .entry)))) (now (out .entry)) r (now (out .exit)) ⌝ }
 {
     let needed = data_length(text);
     match needed {

@@ -13,8 +13,8 @@ use Rattle.bits.proofs.Ones.{ones-split, ones-low}
 use Rattle.bits.proofs.Xor.{digit, digit-of}
 use Rattle.header.specs.declared.Header.{Header}
 use Rattle.header.specs.Check.{checkOf}
-use Rattle.header.specs.Flag.{flagBits, spareIn, syncIn, extendedIn, messageIn, Odd, parityFor}
-use Rattle.header.specs.Steps.{WithParity}
+use Rattle.header.specs.Flag.{flagBits, spareIn, syncIn, extendedTypeIn, messageTypeIn, Odd, parityFor}
+use Rattle.header.specs.Steps.Differences.{WithParity}
 use Rattle.header.specs.Valid.{Valid, flagIn, lengthIn, checkIn, informationIn}
 use Rattle.header.specs.Fields.{Fit, fieldsIn, lowFlag, oneIf, headerOf}
 use Rattle.header.proofs.Division.{check-lt}
@@ -127,13 +127,13 @@ told true = refl
 told false = refl
 
 module _ (f : Header) (fit : Fit f) where
-  message-back : messageIn (flagOf f) ≡ f .message
-  unfolding flagOf messageIn flagBits lowFlag
-  message-back = omega (arith, fit .message, fit .extended, oneIf-lt (f .sync), oneIf-lt (f .spare))
+  message-back : messageTypeIn (flagOf f) ≡ f .«message_type»
+  unfolding flagOf messageTypeIn flagBits lowFlag
+  message-back = omega (arith, fit .«message_type», fit .«extended_type», oneIf-lt (f .sync), oneIf-lt (f .spare))
 
-  extended-back : extendedIn (flagOf f) ≡ f .extended
-  unfolding flagOf extendedIn flagBits lowFlag
-  extended-back = omega (arith, fit .message, fit .extended, oneIf-lt (f .sync), oneIf-lt (f .spare))
+  extended-back : extendedTypeIn (flagOf f) ≡ f .«extended_type»
+  unfolding flagOf extendedTypeIn flagBits lowFlag
+  extended-back = omega (arith, fit .«message_type», fit .«extended_type», oneIf-lt (f .sync), oneIf-lt (f .spare))
 
   sync-back : syncIn (flagOf f) ≡ oneIf (f .sync)
   unfolding flagOf syncIn flagBits lowFlag
@@ -149,8 +149,8 @@ module _ (f : Header) (fit : Fit f) where
       let flagged = made f fit .flagged in
       λ i.
       record {
-        message = (ap messageIn flagged ∙ message-back) i;
-        extended = (ap extendedIn flagged ∙ extended-back) i;
+        «message_type» = (ap messageTypeIn flagged ∙ message-back) i;
+        «extended_type» = (ap extendedTypeIn flagged ∙ extended-back) i;
         sync = (ap (λ (n : ℕ). eqb (syncIn n) 1) flagged ∙ ap (λ (n : ℕ). eqb n 1) sync-back ∙ told (f .sync)) i;
         spare = (ap (λ (n : ℕ). eqb (spareIn n) 1) flagged ∙ ap (λ (n : ℕ). eqb n 1) spare-back ∙ told (f .spare)) i;
         length = made f fit .long i;
@@ -169,7 +169,7 @@ seven : (n : ℕ) → n / 2 ^ 5 % 2 ^ 2 * 2 ^ 5 + n / 2 ^ 2 % 2 ^ 3 * 2 ^ 2 + n 
 seven n = omega (arith, mod-pow-add n 2 5, mod-pow-add n 3 2, mod-pow-add n 1 1, ap (λ (m : ℕ). m % 2) (div-one n))
 
 low-back : (h : ℕ) → lowFlag (fieldsIn h) ≡ flagIn h % 2 ^ 7
-unfolding lowFlag fieldsIn messageIn extendedIn syncIn spareIn flagBits
+unfolding lowFlag fieldsIn messageTypeIn extendedTypeIn syncIn spareIn flagBits
 low-back h =
     let flag = flagIn h in
     ap₂ (λ (x y : ℕ). flag / 2 ^ 5 % 2 ^ 2 * 2 ^ 5 + flag / 2 ^ 2 % 2 ^ 3 * 2 ^ 2 + x * 2 + y)

@@ -6,9 +6,9 @@ use native.Mathlib.Omega.{arith}
 use Rattle.header.specs.declared.Format.{Format}
 use Rattle.header.specs.declared.Format.the-variants.{Open, PseudoBinary, FullAscii}
 use Rattle.header.specs.declared.Header.{Header}
-use Rattle.header.specs.declared.Typing.{Typing}
-use Rattle.header.specs.declared.Typing.the-variants.{Ours, Foreign}
-use Rattle.header.specs.Typed.{formatNumber, Names, Typed, Types}
+use Rattle.header.specs.declared.WhichFormat.{WhichFormat}
+use Rattle.header.specs.declared.WhichFormat.the-variants.{Ours, Foreign}
+use Rattle.header.specs.Typed.{formatNumber, FormatOfNumber, HasFormat, FormatInHeader}
 
 -- no two formats have one number
 formatFrom : ℕ → Format
@@ -30,17 +30,17 @@ number-lt Open = omega arith
 number-lt PseudoBinary = omega arith
 number-lt FullAscii = omega arith
 
-pub one-format : {f : Header} {a b : Format} → Typed f a → Typed f b → a ≡ b
-one-format {f} {a} {b} s t = one-number a b (sym (s .extended) ∙ t .extended)
+pub one-format : {f : Header} {a b : Format} → HasFormat f a → HasFormat f b → a ≡ b
+one-format {f} {a} {b} s t = one-number a b (sym (s .«extended_type») ∙ t .«extended_type»)
 
-pub one-typing : (f : Header) (a b : Typing) → Types f a → Types f b → a ≡ b
-one-typing f (Ours a) (Ours b) s t = ap Ours (one-format s t)
-one-typing f (Ours a) Foreign s t = absurd (t a s)
-one-typing f Foreign (Ours b) s t = absurd (s b t)
-one-typing f Foreign Foreign s t = refl
+pub one-which : (f : Header) (a b : WhichFormat) → FormatInHeader f a → FormatInHeader f b → a ≡ b
+one-which f (Ours a) (Ours b) s t = ap Ours (one-format s t)
+one-which f (Ours a) Foreign s t = absurd (t a s)
+one-which f Foreign (Ours b) s t = absurd (s b t)
+one-which f Foreign Foreign s t = refl
 
-pub one-named : (number : ℕ) (a b : Typing) → Names number a → Names number b → a ≡ b
-one-named number (Ours a) (Ours b) s t = ap Ours (one-number a b (s ∙ sym t))
-one-named number (Ours a) Foreign s t = absurd (t a s)
-one-named number Foreign (Ours b) s t = absurd (s b t)
-one-named number Foreign Foreign s t = refl
+pub one-of-number : (number : ℕ) (a b : WhichFormat) → FormatOfNumber number a → FormatOfNumber number b → a ≡ b
+one-of-number number (Ours a) (Ours b) s t = ap Ours (one-number a b (s ∙ sym t))
+one-of-number number (Ours a) Foreign s t = absurd (t a s)
+one-of-number number Foreign (Ours b) s t = absurd (s b t)
+one-of-number number Foreign Foreign s t = refl

@@ -6,7 +6,7 @@ use Prim.Native.Nat.{ℕ, _+_, _*_, _/_, _%_, _^_, _<_}
 use lib.Dec.{eqb}
 use Rattle.header.specs.declared.Header.{Header}
 use Rattle.header.specs.Check.{checkOf}
-use Rattle.header.specs.Flag.{spareIn, syncIn, extendedIn, messageIn, parityFor}
+use Rattle.header.specs.Flag.{spareIn, syncIn, extendedTypeIn, messageTypeIn, parityFor}
 use Rattle.header.specs.Valid.{flagIn, lengthIn}
 
 -- ---- from 32 bits
@@ -14,8 +14,8 @@ use Rattle.header.specs.Valid.{flagIn, lengthIn}
 unfoldable pub fieldsIn : ℕ → Header
 fieldsIn h =
     record {
-      message = messageIn (flagIn h);
-      extended = extendedIn (flagIn h);
+      «message_type» = messageTypeIn (flagIn h);
+      «extended_type» = extendedTypeIn (flagIn h);
       sync = eqb (syncIn (flagIn h)) 1;
       spare = eqb (spareIn (flagIn h)) 1;
       length = lengthIn h;
@@ -29,7 +29,7 @@ oneIf false = 0
 
 -- the seven bits of the flag below its parity
 unfoldable pub lowFlag : Header → ℕ
-lowFlag f = f .message * 2 ^ 5 + f .extended * 2 ^ 2 + oneIf (f .sync) * 2 + oneIf (f .spare)
+lowFlag f = f .«message_type» * 2 ^ 5 + f .«extended_type» * 2 ^ 2 + oneIf (f .sync) * 2 + oneIf (f .spare)
 
 unfoldable pub headerOf : Header → ℕ
 headerOf f =
@@ -37,13 +37,13 @@ headerOf f =
 
 -- each field in its own number of bits
 pub record Fit (f : Header) : Type 0 where
-  pub message : f .message < 2 ^ 2
-  pub extended : f .extended < 2 ^ 3
+  pub «message_type» : f .«message_type» < 2 ^ 2
+  pub «extended_type» : f .«extended_type» < 2 ^ 3
   pub length : f .length < 2 ^ 14
 
 -- what we send: type 10, binary, and the spare bit 0
 abbrev pub sentFields : ℕ → Bool → ℕ → Header
-sentFields extended sync length = record { message = 2; extended = extended; sync = sync; spare = false; length = length }
+sentFields extended sync length = record { «message_type» = 2; «extended_type» = extended; sync = sync; spare = false; length = length }
 
 -- ---- four bytes, the first at the top
 

@@ -14,11 +14,11 @@ spareIn = flagBits 1 1
 unfoldable pub syncIn : ℕ → ℕ
 syncIn = flagBits 2 1
 
-unfoldable pub extendedIn : ℕ → ℕ
-extendedIn = flagBits 3 3
+unfoldable pub extendedTypeIn : ℕ → ℕ
+extendedTypeIn = flagBits 3 3
 
-unfoldable pub messageIn : ℕ → ℕ
-messageIn = flagBits 6 2
+unfoldable pub messageTypeIn : ℕ → ℕ
+messageTypeIn = flagBits 6 2
 
 -- the number of ones in the byte is odd
 unfoldable pub Odd : ℕ → Type 0

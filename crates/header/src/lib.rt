@@ -4,8 +4,8 @@ ghost use Prim.Native.Nat.{_^_, _<_};
 ghost use Rattle.header.specs.Check.{checkOf};
 ghost use Rattle.header.specs.Fields.{fieldsIn, headerOf, sentFields, Fit, lowFlag, oneIf, wordOf};
 ghost use Rattle.header.specs.Flag.{parityFor};
-ghost use Rattle.header.specs.Typed.{formatNumber, Names, Types};
-ghost use Rattle.header.specs.Steps.{Multiple, differenceIn, WithParity};
+ghost use Rattle.header.specs.Typed.{formatNumber, FormatOfNumber, FormatInHeader};
+ghost use Rattle.header.specs.Steps.Differences.{Multiple, differenceIn, WithParity};
 
 // The formats that we read and write.
 pub enum Format {
@@ -15,16 +15,16 @@ pub enum Format {
 }
 
 // What the type bits say: one of our formats, or none.
-pub enum Typing {
+pub enum WhichFormat {
     Ours(Format),
     Foreign,
 }
 
 pub struct Header {
     // bits 7/6 of the flag
-    pub message: u8,
+    pub message_type: u8,
     // bits 5/4/3
-    pub extended: u8,
+    pub extended_type: u8,
     // bit 2
     pub sync: bool,
     // bit 1, sent 0
@@ -48,12 +48,12 @@ impl Header {
     pub const GENERATOR: u32 = 0x769;
 
     // The header that we send for these fields.
-    pub fn from_fields(extended: u8, sync: bool, length: u16) -> Self
-        ensures { λ r. ⌜ r ≡ sentFields extended sync length ⌝ }
+    pub fn from_fields(extended_type: u8, sync: bool, length: u16) -> Self
+        ensures { λ r. ⌜ r ≡ sentFields «extended_type» sync length ⌝ }
     {
         Header {
-            message: Header::BINARY,
-            extended,
+            message_type: Header::BINARY,
+            extended_type,
             sync,
             spare: false,
             length,
@@ -66,8 +66,8 @@ impl Header {
     {
         let flag = word / 0x100_0000;
         Header {
-            message: (flag / 32 % 4) as u8,
-            extended: (flag / 4 % 8) as u8,
+            message_type: (flag / 32 % 4) as u8,
+            extended_type: (flag / 4 % 8) as u8,
             sync: flag / 2 % 2 == 1,
             spare: flag % 2 == 1,
             length: (word / 1024 % 16384) as u16,
@@ -75,29 +75,29 @@ impl Header {
     }
 
     // The format that the type bits pick; none where the spare bit is 1 or the type is not one of ours.
-    pub fn typing(self) -> Typing
-        ensures { λ r. ⌜ Types self r ⌝ }
+    pub fn format(self) -> WhichFormat
+        ensures { λ r. ⌜ FormatInHeader self r ⌝ }
     {
-        let message = self.message;
-        let extended = self.extended;
+        let message_type = self.message_type;
+        let extended_type = self.extended_type;
         if self.spare {
-            return Typing::Foreign;
+            return WhichFormat::Foreign;
         }
-        if message != Header::BINARY {
-            return Typing::Foreign;
+        if message_type != Header::BINARY {
+            return WhichFormat::Foreign;
         }
-        Header::named(extended)
+        Header::format_of(extended_type)
     }
 
     // The format of a number, which is its extended type.
-    pub fn named(number: u8) -> Typing
-        ensures { λ r. ⌜ Names number r ⌝ }
+    pub fn format_of(number: u8) -> WhichFormat
+        ensures { λ r. ⌜ FormatOfNumber number r ⌝ }
     {
         match number {
-            Header::OPEN => Typing::Ours(Format::Open),
-            Header::PSEUDO_BINARY => Typing::Ours(Format::PseudoBinary),
-            Header::FULL_ASCII => Typing::Ours(Format::FullAscii),
-            _ => Typing::Foreign,
+            Header::OPEN => WhichFormat::Ours(Format::Open),
+            Header::PSEUDO_BINARY => WhichFormat::Ours(Format::PseudoBinary),
+            Header::FULL_ASCII => WhichFormat::Ours(Format::FullAscii),
+            _ => WhichFormat::Foreign,
         }
     }
 
@@ -117,8 +117,8 @@ impl Header {
         requires { ⌜ Fit self ⌝ }
         ensures { λ r. ⌜ r ≡ lowFlag self ⌝ }
     {
-        (self.message as u32) * 32
-            + (self.extended as u32) * 4
+        (self.message_type as u32) * 32
+            + (self.extended_type as u32) * 4
             + one_if(self.sync) * 2
             + one_if(self.spare)
     }

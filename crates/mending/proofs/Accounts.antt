@@ -12,7 +12,7 @@ use lib.Pow.{pow-lt}
 use Rattle.bits.specs.Word.{differences}
 use Rattle.bits.proofs.Xor.{xor-zero}
 use Rattle.bits.proofs.Ones.{flip, flip-nearer, no-ones, differences-self}
-use Rattle.mending.specs.Repair.{left, Accounts}
+use Rattle.mending.specs.Steps.Repair.{left, Accounts}
 use Rattle.mending.proofs.Apart.{left-nothing, left-sum}
 
 -- what the bit at a place leaves: its column

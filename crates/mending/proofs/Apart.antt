@@ -20,12 +20,12 @@ use Rattle.bits.proofs.Said.{and-left, and-right}
 use Rattle.bits.proofs.Xor.{digit, xor-undo, xor-zero}
 use Rattle.bits.proofs.Ones.{ones-top, ones-low, no-ones}
 use Rattle.header.specs.Check.{remainder, checkOf}
-use Rattle.header.specs.Steps.{differenceIn}
+use Rattle.header.specs.Steps.Differences.{differenceIn}
 use Rattle.header.specs.Valid.{Valid, checkIn, informationIn}
 use Rattle.header.proofs.Division.{remainder-sum, longer}
 use Rattle.header.proofs.Made.{valid-low, information-in}
 use Rattle.mending.specs.Mends.{distance}
-use Rattle.mending.specs.Repair.{left}
+use Rattle.mending.specs.Steps.Repair.{left}
 
 -- ---- the walk
 

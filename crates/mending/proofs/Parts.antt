@@ -17,7 +17,7 @@ use lib.Pow.{pow-pos}
 use Rattle.bits.proofs.Said.{and-left, and-right}
 use Rattle.bits.proofs.Xor.{xor-undo}
 use Rattle.header.specs.Check.{generator, remainder}
-use Rattle.mending.specs.Repair.{left, Accounts, first, second, up, raised, foldedOf, nowhere, powerBetween, turnFor, placeOf, patternIn, patternAt, turnedDown}
+use Rattle.mending.specs.Steps.Repair.{left, Accounts, first, second, up, raised, foldedOf, nowhere, powerBetween, turnFor, placeOf, patternIn, patternAt, turnedDown}
 use Rattle.mending.proofs.All.{all, all-at}
 use Rattle.mending.proofs.Accounts.{columnAt, none-account}
 

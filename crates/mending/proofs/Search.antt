@@ -9,7 +9,7 @@ use native.Mathlib.Omega.{arith}
 use Rattle.bits.specs.Word.{differences}
 use Rattle.bits.proofs.Ones.{flip, flip-nearer, differences-same}
 use Rattle.header.specs.Valid.{Valid}
-use Rattle.mending.specs.Mends.{distance, Near}
+use Rattle.mending.specs.Mends.{distance, ValidWithin}
 
 different : (received header : ℕ) → received < 2 ^ 32 → (Valid received → ⊥) → Valid header → 0 < distance received header
 unfolding distance
@@ -19,14 +19,14 @@ different received header lt bad v = pick (eq-zero-or-pos (differences 32 receiv
     pick (inl e) = absurd (bad (subst Valid (sym (differences-same 32 received header lt (v .bits) e)) v))
     pick (inr p) = p
 
-pub none-at : (received : ℕ) → received < 2 ^ 32 → (Valid received → ⊥) → (header : ℕ) → Near 0 received header → ⊥
+pub none-at : (received : ℕ) → received < 2 ^ 32 → (Valid received → ⊥) → (header : ℕ) → ValidWithin 0 received header → ⊥
 none-at received lt bad header n =
     let some : 0 < distance received header = different received header lt bad (n .valid) in
     omega (arith, n .near)
 
 pub none-around : (limit received : ℕ) → received < 2 ^ 32 → (Valid received → ⊥)
-    → ((place : ℕ) → place < 32 → (header : ℕ) → Near limit (flip place received) header → ⊥)
-    → (header : ℕ) → Near (suc limit) received header → ⊥
+    → ((place : ℕ) → place < 32 → (header : ℕ) → ValidWithin limit (flip place received) header → ⊥)
+    → (header : ℕ) → ValidWithin (suc limit) received header → ⊥
 unfolding distance
 none-around limit received lt bad none header n =
     let way = flip-nearer 32 received header (different received header lt bad (n .valid)) in

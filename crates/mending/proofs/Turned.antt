@@ -13,13 +13,13 @@ use Rattle.bits.proofs.Ones.{ones-all, ones-low, ones-top, differences-comm, di
 use Rattle.bits.proofs.Xor.{xor-undo, xor-zero}
 use Rattle.header.specs.Check.{checkOf}
 use Rattle.header.specs.Flag.{Odd}
-use Rattle.header.specs.Steps.{differenceIn}
+use Rattle.header.specs.Steps.Differences.{differenceIn}
 use Rattle.header.specs.Valid.{Valid, flagIn, checkIn, informationIn}
 use Rattle.header.proofs.Division.{remainder-lt}
 use Rattle.mending.specs.declared.Cause.{Cause}
 use Rattle.mending.specs.declared.Cause.the-variants.{Bits, Nothing}
-use Rattle.mending.specs.Mends.{distance, Near}
-use Rattle.mending.specs.Repair.{left, Accounts, Repairs}
+use Rattle.mending.specs.Mends.{distance, ValidWithin}
+use Rattle.mending.specs.Steps.Repair.{left, Accounts, Repairs}
 use Rattle.mending.proofs.Apart.{left-sum, left-difference, valid-left, low-apart}
 
 pub difference-lt : (h : ℕ) → differenceIn h < 2 ^ 10
@@ -68,18 +68,18 @@ module _ {received mask header : ℕ} (t : Turned received mask header) where
       omega (arith, ones-low 31 (bitXor received header), ap (onesIn 31) turned, t .account .few)
 
   -- a valid header within two bits is this one
-  near-is : (v : ℕ) → Near 2 received v → header ≡ v
+  near-is : (v : ℕ) → ValidWithin 2 received v → header ≡ v
   unfolding differences
   near-is v n =
       low-apart header v turned-valid (n .valid)
       (omega (arith, differences-round 31 header received v, differences-comm 31 header received, few, low-near received v, n .near))
 
-  pub none-nearer : 2 < distance received header → (v : ℕ) → Near 2 received v → ⊥
+  pub none-nearer : 2 < distance received header → (v : ℕ) → ValidWithin 2 received v → ⊥
   none-nearer far v n = omega (arith, far, n .near, ap (distance received) (near-is v n))
 
 -- ---- where no bits account for the difference
 
-pub none-within : (received : ℕ) → ((mask : ℕ) → Accounts (differenceIn received) mask → ⊥) → (v : ℕ) → Near 2 received v → ⊥
+pub none-within : (received : ℕ) → ((mask : ℕ) → Accounts (differenceIn received) mask → ⊥) → (v : ℕ) → ValidWithin 2 received v → ⊥
 unfolding differences
 none-within received none v n =
     none (bitXor received v % 2 ^ 31)
@@ -100,6 +100,6 @@ pub repaired : (received difference mask : ℕ) (cause : Cause) → difference �
 repaired received difference mask cause d r e = subst (λ (n : ℕ). Accounts n mask) d (subst (Repairs difference) e r)
 
 pub unrepaired : (received difference : ℕ) (cause : Cause) → difference ≡ differenceIn received → Repairs difference cause → cause ≡ Nothing
-    → (v : ℕ) → Near 2 received v → ⊥
+    → (v : ℕ) → ValidWithin 2 received v → ⊥
 unrepaired received difference cause d r e =
     none-within received (subst (λ (n : ℕ). (mask : ℕ) → Accounts n mask → ⊥) d (subst (Repairs difference) e r))

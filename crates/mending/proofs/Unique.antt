@@ -6,17 +6,17 @@ use native.Mathlib.Omega.{arith}
 use Rattle.bits.proofs.Ones.{differences-comm, differences-round}
 use Rattle.mending.specs.declared.Mending.{Mending}
 use Rattle.mending.specs.declared.Mending.the-variants.{Mended, Hopeless}
-use Rattle.mending.specs.Mends.{distance, Near, MendsWithin}
+use Rattle.mending.specs.Mends.{distance, ValidWithin, MendsWithin}
 use Rattle.mending.proofs.Apart.{near-same}
 
 -- at most one valid header lies within two bits of any word
-pub one-near : (received v w : ℕ) → Near 2 received v → Near 2 received w → v ≡ w
+pub one-near : (received v w : ℕ) → ValidWithin 2 received v → ValidWithin 2 received w → v ≡ w
 unfolding distance
 one-near received v w nv nw =
     near-same v w (nv .valid) (nw .valid)
     (omega (arith, differences-round 32 v received w, differences-comm 32 v received, nv .near, nw .near))
 
-wider : (limit received v : ℕ) → limit ≤ 2 → Near limit received v → Near 2 received v
+wider : (limit received v : ℕ) → limit ≤ 2 → ValidWithin limit received v → ValidWithin 2 received v
 wider limit received v le n = record { valid = n .valid; near = omega (arith, n .near) }
 
 -- so mending at most two bits has one answer

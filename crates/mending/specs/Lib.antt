@@ -1,2 +1,2 @@
 pub mod Mends
-pub mod Repair
+pub mod Steps

@@ -12,14 +12,14 @@ unfoldable pub distance : ℕ → ℕ → ℕ
 distance = differences 32
 
 -- a valid header at most so many bits away
-pub record Near (limit received header : ℕ) : Type 0 where
+pub record ValidWithin (limit received header : ℕ) : Type 0 where
   pub valid : Valid header
   pub near : distance received header ≤ limit
 
 -- the answer is the valid header at most `limit` bits away, with the number of bits in which it differs, or that there is none
 abbrev pub MendsWithin : ℕ → ℕ → Mending → Type 0
-MendsWithin limit received (Mended header bits) = Near limit received header × (bits ≡ distance received header)
-MendsWithin limit received Hopeless = (header : ℕ) → Near limit received header → ⊥
+MendsWithin limit received (Mended header bits) = ValidWithin limit received header × (bits ≡ distance received header)
+MendsWithin limit received Hopeless = (header : ℕ) → ValidWithin limit received header → ⊥
 
 abbrev pub Mends : ℕ → Mending → Type 0
 Mends = MendsWithin 2

@@ -2,7 +2,7 @@
 ghost use mathlib.Core.Path.{_≡_};
 ghost use Prim.Native.Nat.{_^_, _<_};
 ghost use Rattle.mending.specs.Mends.{Mends};
-ghost use Rattle.mending.specs.Repair.{foldedOf, turnFor, placeOf, patternAt, turnedDown, Repairs};
+ghost use Rattle.mending.specs.Steps.Repair.{foldedOf, turnFor, placeOf, patternAt, turnedDown, Repairs};
 
 pub enum Mending {
     // The valid header, and in how many bits the received one differs from it.

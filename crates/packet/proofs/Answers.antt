@@ -8,8 +8,8 @@ use native.Mathlib.Omega.{arith}
 use lib.ListN.{length, getD, take, drop, length-take}
 use Rattle.bits.specs.Says.{Says}
 use Rattle.header.specs.Valid.{lengthIn}
-use Rattle.checksum.specs.Checksum.{sent}
-use Rattle.codes.specs.Size.{longest}
+use Rattle.checksum.specs.Checksum.{checksumBytes}
+use Rattle.codes.specs.Steps.Size.{longest}
 use Rattle.refusals.specs.declared.Refusal.the-variants.{Checksum, Malformed, NoRoom}
 use Rattle.packet.specs.declared.Opened.{Opened}
 use Rattle.packet.specs.Data.{Carries, Unreadable}
@@ -39,21 +39,21 @@ module _ (packet : List ℕ) (opened : Opened) (h : Headed packet opened) where
 
   -- what the test of the checksum says
   pub tested : (answer : Bool)
-      → Says answer (getD packet (opened .length + 4) 0 ∷ getD packet (opened .length + 4 + 1) 0 ∷ [] ≡ sent (take (opened .length + 4 - 4) (drop 4 packet)))
-      → Says answer (sumIn (h .header) packet ≡ sent (dataIn (h .header) packet))
-  tested answer says = subst₂ (λ (x y : List ℕ). Says answer (x ≡ sent y)) sum-is part-is says
+      → Says answer (getD packet (opened .length + 4) 0 ∷ getD packet (opened .length + 4 + 1) 0 ∷ [] ≡ checksumBytes (take (opened .length + 4 - 4) (drop 4 packet)))
+      → Says answer (sumIn (h .header) packet ≡ checksumBytes (dataIn (h .header) packet))
+  tested answer says = subst₂ (λ (x y : List ℕ). Says answer (x ≡ checksumBytes y)) sum-is part-is says
 
   -- ---- the answers
 
   module _ (room : ℕ) where
-    pub refused-sum : (sumIn (h .header) packet ≡ sent (dataIn (h .header) packet) → ⊥) → Refuses packet room Checksum
+    pub refused-sum : (sumIn (h .header) packet ≡ checksumBytes (dataIn (h .header) packet) → ⊥) → Refuses packet room Checksum
     refused-sum bad =
         record {
           fault = (h .header, h .framed .near, bad);
           first = clear-six packet room (h .header) (opened .format) (h .framed);
         }
 
-    module _ (summed : sumIn (h .header) packet ≡ sent (dataIn (h .header) packet)) where
+    module _ (summed : sumIn (h .header) packet ≡ checksumBytes (dataIn (h .header) packet)) where
       pub refused-place : (i : ℕ) → Unreadable (opened .format) (dataIn (h .header) packet) i → (bit : ℕ) → bit ≡ i → Refuses packet room (Malformed bit)
       refused-place i stuck bit e =
           record {

@@ -13,7 +13,7 @@ use Rattle.header.specs.declared.Format.{Format}
 use Rattle.header.specs.declared.Format.the-variants.{Open, PseudoBinary, FullAscii}
 use Rattle.codes.specs.Chain.{Scheme}
 use Rattle.codes.proofs.Fill.{no-fill}
-use Rattle.codes.proofs.Reading.{Answer, text as reads-text, stuck as reads-stuck, Means, answer, always, builds-end, one-text, one-place, never-both}
+use Rattle.codes.proofs.OneReading.{Answer, text as reads-text, stuck as reads-stuck, Means, answer, always, builds-end, one-text, one-place, never-both}
 use Rattle.full_ascii.specs.Table as ascii
 use Rattle.full_ascii.proofs.Table as ascii-table
 use Rattle.full_ascii.proofs.Writer as ascii-built
@@ -52,26 +52,26 @@ readable FullAscii carried = either ascii.scheme (bits carried) (answer ascii.sc
 -- a text that is carried has codes
 pub carries-coded : (format : Format) (text carried : List ℕ) → Carries format text carried → Coded format text (length text)
 carries-coded Open text carried p = λ i lt. tt
-carries-coded PseudoBinary text carried p = pseudo-built.writes .built-coded text carried p
-carries-coded FullAscii text carried p = ascii-built.writes .built-coded text carried p
+carries-coded PseudoBinary text carried p = pseudo-built.writer-laws .built-coded text carried p
+carries-coded FullAscii text carried p = ascii-built.writer-laws .built-coded text carried p
 
 -- what our writer makes of a text that has codes carries it
 pub writer-carries : (format : Format) (text : List ℕ) → Coded format text (length text) → Carries format text (dataOf format text)
 writer-carries Open text h = refl
-writer-carries PseudoBinary text h = pseudo-built.writes .ours-built text h
-writer-carries FullAscii text h = ascii-built.writes .ours-built text h
+writer-carries PseudoBinary text h = pseudo-built.writer-laws .ours-built text h
+writer-carries FullAscii text h = ascii-built.writer-laws .ours-built text h
 
 -- and nothing that carries it has fewer bytes
 pub no-fewer : (format : Format) (text carried : List ℕ) → Carries format text carried → length (dataOf format text) ≤ length carried
 no-fewer Open text carried p = le-of-eq (ap length (sym p))
-no-fewer PseudoBinary text carried p = pseudo-built.writes .no-fewer-bytes text carried (carries-coded PseudoBinary text carried p) p
-no-fewer FullAscii text carried p = ascii-built.writes .no-fewer-bytes text carried (carries-coded FullAscii text carried p) p
+no-fewer PseudoBinary text carried p = pseudo-built.writer-laws .no-fewer-bytes text carried (carries-coded PseudoBinary text carried p) p
+no-fewer FullAscii text carried p = ascii-built.writer-laws .no-fewer-bytes text carried (carries-coded FullAscii text carried p) p
 
 -- some data, some text; and some text, some data
 pub carries-some : (format : Format) (text carried : List ℕ) → 0 < length carried → Carries format text carried → 0 < length text
 carries-some Open text carried some p = omega (arith, ap length p)
-carries-some PseudoBinary text carried some p = pseudo-built.writes .built-nonempty text carried some p
-carries-some FullAscii text carried some p = ascii-built.writes .built-nonempty text carried some p
+carries-some PseudoBinary text carried some p = pseudo-built.writer-laws .built-nonempty text carried some p
+carries-some FullAscii text carried some p = ascii-built.writer-laws .built-nonempty text carried some p
 
 no-data : (format : Format) (text : List ℕ) → Carries format text [] → text ≡ []
 unfolding bits

@@ -7,8 +7,8 @@ use native.Mathlib.Omega.{arith}
 use lib.ListN.{length, take, drop}
 use lib.Seq.{take-length}
 use Rattle.header.specs.declared.Format.the-variants.{Open}
-use Rattle.codes.specs.Laid.{Fronted}
-use Rattle.codes.specs.Size.{longest}
+use Rattle.codes.specs.Steps.Laid.{Fronted}
+use Rattle.codes.specs.Steps.Size.{longest}
 use Rattle.codes.specs.declared.Needed.the-variants as Needed
 use Rattle.codes.specs.declared.Taken.the-variants.{Text, NoRoom}
 use Rattle.packet.specs.Steps.{Takes, NeedsIn}

@@ -8,19 +8,19 @@ use native.Mathlib.Omega.{arith}
 use lib.ListN.{length, drop}
 use Rattle.header.specs.declared.Format.{Format}
 use Rattle.header.specs.Fields.{fieldsIn}
-use Rattle.header.specs.Typed.{Typed}
+use Rattle.header.specs.Typed.{HasFormat}
 use Rattle.header.specs.Valid.{lengthIn}
 use Rattle.header.proofs.Typed.{one-format}
-use Rattle.mending.specs.Mends.{Near, distance}
+use Rattle.mending.specs.Mends.{ValidWithin, distance}
 use Rattle.mending.proofs.Unique.{one-near}
-use Rattle.checksum.specs.Checksum.{sent}
+use Rattle.checksum.specs.Checksum.{checksumBytes}
 use Rattle.refusals.specs.declared.Refusal.{Refusal}
 use Rattle.refusals.specs.declared.Refusal.the-variants.{Short, NoHeader, OtherType, OtherLength, CutOff, Checksum, Malformed, NoRoom, NoCode, Empty, TooLong, OtherFormat}
 use Rattle.packet.specs.declared.Reading.{Reading}
 use Rattle.packet.specs.declared.ReadAnswer.{ReadAnswer}
 use Rattle.packet.specs.declared.ReadAnswer.the-variants.{Accepted, Refused}
 use Rattle.packet.specs.Data.{Carries, Unreadable}
-use Rattle.codes.specs.Size.{longest}
+use Rattle.codes.specs.Steps.Size.{longest}
 use Rattle.packet.specs.Packet.{received, dataIn, sumIn}
 use Rattle.packet.specs.Reader.{Under, Fault, Refuses, Accepts, Reads}
 use Rattle.refusals.specs.Refusals.{numberOf, valueOf, readerTurn}
@@ -31,12 +31,12 @@ use Rattle.packet.proofs.Formats.{carries-one, unreadable-one, never-un
 
 module _ (packet : List ℕ) (room : ℕ) where
   -- the condition of a refusal, of a header that the packet is read as
-  pub under : (A : ℕ → Type 0) (header : ℕ) → Near 2 (received packet) header → Under packet A → A header
+  pub under : (A : ℕ → Type 0) (header : ℕ) → ValidWithin 2 (received packet) header → Under packet A → A header
   under A header near (other, near′, a) = subst A (one-near (received packet) other header near′ near) a
 
   places : (i j : ℕ) → Fault packet room (Malformed i) → Fault packet room (Malformed j) → i ≡ j
   places i j (header, near, (format, typed, stuck)) g =
-      let other = under (λ (h : ℕ). (k : Format) × Typed (fieldsIn h) k × Unreadable k (dataIn h packet) j) header near g in
+      let other = under (λ (h : ℕ). (k : Format) × HasFormat (fieldsIn h) k × Unreadable k (dataIn h packet) j) header near g in
       unreadable-one format i j (dataIn header packet) stuck
       (subst (λ (k : Format). Unreadable k (dataIn header packet) j) (one-format (other .1) typed) (other .2))
 
@@ -45,7 +45,7 @@ module _ (packet : List ℕ) (room : ℕ) where
       let other =
       under
       (λ (h : ℕ).
-      (k : Format) × Typed (fieldsIn h) k × ((t : List ℕ) × Carries k t (dataIn h packet) × (length t ≡ n) × (room < n))) header near g in
+      (k : Format) × HasFormat (fieldsIn h) k × ((t : List ℕ) × Carries k t (dataIn h packet) × (length t ≡ n) × (room < n))) header near g in
       sym long
       ∙ ap length
       (carries-one format text (other .2 .0) (dataIn header packet) carries
@@ -80,23 +80,23 @@ module _ (packet : List ℕ) (room : ℕ) where
   accepts-no-fault reading text a Short f = omega (arith, a .framed .whole)
   accepts-no-fault reading text a NoHeader f = f (a .header) (a .framed .near)
   accepts-no-fault reading text a OtherType f =
-      under (λ (h : ℕ). (k : Format) → Typed (fieldsIn h) k → ⊥) (a .header) (a .framed .near) f (reading .format) (a .framed .typed)
+      under (λ (h : ℕ). (k : Format) → HasFormat (fieldsIn h) k → ⊥) (a .header) (a .framed .near) f (reading .format) (a .framed .typed)
   accepts-no-fault reading text a OtherLength f =
       ⊎-elim (λ none. omega (arith, a .framed .some)) (λ many. omega (arith, a .framed .few))
       (under (λ (h : ℕ). (lengthIn h ≡ 0) ⊎ (longest < lengthIn h)) (a .header) (a .framed .near) f)
   accepts-no-fault reading text a CutOff f =
       let short = under (λ (h : ℕ). length packet < lengthIn h + 6) (a .header) (a .framed .near) f in omega (arith, a .framed .whole)
   accepts-no-fault reading text a Checksum f =
-      under (λ (h : ℕ). sumIn h packet ≡ sent (dataIn h packet) → ⊥) (a .header) (a .framed .near) f (a .summed)
+      under (λ (h : ℕ). sumIn h packet ≡ checksumBytes (dataIn h packet) → ⊥) (a .header) (a .framed .near) f (a .summed)
   accepts-no-fault reading text a (Malformed i) f =
-      let other = under (λ (h : ℕ). (k : Format) × Typed (fieldsIn h) k × Unreadable k (dataIn h packet) i) (a .header) (a .framed .near) f in
+      let other = under (λ (h : ℕ). (k : Format) × HasFormat (fieldsIn h) k × Unreadable k (dataIn h packet) i) (a .header) (a .framed .near) f in
       never-unreadable (reading .format) text (dataIn (a .header) packet) i (a .carries)
       (subst (λ (k : Format). Unreadable k (dataIn (a .header) packet) i) (one-format (other .1) (a .framed .typed)) (other .2))
   accepts-no-fault reading text a (NoRoom n) f =
       let other =
       under
       (λ (h : ℕ).
-      (k : Format) × Typed (fieldsIn h) k × ((t : List ℕ) × Carries k t (dataIn h packet) × (length t ≡ n) × (room < n)))
+      (k : Format) × HasFormat (fieldsIn h) k × ((t : List ℕ) × Carries k t (dataIn h packet) × (length t ≡ n) × (room < n)))
       (a .header) (a .framed .near) f in
       let same : text ≡ other .2 .0 =
       carries-one (reading .format) text (other .2 .0) (dataIn (a .header) packet) (a .carries)
@@ -127,7 +127,7 @@ module _ (packet : List ℕ) (room : ℕ) where
       head = one-near (received packet) (a .header) (b .header) (a .framed .near) (b .framed .near)
 
       kind : r .format ≡ s .format
-      kind = one-format (a .framed .typed) (subst (λ (h : ℕ). Typed (fieldsIn h) (s .format)) (sym head) (b .framed .typed))
+      kind = one-format (a .framed .typed) (subst (λ (h : ℕ). HasFormat (fieldsIn h) (s .format)) (sym head) (b .framed .typed))
 
       same : t ≡ u
       same =

@@ -10,16 +10,16 @@ use lib.Seq.{take-at, getD-drop, getD-append-add}
 use Rattle.header.specs.declared.Format.{Format}
 use Rattle.header.specs.declared.Header.{Header}
 use Rattle.header.specs.Fields.{Fit, fieldsIn, sentFields, bytesOf}
-use Rattle.header.specs.Typed.{Typed, formatNumber}
+use Rattle.header.specs.Typed.{HasFormat, formatNumber}
 use Rattle.header.specs.Valid.{Valid, lengthIn}
 use Rattle.header.proofs.Bytes.{word-bytes}
 use Rattle.header.proofs.Made.{made-valid, made-reads-back}
 use Rattle.header.proofs.Typed.{number-lt}
-use Rattle.mending.specs.Mends.{Near, distance}
-use Rattle.checksum.specs.Checksum.{sent}
+use Rattle.mending.specs.Mends.{ValidWithin, distance}
+use Rattle.checksum.specs.Checksum.{checksumBytes}
 use Rattle.packet.specs.declared.Reading.{Reading}
 use Rattle.packet.specs.Data.{Carries}
-use Rattle.codes.specs.Size.{longest}
+use Rattle.codes.specs.Steps.Size.{longest}
 use Rattle.packet.specs.Packet.{received, dataIn, sumIn, headerFor}
 use Rattle.refusals.specs.declared.Refusal.the-variants.{Checksum}
 use Rattle.packet.specs.Reader.{Framed, Accepts, Refuses}
@@ -29,7 +29,7 @@ use Rattle.packet.proofs.Stages.{clear-six}
 
 module _ (format : Format) (sync : Bool) (n : ℕ) (few : n ≤ longest) where
   fit : Fit (sentFields (formatNumber format) sync n)
-  fit = record { message = omega arith; extended = number-lt format; length = omega arith }
+  fit = record { «message_type» = omega arith; «extended_type» = number-lt format; length = omega arith }
 
   fields : fieldsIn (headerFor format sync n) ≡ sentFields (formatNumber format) sync n
   unfolding headerFor
@@ -39,9 +39,9 @@ module _ (format : Format) (sync : Bool) (n : ℕ) (few : n ≤ longest) where
   unfolding headerFor
   header-valid = made-valid (sentFields (formatNumber format) sync n) fit
 
-  pub header-typed : Typed (fieldsIn (headerFor format sync n)) format
+  pub header-typed : HasFormat (fieldsIn (headerFor format sync n)) format
   header-typed =
-      subst (λ (f : Header). Typed f format) (sym fields) (record { spare = refl; message = refl; extended = refl })
+      subst (λ (f : Header). HasFormat f format) (sym fields) (record { spare = refl; «message_type» = refl; «extended_type» = refl })
 
   pub header-length : lengthIn (headerFor format sync n) ≡ n
   unfolding fieldsIn
@@ -98,9 +98,9 @@ module _ (format : Format) (sync : Bool) (word : ℕ) (carried : List ℕ) (low 
   abbrev packet : List ℕ
   packet = arrived word carried low high after
 
-  header-near : Near 2 (received packet) header
+  header-near : ValidWithin 2 (received packet) header
   header-near =
-      subst (λ (w : ℕ). Near 2 w header) (sym (received-is word carried low high after bits))
+      subst (λ (w : ℕ). ValidWithin 2 w header) (sym (received-is word carried low high after bits))
       (record { valid = header-valid format sync (length carried) few; near = near })
 
   long : lengthIn header ≡ length carried
@@ -128,13 +128,13 @@ module _ (format : Format) (sync : Bool) (word : ℕ) (carried : List ℕ) (low 
         used = length carried + 6;
       }
 
-  pub sent-accepted : low ∷ high ∷ [] ≡ sent carried → (text : List ℕ) → Carries format text carried → (room : ℕ) → length text ≤ room
+  pub sent-accepted : low ∷ high ∷ [] ≡ checksumBytes carried → (text : List ℕ) → Carries format text carried → (room : ℕ) → length text ≤ room
       → Accepts packet room (sentReading (length text)) text
   sent-accepted summed text carries room held =
       record {
         header = header;
         framed = framed;
-        summed = sum-is word carried low high after header long ∙ summed ∙ ap sent (sym (data-is word carried low high after header long));
+        summed = sum-is word carried low high after header long ∙ summed ∙ ap checksumBytes (sym (data-is word carried low high after header long));
         carries = subst (Carries format text) (sym (data-is word carried low high after header long)) carries;
         held = held;
         sync = sym (header-sync format sync (length carried) few);
@@ -145,13 +145,13 @@ module _ (format : Format) (sync : Bool) (word : ℕ) (carried : List ℕ) (low 
       }
 
   -- and of one whose checksum is not that of its data
-  pub sent-refused : (low ∷ high ∷ [] ≡ sent carried → ⊥) → (room : ℕ) → Refuses packet room Checksum
+  pub sent-refused : (low ∷ high ∷ [] ≡ checksumBytes carried → ⊥) → (room : ℕ) → Refuses packet room Checksum
   sent-refused bad room =
       record {
         fault = (
           header,
           header-near,
-          λ e. bad (sym (sum-is word carried low high after header long) ∙ e ∙ ap sent (data-is word carried low high after header long)),
+          λ e. bad (sym (sum-is word carried low high after header long) ∙ e ∙ ap checksumBytes (data-is word carried low high after header long)),
         );
         first = clear-six packet room header format framed;
       }

@@ -8,15 +8,15 @@ use native.Mathlib.Omega.{arith}
 use lib.ListN.{length}
 use Rattle.header.specs.declared.Format.{Format}
 use Rattle.header.specs.Fields.{fieldsIn}
-use Rattle.header.specs.Typed.{Typed}
+use Rattle.header.specs.Typed.{HasFormat}
 use Rattle.header.specs.Valid.{lengthIn}
 use Rattle.header.proofs.Typed.{one-format}
-use Rattle.mending.specs.Mends.{Near}
-use Rattle.checksum.specs.Checksum.{sent}
+use Rattle.mending.specs.Mends.{ValidWithin}
+use Rattle.checksum.specs.Checksum.{checksumBytes}
 use Rattle.refusals.specs.declared.Refusal.{Refusal}
 use Rattle.refusals.specs.declared.Refusal.the-variants.{Short, NoHeader, OtherType, OtherLength, CutOff, Checksum, Malformed, NoRoom, NoCode, Empty, TooLong, OtherFormat}
 use Rattle.packet.specs.Data.{Carries, Unreadable}
-use Rattle.codes.specs.Size.{longest}
+use Rattle.codes.specs.Steps.Size.{longest}
 use Rattle.packet.specs.Packet.{received, dataIn, sumIn}
 use Rattle.packet.specs.Reader.{Fault, Framed}
 use Rattle.refusals.specs.Refusals.{numberOf, readerTurn}
@@ -50,18 +50,18 @@ module _ (packet : List ℕ) (room : ℕ) where
   clear-two four = next 1 clear-one (λ v f. omega arith)
 
   -- under the header that the packet is read as
-  module _ (header : ℕ) (near : Near 2 (received packet) header) where
+  module _ (header : ℕ) (near : ValidWithin 2 (received packet) header) where
     pub clear-three : 4 ≤ length packet → Clear (Fault packet room) readerTurn 3
     unfolding refusalFrom
     clear-three four = next 2 (clear-two four) (λ v f. f header near)
 
-    pub clear-four : 4 ≤ length packet → (format : Format) → Typed (fieldsIn header) format → Clear (Fault packet room) readerTurn 4
+    pub clear-four : 4 ≤ length packet → (format : Format) → HasFormat (fieldsIn header) format → Clear (Fault packet room) readerTurn 4
     unfolding refusalFrom
     clear-four four format typed =
         next 3 (clear-three four)
-        (λ v f. under packet room (λ (h : ℕ). (k : Format) → Typed (fieldsIn h) k → ⊥) header near f format typed)
+        (λ v f. under packet room (λ (h : ℕ). (k : Format) → HasFormat (fieldsIn h) k → ⊥) header near f format typed)
 
-    pub clear-five : 4 ≤ length packet → (format : Format) → Typed (fieldsIn header) format → 1 ≤ lengthIn header → lengthIn header ≤ longest
+    pub clear-five : 4 ≤ length packet → (format : Format) → HasFormat (fieldsIn header) format → 1 ≤ lengthIn header → lengthIn header ≤ longest
         → Clear (Fault packet room) readerTurn 5
     unfolding refusalFrom
     clear-five four format typed some few =
@@ -79,17 +79,17 @@ module _ (packet : List ℕ) (room : ℕ) where
         (λ v f.
         let short = under packet room (λ (h : ℕ). length packet < lengthIn h + 6) header (framed .near) f in omega (arith, framed .whole))
 
-    pub clear-seven : sumIn header packet ≡ sent (dataIn header packet) → Clear (Fault packet room) readerTurn 7
+    pub clear-seven : sumIn header packet ≡ checksumBytes (dataIn header packet) → Clear (Fault packet room) readerTurn 7
     unfolding refusalFrom
     clear-seven summed =
-        next 6 clear-six (λ v f. under packet room (λ (h : ℕ). sumIn h packet ≡ sent (dataIn h packet) → ⊥) header (framed .near) f summed)
+        next 6 clear-six (λ v f. under packet room (λ (h : ℕ). sumIn h packet ≡ checksumBytes (dataIn h packet) → ⊥) header (framed .near) f summed)
 
-    pub clear-eight : sumIn header packet ≡ sent (dataIn header packet) → (text : List ℕ) → Carries format text (dataIn header packet)
+    pub clear-eight : sumIn header packet ≡ checksumBytes (dataIn header packet) → (text : List ℕ) → Carries format text (dataIn header packet)
         → Clear (Fault packet room) readerTurn 8
     unfolding refusalFrom
     clear-eight summed text carries =
         next 7 (clear-seven summed)
         (λ v f.
-        let other = under packet room (λ (h : ℕ). (k : Format) × Typed (fieldsIn h) k × Unreadable k (dataIn h packet) v) header (framed .near) f in
+        let other = under packet room (λ (h : ℕ). (k : Format) × HasFormat (fieldsIn h) k × Unreadable k (dataIn h packet) v) header (framed .near) f in
         never-unreadable format text (dataIn header packet) v carries
         (subst (λ (k : Format). Unreadable k (dataIn header packet) v) (one-format (other .1) (framed .typed)) (other .2)))

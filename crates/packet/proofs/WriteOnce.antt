@@ -14,10 +14,10 @@ use Rattle.refusals.specs.declared.Refusal.the-variants.{Short, NoHeader, Other
 use Rattle.packet.specs.declared.WriteAnswer.{WriteAnswer}
 use Rattle.packet.specs.declared.WriteAnswer.the-variants.{Written, Refused}
 use Rattle.packet.specs.Data.{coded, Uncoded, dataOf}
-use Rattle.codes.specs.Size.{longest}
+use Rattle.codes.specs.Steps.Size.{longest}
 use Rattle.refusals.specs.Refusals.{numberOf, valueOf, turnIn, writerOrder, writerTurn}
 use Rattle.packet.specs.Writer.{Named, WriteFault, WriteRefuses, WriteAccepts, Writes, ourPacket}
-use Rattle.codes.proofs.Only.{first-one}
+use Rattle.codes.proofs.OneAnswer.{first-one}
 use Rattle.refusals.proofs.Refused.{refusalFrom, from-both, same-number, plain, first-one as first-match}
 
 module _ (number : ℕ) (text : List ℕ) (room : ℕ) where

@@ -8,7 +8,7 @@ use lib.ListN.{length, getD}
 use Rattle.header.specs.declared.Format.{Format}
 use Rattle.header.specs.Typed.{formatNumber}
 use Rattle.packet.specs.Data.{Uncoded, Coded, dataOf}
-use Rattle.codes.specs.Size.{longest}
+use Rattle.codes.specs.Steps.Size.{longest}
 use Rattle.refusals.specs.Refusals.{turnIn, writerOrder, writerTurn}
 use Rattle.packet.specs.Writer.{WriteFault}
 use Rattle.refusals.proofs.Refused.{refusalFrom, Clear, clear-next}

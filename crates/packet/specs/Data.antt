@@ -8,7 +8,7 @@ use Rattle.header.specs.declared.Format.{Format}
 use Rattle.header.specs.declared.Format.the-variants.{Open, PseudoBinary, FullAscii}
 use Rattle.codes.specs.Chain.{Built, Malformed}
 use Rattle.codes.specs.Pack.{written}
-use Rattle.codes.specs.Size
+use Rattle.codes.specs.Coded as Coded
 use Rattle.full_ascii.specs.Table as ascii
 use Rattle.full_ascii.specs.Writer as ascii-writer
 use Rattle.pseudo_binary.specs.Table as pseudo
@@ -34,11 +34,11 @@ coded FullAscii c = ascii-writer.coded c
 
 -- each character below the index has a code
 abbrev pub Coded : Format → List ℕ → ℕ → Type 0
-Coded format = Size.Coded (coded format)
+Coded format = Size.CodedBelow (coded format)
 
 -- the index of the first character that has none
 abbrev pub Uncoded : Format → List ℕ → ℕ → Type 0
-Uncoded format = Size.First (coded format)
+Uncoded format = Size.FirstUncoded (coded format)
 
 -- the data that our writer makes of a text that has codes
 abbrev pub dataOf : Format → List ℕ → List ℕ

@@ -8,7 +8,7 @@ use Rattle.header.specs.declared.Format.{Format}
 use Rattle.header.specs.Fields.{wordOf, bytesOf, headerOf, sentFields}
 use Rattle.header.specs.Typed.{formatNumber}
 use Rattle.header.specs.Valid.{lengthIn}
-use Rattle.checksum.specs.Checksum.{sent}
+use Rattle.checksum.specs.Checksum.{checksumBytes}
 
 -- ---- of a received slice, whose first byte is the flag
 
@@ -28,7 +28,7 @@ sumIn header packet = getD packet (4 + lengthIn header) 0 ∷ getD packet (5 + l
 
 -- the header's bytes, the data, the checksum of the data
 unfoldable pub packetOf : ℕ → List ℕ → List ℕ
-packetOf header carried = bytesOf header ++ (carried ++ sent carried)
+packetOf header carried = bytesOf header ++ (carried ++ checksumBytes carried)
 
 -- the header of data of this length
 unfoldable pub headerFor : Format → Bool → ℕ → ℕ

@@ -8,38 +8,38 @@ use Prim.Native.Nat.{ℕ, _+_, _≤_, _<_}
 use lib.ListN.{length, drop}
 use Rattle.header.specs.declared.Format.{Format}
 use Rattle.header.specs.Fields.{fieldsIn}
-use Rattle.header.specs.Typed.{Typed}
+use Rattle.header.specs.Typed.{HasFormat}
 use Rattle.header.specs.Valid.{lengthIn}
-use Rattle.mending.specs.Mends.{Near, distance}
-use Rattle.checksum.specs.Checksum.{sent}
+use Rattle.mending.specs.Mends.{ValidWithin, distance}
+use Rattle.checksum.specs.Checksum.{checksumBytes}
 use Rattle.refusals.specs.declared.Refusal.{Refusal}
 use Rattle.refusals.specs.declared.Refusal.the-variants.{Short, NoHeader, OtherType, OtherLength, CutOff, Checksum, Malformed, NoRoom, NoCode, Empty, TooLong, OtherFormat}
 use Rattle.packet.specs.declared.Reading.{Reading}
 use Rattle.packet.specs.declared.ReadAnswer.{ReadAnswer}
 use Rattle.packet.specs.declared.ReadAnswer.the-variants.{Accepted, Refused}
 use Rattle.packet.specs.Data.{Carries, Unreadable}
-use Rattle.codes.specs.Size.{longest}
+use Rattle.codes.specs.Steps.Size.{longest}
 use Rattle.packet.specs.Packet.{received, dataIn, sumIn}
 use Rattle.refusals.specs.Refusals.{readerTurn, First}
 
 -- the valid header that the packet is read as, at most two bits away, with what the condition says of it
 abbrev pub Under : List ℕ → (ℕ → Type 0) → Type 0
-Under packet Condition = (header : ℕ) × Near 2 (received packet) header × Condition header
+Under packet Condition = (header : ℕ) × ValidWithin 2 (received packet) header × Condition header
 
 -- the stated condition of each refusal, for a text buffer of so many bytes
 abbrev pub Fault : List ℕ → ℕ → Refusal → Type 0
 Fault packet room Short = length packet < 4
-Fault packet room NoHeader = (header : ℕ) → Near 2 (received packet) header → ⊥
-Fault packet room OtherType = Under packet (λ header. (format : Format) → Typed (fieldsIn header) format → ⊥)
+Fault packet room NoHeader = (header : ℕ) → ValidWithin 2 (received packet) header → ⊥
+Fault packet room OtherType = Under packet (λ header. (format : Format) → HasFormat (fieldsIn header) format → ⊥)
 Fault packet room OtherLength = Under packet (λ header. (lengthIn header ≡ 0) ⊎ (longest < lengthIn header))
 Fault packet room CutOff = Under packet (λ header. length packet < lengthIn header + 6)
-Fault packet room Checksum = Under packet (λ header. sumIn header packet ≡ sent (dataIn header packet) → ⊥)
+Fault packet room Checksum = Under packet (λ header. sumIn header packet ≡ checksumBytes (dataIn header packet) → ⊥)
 Fault packet room (Malformed bit) =
-    Under packet (λ header. (format : Format) × Typed (fieldsIn header) format × Unreadable format (dataIn header packet) bit)
+    Under packet (λ header. (format : Format) × HasFormat (fieldsIn header) format × Unreadable format (dataIn header packet) bit)
 Fault packet room (NoRoom needed) =
     Under packet
     (λ header.
-    (format : Format) × Typed (fieldsIn header) format
+    (format : Format) × HasFormat (fieldsIn header) format
     × ((text : List ℕ) × Carries format text (dataIn header packet) × (length text ≡ needed) × (room < needed)))
 Fault packet room (NoCode index) = ⊥
 Fault packet room Empty = ⊥
@@ -52,8 +52,8 @@ Refuses packet room = First (Fault packet room) readerTurn
 
 -- a valid header within two bits, of this format, of our lengths; and bytes enough
 pub record Framed (packet : List ℕ) (format : Format) (header : ℕ) : Type 0 where
-  pub near : Near 2 (received packet) header
-  pub typed : Typed (fieldsIn header) format
+  pub near : ValidWithin 2 (received packet) header
+  pub typed : HasFormat (fieldsIn header) format
   pub some : 1 ≤ lengthIn header
   pub few : lengthIn header ≤ longest
   pub whole : lengthIn header + 6 ≤ length packet
@@ -63,7 +63,7 @@ pub record Framed (packet : List ℕ) (format : Format) (header : ℕ) : Type 0 
 pub record Accepts (packet : List ℕ) (room : ℕ) (reading : Reading) (text : List ℕ) : Type 0 where
   pub header : ℕ
   pub framed : Framed packet (reading .format) header
-  pub summed : sumIn header packet ≡ sent (dataIn header packet)
+  pub summed : sumIn header packet ≡ checksumBytes (dataIn header packet)
   pub carries : Carries (reading .format) text (dataIn header packet)
   pub held : length text ≤ room
   pub sync : reading .sync ≡ fieldsIn header .sync

@@ -8,8 +8,8 @@ use Rattle.header.specs.declared.Format.{Format}
 use Rattle.header.specs.Fields.{fieldsIn}
 use Rattle.header.specs.Valid.{lengthIn}
 use Rattle.mending.specs.Mends.{distance}
-use Rattle.codes.specs.Measure.{Enters}
-use Rattle.codes.specs.Size.{longest, Needs, Stores}
+use Rattle.codes.specs.Steps.Measure.{ReadsIntoBuffer}
+use Rattle.codes.specs.Steps.Size.{longest, Needs, PutsData}
 use Rattle.codes.specs.declared.Needed.{Needed}
 use Rattle.codes.specs.declared.Needed.the-variants as Needed
 use Rattle.codes.specs.declared.Stored.{Stored}
@@ -36,7 +36,7 @@ Heads packet (Refused refusal) = (room : ℕ) → Refuses packet room refusal
 
 -- tests 7 and 8, and the text in the buffer where they are passed
 abbrev pub Takes : Format → List ℕ → List ℕ → Taken → List ℕ → Type 0
-Takes format carried = Enters (λ text. Carries format text carried) (Unreadable format carried) (length carried)
+Takes format carried = ReadsIntoBuffer (λ text. Carries format text carried) (Unreadable format carried) (length carried)
 
 -- ---- the writer's
 
@@ -46,7 +46,7 @@ NeedsIn format text = Needs longest (coded format) text (dataOf format text)
 
 -- the data of the text in a buffer: what it needs, and the data at the buffer's front
 abbrev pub StoresIn : Format → List ℕ → List ℕ → Stored → List ℕ → Type 0
-StoresIn format text = Stores longest (coded format) text (dataOf format text)
+StoresIn format text = PutsData longest (coded format) text (dataOf format text)
 
 -- tests 9, 11 and 8, and the data in its place in the packet, from byte 4 on, where they are passed
 abbrev pub Places : Format → List ℕ → List ℕ → Stored → List ℕ → Type 0

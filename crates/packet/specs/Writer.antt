@@ -13,7 +13,7 @@ use Rattle.refusals.specs.declared.Refusal.the-variants.{Short, NoHeader, Other
 use Rattle.packet.specs.declared.WriteAnswer.{WriteAnswer}
 use Rattle.packet.specs.declared.WriteAnswer.the-variants.{Written, Refused}
 use Rattle.packet.specs.Data.{Uncoded, Coded, dataOf}
-use Rattle.codes.specs.Size.{longest}
+use Rattle.codes.specs.Steps.Size.{longest}
 use Rattle.packet.specs.Packet.{packetOf, headerFor}
 use Rattle.refusals.specs.Refusals.{writerTurn, First}
 

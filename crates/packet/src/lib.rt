@@ -3,7 +3,7 @@ use codes::Stored;
 use codes::Taken;
 use header::Format;
 use header::Header;
-use header::Typing;
+use header::WhichFormat;
 use mending::Mending;
 use refusals::Refusal;
 ghost use mathlib.Core.List.{_++_};
@@ -11,8 +11,8 @@ ghost use mathlib.Core.Path.{_≡_};
 ghost use Prim.Native.Nat.{_+_, _≤_, _<_};
 ghost use lib.ListN.{length, take, drop};
 ghost use Rattle.header.specs.Fields.{bytesOf};
-ghost use Rattle.checksum.specs.Checksum.{sent};
-ghost use Rattle.codes.specs.Size.{longest};
+ghost use Rattle.checksum.specs.Checksum.{checksumBytes};
+ghost use Rattle.codes.specs.Steps.Size.{longest};
 ghost use Rattle.header.specs.declared.Format.the-variants.{Open};
 ghost use Rattle.packet.specs.Reader.{Reads};
 ghost use Rattle.packet.specs.Packet.{packetOf, headerFor};
@@ -65,8 +65,8 @@ fn open(packet: &[u8]) -> Head
         return Head::Refused(Refusal::NoHeader);
     };
     let fields = Header::from_bits(bits);
-    let typing = fields.typing();
-    let Typing::Ours(format) = typing else {
+    let which = fields.format();
+    let WhichFormat::Ours(format) = which else {
         return Head::Refused(Refusal::OtherType);
     };
     let length = fields.length as usize;
@@ -201,7 +201,7 @@ fn put_header(header: u32, packet: &mut [u8])
 // The two checksum bytes of the n data bytes, behind them.
 fn put_sum(n: usize, packet: &mut [u8])
     requires { ⌜ (n ≤ longest) × (n + 6 ≤ length (now packet)) ⌝ }
-    ensures { λ r. ⌜ now (packet .exit) ≡ take (n + 4) (now (packet .entry)) ++ (sent (take n (drop 4 (now (packet .entry)))) ++ drop (n + 6) (now (packet .entry))) ⌝ }
+    ensures { λ r. ⌜ now (packet .exit) ≡ take (n + 4) (now (packet .entry)) ++ (checksumBytes (take n (drop 4 (now (packet .entry)))) ++ drop (n + 6) (now (packet .entry))) ⌝ }
 {
     let end = n + 4;
     let sum = checksum::checksum(&packet[4..end]);
@@ -225,8 +225,8 @@ fn put_frame(format: Format, sync: bool, n: usize, packet: &mut [u8])
 pub fn write(format: u8, sync: bool, text: &[u8], packet: &mut [u8]) -> WriteAnswer
     ensures { λ r. ⌜ Writes format sync (now (text .entry)) (now (packet .entry)) r (now (packet .exit)) ⌝ }
 {
-    let typing = Header::named(format);
-    let Typing::Ours(named) = typing else {
+    let which = Header::format_of(format);
+    let WhichFormat::Ours(named) = which else {
         return WriteAnswer::Refused(Refusal::OtherFormat);
     };
     if text.len() == 0 {

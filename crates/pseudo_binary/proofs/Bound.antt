@@ -8,10 +8,10 @@ use lib.Dec.{T}
 use lib.ListN.{length, replicate, length-replicate}
 use Rattle.codes.specs.Chain.{codes, Built}
 use Rattle.codes.specs.Pack.{low, numbers, written}
-use Rattle.codes.proofs.Every.{every}
-use Rattle.codes.proofs.Pack.{length-written}
-use Rattle.codes.proofs.Within.{sized, few-codes, short-text}
-use Rattle.pseudo_binary.specs.Table.{SLASH, slashes, of, indicator, most, indicators, six, tables, scheme}
+use Rattle.codes.proofs.EveryElement.{every}
+use Rattle.codes.proofs.BitsInBytes.{length-written}
+use Rattle.codes.proofs.SizeBounds.{sized, few-codes, short-text}
+use Rattle.pseudo_binary.specs.Table.{SLASH, slashes, isOf, indicator, most, indicators, six, tables, scheme}
 use Rattle.pseudo_binary.specs.Writer.{ours}
 use Rattle.pseudo_binary.proofs.Length.{width, each, takes, bitsAfter, ourBits}
 use Rattle.pseudo_binary.proofs.Characters.{alike-replicate}
@@ -36,7 +36,7 @@ built-most sent h b = omega (arith, built-bound sent b)
 
 -- and it may reach that: slashes alone, sixteen to an indicator
 slashes-bits : (n : ℕ) → length (codes (ours (replicate n SLASH))) ≡ 6 * ((n + 15) / 16)
-unfolding of most width each started takes bitsAfter ourBits
+unfolding isOf most width each started takes bitsAfter ourBits
 slashes-bits n =
     our-bits (replicate n SLASH)
     ∙ ap ourBits (sym (append-nil (replicate n SLASH)))

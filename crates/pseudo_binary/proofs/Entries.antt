@@ -6,9 +6,9 @@ use mathlib.Core.List.{List·Memᴰ·append-cases, Memᴰ·append-left, Memᴰ·
 use Prim.Native.Nat.{ℕ, suc, pred, _<_}
 use native.Mathlib.Nat.{add-zero}
 use native.Mathlib.Omega.{arith}
-use Rattle.codes.specs.Chain.{Entry, In, after}
+use Rattle.codes.specs.Chain.{Entry, In, stateAfter}
 use Rattle.codes.specs.Pack.{numbers}
-use Rattle.codes.proofs.Numbers.{in-numbers, numbers-in}
+use Rattle.codes.proofs.NumberRanges.{in-numbers, numbers-in}
 use Rattle.pseudo_binary.specs.Table.{Kind, values, spaces, slashes, indicator, most, indicators, six, tables}
 
 -- an indicator counts one at the least
@@ -57,6 +57,6 @@ six-of m h =
     (l .0, omega arith, sym (l .2))
 
 -- a value uses up one of those announced
-pub after-six : (m v : ℕ) → after (suc m) (six v) ≡ m
-unfolding after six
+pub after-six : (m v : ℕ) → stateAfter (suc m) (six v) ≡ m
+unfolding stateAfter six
 after-six m v = add-zero m

@@ -9,10 +9,10 @@ use native.Mathlib.Numerals.{unary-clauses}
 use native.Mathlib.Omega.{arith}
 use lib.ListN.{length, drop, replicate, length-replicate}
 use lib.Seq.{drop-at}
-use Rattle.codes.specs.Chain.{Entry, In, after, Row, codes, texts}
+use Rattle.codes.specs.Chain.{Entry, In, stateAfter, Row, codes, texts}
 use Rattle.codes.specs.Pack.{low}
-use Rattle.codes.proofs.Least.{Cost, cost-shortest}
-use Rattle.pseudo_binary.specs.Table.{SPACE, SLASH, Kind, values, spaces, slashes, of, characterOf, indicator, most, six, tables, scheme}
+use Rattle.codes.proofs.LeastCost.{Cost, cost-shortest}
+use Rattle.pseudo_binary.specs.Table.{SPACE, SLASH, Kind, values, spaces, slashes, isOf, characterOf, indicator, most, six, tables, scheme}
 use Rattle.pseudo_binary.specs.Writer.{ours, Alike}
 use Rattle.pseudo_binary.proofs.Length.{width, each, bitsAfter, ourBits}
 use Rattle.pseudo_binary.proofs.Characters.{alike-replicate, of-kind, characterOf-value}
@@ -24,7 +24,7 @@ record Room (k : Kind) (t : List ℕ) : Type 0 where
   more : (n m : ℕ) → m ≤ n → bitsAfter k n t ≤ bitsAfter k m t
   less : (n m : ℕ) → m ≤ most k → bitsAfter k n t ≤ width k + bitsAfter k m t
 
-room-cons : (k : Kind) (c : ℕ) (t : List ℕ) → Room k t → (b : Bool) → of k c ≡ b → Room k (c ∷ t)
+room-cons : (k : Kind) (c : ℕ) (t : List ℕ) → Room k t → (b : Bool) → isOf k c ≡ b → Room k (c ∷ t)
 room-cons k c t r false x = record {
   more = λ n m h. omega (arith, no-use k n c t x, no-use k m c t x);
   less = λ n m h. omega (arith, no-use k n c t x, no-use k m c t x);
@@ -49,7 +49,7 @@ room-cons k c t r true x = record { more = more; less = less }
 room : (k : Kind) (t : List ℕ) → Room k t
 unfolding bitsAfter
 room k [] = record { more = λ n m h. omega arith; less = λ n m h. omega arith }
-room k (c ∷ t) = room-cons k c t (room k t) (of k c) refl
+room k (c ∷ t) = room-cons k c t (room k t) (isOf k c) refl
 
 counted-cost : (k : Kind) (n : ℕ) (r t : List ℕ) → Alike k r → length r ≤ n → bitsAfter k n (r ++ t) ≤ each k * length r + ourBits t
 counted-cost k n [] t a h = omega (arith, room k t .more n 0 h, none-in-hand k t)
@@ -83,7 +83,7 @@ values-next zero es r = record { front = []; rest = texts es; all = refl; many =
 values-next (suc m) [] r = absurd (let no : ⊥ = omega arith in no)
 values-next (suc m) (e ∷ es) r =
     let s = six-of m (r .0) in
-    let next : Row scheme m es 0 = subst (λ (n : ℕ). Row scheme n es 0) (ap (after (suc m)) (s .2) ∙ after-six m (s .0)) (r .1) in
+    let next : Row scheme m es 0 = subst (λ (n : ℕ). Row scheme n es 0) (ap (stateAfter (suc m)) (s .2) ∙ after-six m (s .0)) (r .1) in
     let l : Announced m (texts es) = values-next m es next in
     record {
       front = characterOf (s .0) ∷ l .front;
@@ -113,33 +113,33 @@ values-still c t h l =
       l .many,
     )
 
-repeat-still : (k : Kind) (x c : ℕ) (t : List ℕ) → of k x ≡ true → c < most k
+repeat-still : (k : Kind) (x c : ℕ) (t : List ℕ) → isOf k x ≡ true → c < most k
     → ourBits (replicate (suc c) x ++ t) ≤ width k + (each k * suc c + ourBits t)
 repeat-still k x c t e h =
     subst (λ (n : ℕ). ourBits (replicate (suc c) x ++ t) ≤ width k + (each k * n + ourBits t)) (length-replicate (suc c) x)
     (indicator-cost k (replicate (suc c) x) t (alike-replicate k x (suc c) e) (omega arith) (omega (arith, length-replicate {A = ℕ} c x)))
 
-indicator-still : (k : Kind) (c : ℕ) (es : List Entry) → c < most k → Row scheme (after 0 (indicator k c)) es 0
-    → still 0 (indicator k c .says ++ texts es) ≤ length (indicator k c .code) + still (after 0 (indicator k c)) (texts es)
-unfolding still indicator after low width each most of
+indicator-still : (k : Kind) (c : ℕ) (es : List Entry) → c < most k → Row scheme (stateAfter 0 (indicator k c)) es 0
+    → still 0 (indicator k c .says ++ texts es) ≤ length (indicator k c .code) + still (stateAfter 0 (indicator k c)) (texts es)
+unfolding still indicator stateAfter low width each most isOf
 indicator-still values c es h r =
     simp zero-add (omega (arith, values-still c (texts es) h (values-next (suc c) es (simp zero-add at r))))
 indicator-still spaces c es h r = omega (arith, repeat-still spaces SPACE c (texts es) refl h)
 indicator-still slashes c es h r = omega (arith, repeat-still slashes SLASH c (texts es) refl h)
 
-six-still : (m v : ℕ) (t : List ℕ) → still (suc m) (six v .says ++ t) ≤ length (six v .code) + still (after (suc m) (six v)) t
+six-still : (m v : ℕ) (t : List ℕ) → still (suc m) (six v .says ++ t) ≤ length (six v .code) + still (stateAfter (suc m) (six v)) t
 unfolding still six low
 six-still m v t = rw after-six (omega arith)
 
-entry-still : (m : ℕ) (e : Entry) (es : List Entry) → In e (tables m) → Row scheme (after m e) es 0
-    → still m (e .says ++ texts es) ≤ length (e .code) + still (after m e) (texts es)
+entry-still : (m : ℕ) (e : Entry) (es : List Entry) → In e (tables m) → Row scheme (stateAfter m e) es 0
+    → still m (e .says ++ texts es) ≤ length (e .code) + still (stateAfter m e) (texts es)
 entry-still zero e es h r =
     let i = indicator-of h in
-    subst⁻¹ (λ (d : Entry). still 0 (d .says ++ texts es) ≤ length (d .code) + still (after 0 d) (texts es)) (i .3)
-    (indicator-still (i .0) (i .1) es (i .2) (subst (λ (d : Entry). Row scheme (after 0 d) es 0) (i .3) r))
+    subst⁻¹ (λ (d : Entry). still 0 (d .says ++ texts es) ≤ length (d .code) + still (stateAfter 0 d) (texts es)) (i .3)
+    (indicator-still (i .0) (i .1) es (i .2) (subst (λ (d : Entry). Row scheme (stateAfter 0 d) es 0) (i .3) r))
 entry-still (suc m) e es h r =
     let s = six-of m h in
-    subst⁻¹ (λ (d : Entry). still (suc m) (d .says ++ texts es) ≤ length (d .code) + still (after (suc m) d) (texts es)) (s .2)
+    subst⁻¹ (λ (d : Entry). still (suc m) (d .says ++ texts es) ≤ length (d .code) + still (stateAfter (suc m) d) (texts es)) (s .2)
     (six-still m (s .0) (texts es))
 
 cost : Cost scheme still

@@ -3,7 +3,7 @@
 use mathlib.Core.Bool.{Bool, false, cond}
 use mathlib.Core.List.{List, [], _∷_}
 use Prim.Native.Nat.{ℕ, zero, suc, pred, _+_}
-use Rattle.pseudo_binary.specs.Table.{Kind, values, spaces, slashes, of, most}
+use Rattle.pseudo_binary.specs.Table.{Kind, values, spaces, slashes, isOf, most}
 use Rattle.pseudo_binary.specs.Writer.{kind}
 
 -- the bits of an indicator
@@ -21,7 +21,7 @@ each slashes = 0
 -- an indicator of kind k that can count n characters more counts this one
 unfoldable pub takes : Kind → ℕ → ℕ → Bool
 takes k zero c = false
-takes k (suc n) c = of k c
+takes k (suc n) c = isOf k c
 
 -- the last indicator is of kind k and can count n characters more. A character that it does not count needs a new one
 unfoldable pub bitsAfter : Kind → ℕ → List ℕ → ℕ

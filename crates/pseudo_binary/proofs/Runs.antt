@@ -7,8 +7,8 @@ use Prim.Native.Nat.{ℕ, suc, _<_}
 use native.Mathlib.Nat.{zero-add}
 use lib.ListN.{replicate}
 use borrow.Author.Tests.{eqb-true}
-use Rattle.codes.specs.Chain.{Entry, after, Row, texts}
-use Rattle.pseudo_binary.specs.Table.{SPACE, SLASH, Kind, values, spaces, slashes, of, valueOf, indicator, most, six, scheme}
+use Rattle.codes.specs.Chain.{Entry, stateAfter, Row, texts}
+use Rattle.pseudo_binary.specs.Table.{SPACE, SLASH, Kind, values, spaces, slashes, isOf, valueOf, indicator, most, six, scheme}
 use Rattle.pseudo_binary.specs.Writer.{besides}
 use Rattle.pseudo_binary.proofs.Characters.{valueOf-back, valueOf-small}
 use Rattle.pseudo_binary.proofs.Entries.{indicator-in, six-in, after-six}
@@ -56,20 +56,20 @@ row-one values j c es h =
 row-one spaces j c es h = h
 row-one slashes j c es h = h
 
-says-one : (k : Kind) (j c : ℕ) (t : List ℕ) (es : List Entry) → of k c ≡ true → said k j ++ texts es ≡ t
+says-one : (k : Kind) (j c : ℕ) (t : List ℕ) (es : List Entry) → isOf k c ≡ true → said k j ++ texts es ≡ t
     → said k (suc j) ++ texts (besides k c ++ es) ≡ c ∷ t
-unfolding said besides six texts of
+unfolding said besides six texts isOf
 says-one values j c t es x h = ap₂ (λ (y : ℕ) (l : List ℕ). y ∷ l) (valueOf-back c x) h
 says-one spaces j c t es x h = ap₂ (λ (y : ℕ) (l : List ℕ). y ∷ l) (sym (eqb-true c SPACE x)) h
 says-one slashes j c t es x h = ap₂ (λ (y : ℕ) (l : List ℕ). y ∷ l) (sym (eqb-true c SLASH x)) h
 
-pub counted-one : {k : Kind} {j : ℕ} {t : List ℕ} {es : List Entry} (c : ℕ) → of k c ≡ true → Counted k j t es
+pub counted-one : {k : Kind} {j : ℕ} {t : List ℕ} {es : List Entry} (c : ℕ) → isOf k c ≡ true → Counted k j t es
     → Counted k (suc j) (c ∷ t) (besides k c ++ es)
 counted-one {k} {j} {t} {es} c x h = record { row = row-one k j c es (h .row); says = says-one k j c t es x (h .says) }
 
 -- the indicator itself
-after-indicator : (k : Kind) (j : ℕ) → after 0 (indicator k j) ≡ announced k (suc j)
-unfolding announced indicator after
+after-indicator : (k : Kind) (j : ℕ) → stateAfter 0 (indicator k j) ≡ announced k (suc j)
+unfolding announced indicator stateAfter
 after-indicator values j = zero-add (suc j)
 after-indicator spaces j = refl
 after-indicator slashes j = refl

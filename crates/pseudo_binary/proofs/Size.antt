@@ -9,7 +9,7 @@ use native.Mathlib.Omega.{arith}
 use lib.ListN.{length, length-append}
 use Rattle.codes.specs.Chain.{Entry, codes}
 use Rattle.codes.specs.Pack.{low}
-use Rattle.pseudo_binary.specs.Table.{Kind, values, spaces, slashes, of, indicator, most, six}
+use Rattle.pseudo_binary.specs.Table.{Kind, values, spaces, slashes, isOf, indicator, most, six}
 use Rattle.pseudo_binary.specs.Writer.{kind, run, besides, oursAfter, ours, Alike}
 use Rattle.pseudo_binary.proofs.Length.{width, each, takes, bitsAfter, ourBits}
 use Rattle.pseudo_binary.proofs.Characters.{Other, of-kind}
@@ -42,7 +42,7 @@ after-bits k zero (c ∷ t) =
     let j : Kind = kind c in
     let m : ℕ = run j (pred (most j)) t in
     opened-bits j m c (oursAfter m t) ∙ ap (λ (x : ℕ). width j + (each j + x)) (after-bits j (pred (most j)) t)
-after-bits k (suc n) (c ∷ t) = pick (of k c) refl (after-bits k n t) (after-bits (kind c) (pred (most (kind c))) t)
+after-bits k (suc n) (c ∷ t) = pick (isOf k c) refl (after-bits k n t) (after-bits (kind c) (pred (most (kind c))) t)
   where
     j : Kind
     j = kind c
@@ -50,7 +50,7 @@ after-bits k (suc n) (c ∷ t) = pick (of k c) refl (after-bits k n t) (after-bi
     m : ℕ
     m = run j (pred (most j)) t
 
-    pick : (b : Bool) → of k c ≡ b → length (codes (oursAfter (run k n t) t)) ≡ bitsAfter k n t
+    pick : (b : Bool) → isOf k c ≡ b → length (codes (oursAfter (run k n t) t)) ≡ bitsAfter k n t
         → length (codes (oursAfter m t)) ≡ bitsAfter j (pred (most j)) t
         → length (codes (oursAfter (cond b (suc (run k n t)) 0) (c ∷ t)))
         ≡ cond b (each k + bitsAfter k n t) (width j + (each j + bitsAfter j (pred (most j)) t))
@@ -75,12 +75,12 @@ unfolding takes bitsAfter ourBits
 opens k c t e = ap (λ (j : Kind). width j + (each j + bitsAfter j (pred (most j)) t)) e
 
 -- one that can count more counts a character of its kind, and is of no use for another
-pub counts : (k : Kind) (n c : ℕ) (t : List ℕ) → of k c ≡ true → bitsAfter k (suc n) (c ∷ t) ≡ each k + bitsAfter k n t
+pub counts : (k : Kind) (n c : ℕ) (t : List ℕ) → isOf k c ≡ true → bitsAfter k (suc n) (c ∷ t) ≡ each k + bitsAfter k n t
 unfolding takes bitsAfter
 counts k n c t x =
     ap (λ (b : Bool). cond b (each k + bitsAfter k n t) (width (kind c) + (each (kind c) + bitsAfter (kind c) (pred (most (kind c))) t))) x
 
-pub no-use : (k : Kind) (n c : ℕ) (t : List ℕ) → of k c ≡ false → bitsAfter k n (c ∷ t) ≡ ourBits (c ∷ t)
+pub no-use : (k : Kind) (n c : ℕ) (t : List ℕ) → isOf k c ≡ false → bitsAfter k n (c ∷ t) ≡ ourBits (c ∷ t)
 unfolding takes bitsAfter ourBits
 no-use k zero c t x = refl
 no-use k (suc n) c t x =

@@ -4,12 +4,12 @@ use Prim.Native.Nat.{ℕ, zero, suc}
 use lib.Dec.{T}
 use Rattle.bits.specs.Word.{bit}
 use Rattle.codes.specs.Pack.{low, numbers}
-use Rattle.codes.proofs.Every.{every}
-use Rattle.codes.proofs.Begin.{begun}
+use Rattle.codes.proofs.EveryElement.{every}
+use Rattle.codes.proofs.Beginning.{begun}
 use Rattle.codes.proofs.Fill.{fills}
-use Rattle.codes.proofs.Laws.{Laws, parted, apart, unfilled, tested}
-use Rattle.codes.proofs.Speaks.{Speaks, heard, said, speaks}
-use Rattle.codes.proofs.Pack.{binary}
+use Rattle.codes.proofs.SchemeLaws.{Laws, parted, apart, unfilled, tested}
+use Rattle.codes.proofs.NonemptyText.{Speaks, heard, said, speaks}
+use Rattle.codes.proofs.BitsInBytes.{binary}
 use Rattle.pseudo_binary.specs.Table.{indicator, most, indicators, six, tables, scheme}
 
 all-apart : (m : ℕ) → T (apart (tables m))

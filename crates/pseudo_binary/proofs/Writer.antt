@@ -8,16 +8,17 @@ use Prim.Native.Nat.{ℕ, zero, suc, pred, _≤_, _<_}
 use native.Mathlib.Omega.{arith}
 use lib.Dec.{T, lit<}
 use lib.ListN.{length}
+use Rattle.codes.specs.Coded.{alone}
 use Rattle.codes.specs.Chain.{Entry, Row, codes, texts}
 use Rattle.codes.specs.Pack.{numbers}
-use Rattle.codes.proofs.Coded.{coded-rest}
-use Rattle.codes.proofs.Every.{every}
-use Rattle.codes.proofs.Given.{Agrees, agrees}
-use Rattle.codes.proofs.Pack.{gap-few}
-use Rattle.codes.proofs.Writing as writing
-use Rattle.codes.proofs.Writing.{spells, Writer, Writes}
-use Rattle.pseudo_binary.specs.Table.{Kind, values, of, coded, Coded, characterOf, indicator, most, indicators, six, tables, scheme}
-use Rattle.pseudo_binary.specs.Writer.{kind, run, besides, oursAfter, ours, Alike}
+use Rattle.codes.proofs.CodedTexts.{coded-rest}
+use Rattle.codes.proofs.EveryElement.{every}
+use Rattle.codes.proofs.ReadingAgrees.{Agrees, agrees}
+use Rattle.codes.proofs.BitsInBytes.{gap-few}
+use Rattle.codes.proofs.WriterLaws as writing
+use Rattle.codes.proofs.WriterLaws.{spells, row-coded, WriterFacts, WriterLaws}
+use Rattle.pseudo_binary.specs.Table.{Kind, values, isOf, coded, AllCoded, characterOf, indicator, most, indicators, six, tables, scheme}
+use Rattle.pseudo_binary.specs.Writer.{comesBack, kind, run, besides, oursAfter, ours, Alike}
 use Rattle.pseudo_binary.proofs.Table.{laws, sounds, all-bits}
 use Rattle.pseudo_binary.proofs.Characters.{Other, of-kind, kind-of}
 use Rattle.pseudo_binary.proofs.Entries.{pred-most}
@@ -29,7 +30,7 @@ pub run-le : (k : Kind) (n : ℕ) (t : List ℕ) → run k n t ≤ n
 unfolding run
 run-le k zero t = omega arith
 run-le k (suc n) [] = omega arith
-run-le k (suc n) (c ∷ t) = pick (of k c) (run-le k n t)
+run-le k (suc n) (c ∷ t) = pick (isOf k c) (run-le k n t)
   where
     pick : (b : Bool) → run k n t ≤ n → cond b (suc (run k n t)) 0 ≤ suc n
     pick true h = omega arith
@@ -46,28 +47,28 @@ follows-new k c t u h =
     counted-all k (omega (arith, run-le (kind c) (pred (most (kind c))) t, pred-most (kind c)))
     (counted-one c (kind-of (kind c) c u refl) h)
 
-follows : (k : Kind) (n : ℕ) (t : List ℕ) → Coded t → Follows k n t
+follows : (k : Kind) (n : ℕ) (t : List ℕ) → AllCoded t → Follows k n t
 unfolding run oursAfter texts
 follows k zero [] u = counted-none k refl refl
 follows k (suc n) [] u = counted-none k refl refl
 follows k zero (c ∷ t) u =
     follows-new k c t (u 0 (omega arith)) (follows (kind c) (pred (most (kind c))) t (coded-rest coded c t u))
 follows k (suc n) (c ∷ t) u =
-    let rest : Coded t = coded-rest coded c t u in
-    pick (of k c) refl (follows k n t rest) (follows (kind c) (pred (most (kind c))) t rest)
+    let rest : AllCoded t = coded-rest coded c t u in
+    pick (isOf k c) refl (follows k n t rest) (follows (kind c) (pred (most (kind c))) t rest)
   where
-    pick : (b : Bool) → of k c ≡ b → Follows k n t → Follows (kind c) (pred (most (kind c))) t
+    pick : (b : Bool) → isOf k c ≡ b → Follows k n t → Follows (kind c) (pred (most (kind c))) t
         → Counted k (cond b (suc (run k n t)) 0) (c ∷ t) (oursAfter (cond b (suc (run k n t)) 0) (c ∷ t))
     pick true x h g =
         subst⁻¹ (λ (l : Kind). Counted k (suc (run k n t)) (c ∷ t) (besides l c ++ oursAfter (run k n t) t)) (of-kind k c x)
         (counted-one c x h)
     pick false x h g = follows-new k c t (u 0 (omega arith)) g
 
-pub ours-row : (t : List ℕ) → Coded t → Row scheme 0 (ours t) 0
+pub ours-row : (t : List ℕ) → AllCoded t → Row scheme 0 (ours t) 0
 unfolding ours run announced
 ours-row t u = follows values 0 t u .row
 
-pub ours-says : (t : List ℕ) → Coded t → texts (ours t) ≡ t
+pub ours-says : (t : List ℕ) → AllCoded t → texts (ours t) ≡ t
 unfolding ours run said
 ours-says t u = follows values 0 t u .says
 
@@ -106,26 +107,26 @@ ours-cut k c r t a h e =
 
 -- what the writer has, and what follows of it
 all-spell : (m : ℕ) → T (every (spells coded) (tables m))
-unfolding of coded characterOf indicator most indicators six tables numbers every spells
+unfolding isOf coded characterOf indicator most indicators six tables numbers every spells
 all-spell zero = tt
 all-spell (suc m) = tt
 
-writer : Writer scheme coded (λ t. t) ours
+writer : WriterFacts scheme (alone coded) comesBack ours
 writer = record {
   row = ours-row;
   closes = λ t h. gap-few (length (codes (ours t)));
   says = ours-says;
   shortest = λ t h es r x says. shortest t es r says;
   kept = λ es r x. refl;
+  coded = row-coded scheme coded all-spell 0 0;
   all-bits = all-bits;
-  all-spell = all-spell;
   sounds = sounds;
   few = lit< tt;
 }
 
-pub writes : Writes scheme coded (λ t. t) ours
-writes = writing.writes writer
+pub writer-laws : WriterLaws scheme (alone coded) comesBack ours
+writer-laws = writing.writer-laws writer
 
 -- what reading gives, and what a maker may build, agree
-pub agree : Agrees scheme
-agree = agrees laws
+pub reading-agrees : Agrees scheme
+reading-agrees = agrees laws

@@ -7,7 +7,7 @@ use lib.Dec.{leb, eqb}
 use lib.ListN.{length, replicate}
 use Rattle.codes.specs.Chain.{Entry, Scheme}
 use Rattle.codes.specs.Pack.{low, numbers}
-use Rattle.codes.specs.Size
+use Rattle.codes.specs.Coded.{alone, CodedBelow}
 
 abbrev pub SPACE : ℕ
 SPACE = 32
@@ -22,18 +22,18 @@ pub data Kind : Type 0 where
   slashes : Kind
 
 -- the characters of each kind: 64 to 127, space, slash
-unfoldable pub of : Kind → ℕ → Bool
-of values c = leb 64 c && leb c 127
-of spaces c = eqb c SPACE
-of slashes c = eqb c SLASH
+unfoldable pub isOf : Kind → ℕ → Bool
+isOf values c = leb 64 c && leb c 127
+isOf spaces c = eqb c SPACE
+isOf slashes c = eqb c SLASH
 
 -- the character has a code
 unfoldable pub coded : ℕ → Bool
-coded c = of values c || (of spaces c || of slashes c)
+coded c = isOf values c || (isOf spaces c || isOf slashes c)
 
 -- each character of the text has a code
-abbrev pub Coded : List ℕ → Type 0
-Coded text = Size.Coded coded text (length text)
+abbrev pub AllCoded : List ℕ → Type 0
+AllCoded text = CodedBelow (alone coded) text (length text)
 
 -- the value of a character is its low six bits
 unfoldable pub valueOf : ℕ → ℕ

@@ -5,17 +5,17 @@ use mathlib.Core.Bool.{true, cond}
 use mathlib.Core.List.{List, [], _∷_, _++_}
 use Prim.Native.Nat.{ℕ, zero, suc, pred}
 use Rattle.codes.specs.Chain.{Entry}
-use Rattle.pseudo_binary.specs.Table.{Kind, values, spaces, slashes, of, valueOf, indicator, most, six}
+use Rattle.pseudo_binary.specs.Table.{Kind, values, spaces, slashes, isOf, valueOf, indicator, most, six}
 
 -- the kind of a character that has a code
 unfoldable pub kind : ℕ → Kind
-kind c = cond (of spaces c) spaces (cond (of slashes c) slashes values)
+kind c = cond (isOf spaces c) spaces (cond (isOf slashes c) slashes values)
 
 -- how many characters at the front of the text are of kind k, counted up to n
 unfoldable pub run : Kind → ℕ → List ℕ → ℕ
 run k zero text = 0
 run k (suc n) [] = 0
-run k (suc n) (c ∷ text) = let counted = suc (run k n text) in cond (of k c) counted 0
+run k (suc n) (c ∷ text) = let counted = suc (run k n text) in cond (isOf k c) counted 0
 
 -- what a character takes besides the indicator that counts it: a value its six bits, a space or a slash nothing
 unfoldable pub besides : Kind → ℕ → List Entry
@@ -37,7 +37,11 @@ oursAfter (suc n) (c ∷ text) = besides (kind c) c ++ oursAfter n text
 unfoldable pub ours : List ℕ → List Entry
 ours text = oursAfter 0 text
 
+-- what a text comes back as: itself
+abbrev pub comesBack : List ℕ → List ℕ
+comesBack text = text
+
 -- each character is of kind k
 abbrev pub Alike : Kind → List ℕ → Type 0
 Alike k [] = Unit {0}
-Alike k (c ∷ r) = (of k c ≡ true) × Alike k r
+Alike k (c ∷ r) = (isOf k c ≡ true) × Alike k r

@@ -9,20 +9,20 @@ use lib.Dec.{lit≤}
 use lib.ListN.{length, take, drop, replicate, length-append}
 use lib.Seq.{drop-at}
 use Rattle.bits.specs.Word.{bit}
-use Rattle.codes.specs.Ahead.{Window}
+use Rattle.codes.specs.Steps.BitBuffer.{Window}
 use Rattle.codes.specs.Chain.{Entry}
 use Rattle.codes.specs.Pack.{Binary, low, value}
-use Rattle.codes.proofs.Ahead.{window-begins, begins-window}
-use Rattle.codes.proofs.Low.{low-mod, low-add, low-value}
-use Rattle.codes.proofs.Reading.{Halts}
+use Rattle.codes.proofs.BitBuffer.{window-begins, begins-window}
+use Rattle.codes.proofs.LowBits.{low-mod, low-add, low-value}
+use Rattle.codes.proofs.OneReading.{Halts}
 use Rattle.pseudo_binary.specs.Table.{SPACE, SLASH, Kind, values, spaces, slashes, indicator, most, scheme}
-use Rattle.pseudo_binary_reader.specs.Taken.{Nine, Takes}
+use Rattle.pseudo_binary_reader.specs.Steps.Taken.{Nine, FirstIndicator}
 use Rattle.pseudo_binary_reader.specs.declared.Indicator.{Indicator}
 use Rattle.pseudo_binary.proofs.Entries.{indicator-in}
 use Rattle.pseudo_binary.proofs.Table.{laws}
 
 pub takes-values : (w : ℕ) → w < 512 → 256 ≤ w
-    → Takes w (record { width = 8; values = w / 2 % 128 + 1; count = 0; character = 0 })
+    → FirstIndicator w (record { width = 8; values = w / 2 % 128 + 1; count = 0; character = 0 })
 unfolding indicator most low bit
 takes-values w h k = record {
   entry = indicator values (w / 2 % 128);
@@ -53,7 +53,7 @@ six-bits w a b x y =
 
 takes-repeat : (k : Kind) (character w a b : ℕ) → w / 8 / 32 % 2 ≡ a → w / 8 / 16 % 2 ≡ b → most k ≡ 16
     → ((c : ℕ) → indicator k c ≡ record { code = a ∷ b ∷ low 4 c; says = replicate (suc c) character; announces = 0 })
-    → {n : ℕ} → n ≡ w / 8 % 16 + 1 → Takes w (record { width = 6; values = 0; count = n; character = character })
+    → {n : ℕ} → n ≡ w / 8 % 16 + 1 → FirstIndicator w (record { width = 6; values = 0; count = n; character = character })
 unfolding low
 takes-repeat k character w a b x y m e {n} count = record {
   entry = indicator k (w / 8 % 16);
@@ -70,12 +70,12 @@ takes-repeat k character w a b x y m e {n} count = record {
   many = lit≤ tt;
 }
 
-pub takes-spaces : (w : ℕ) {n : ℕ} → w < 128 → n ≡ w / 8 % 16 + 1 → Takes w (record { width = 6; values = 0; count = n; character = SPACE })
+pub takes-spaces : (w : ℕ) {n : ℕ} → w < 128 → n ≡ w / 8 % 16 + 1 → FirstIndicator w (record { width = 6; values = 0; count = n; character = SPACE })
 unfolding indicator most
 takes-spaces w h count = takes-repeat spaces SPACE w 0 0 (omega arith) (omega arith) refl (λ c. refl) count
 
 pub takes-slashes : (w : ℕ) {n : ℕ} → 128 ≤ w → w < 256 → n ≡ w / 8 % 16 + 1
-    → Takes w (record { width = 6; values = 0; count = n; character = SLASH })
+    → FirstIndicator w (record { width = 6; values = 0; count = n; character = SLASH })
 unfolding indicator most
 takes-slashes w h k count = takes-repeat slashes SLASH w 0 1 (omega arith) (omega arith) refl (λ c. refl) count
 
@@ -92,7 +92,7 @@ module _ (bs : List ℕ) (binary : Binary bs) (w : ℕ) (v : Nine bs w) where
   window : Window held (length bs) w
   window = record { nine = v .nine ∙ ap (λ (l : List ℕ). take 9 (l ++ replicate 9 1)) (sym same); small = v .small }
 
-  module _ (r : Indicator) (k : Takes w r) where
+  module _ (r : Indicator) (k : FirstIndicator w r) where
     -- the indicator of the nine bits is the next to be read, if its bits are there
     pub next-indicator : r .width ≤ length bs → bs ≡ k .entry .code ++ drop (r .width) bs
     next-indicator there =

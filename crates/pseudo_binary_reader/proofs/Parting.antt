@@ -7,7 +7,7 @@ use native.Mathlib.Omega.{arith}
 use lib.Bits.{bitAnd, and-block, and-high}
 use lib.Dec.{lit<}
 use Rattle.pseudo_binary.specs.Table.{characterOf}
-use Rattle.pseudo_binary_reader.specs.Taken.{Spread}
+use Rattle.pseudo_binary_reader.specs.Steps.Taken.{Spread}
 
 -- what holds of 0, of 1, .. holds of each number below n
 abbrev pub Each : ℕ → (ℕ → Type 0) → Type 0

@@ -5,8 +5,8 @@ use mathlib.Core.List.{List, [], _∷_}
 use Prim.Native.Nat.{ℕ, _+_, _≤_, _<_}
 use native.Mathlib.Omega.{arith}
 use lib.ListN.{length, replicate, set, length-replicate, replicate-append-replicate}
-use Rattle.codes.specs.Laid.{laid}
-use Rattle.codes.proofs.Laid.{laid-laid, length-laid, set-laid}
+use Rattle.codes.specs.Steps.Laid.{laid}
+use Rattle.codes.proofs.LaidRows.{laid-laid, length-laid, set-laid}
 
 -- the character stands in the buffer k times from place n on
 module _ (entry out : List ℕ) (n k x : ℕ) (so-far : out ≡ laid entry n (replicate k x)) where

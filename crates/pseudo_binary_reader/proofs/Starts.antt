@@ -12,16 +12,16 @@ use lib.ListN.{length, take, drop, getD, replicate, length-append, length-drop}
 use lib.Pow.{field, shl-shr, shr-shr}
 use lib.Seq.{take-at, drop-at, drop-drop, take-append-le}
 use Rattle.bits.specs.Row.{bits}
-use Rattle.codes.specs.Ahead.{ahead, Window}
+use Rattle.codes.specs.Steps.BitBuffer.{ahead, Window}
 use Rattle.codes.specs.Chain.{Fill}
 use Rattle.codes.specs.Pack.{low}
-use Rattle.codes.specs.Words.{eightAt}
+use Rattle.codes.specs.Steps.EightBytes.{eightAt}
 use Rattle.codes.specs.declared.Buffer.{Buffer}
-use Rattle.codes.proofs.Ahead.{ahead-byte, ahead-last}
-use Rattle.codes.proofs.Low.{length-low, low-mod, low-add}
-use Rattle.codes.proofs.Pack.{length-bits, drop-bits}
-use Rattle.codes.proofs.Words.{eight-bits}
-use Rattle.pseudo_binary_reader.specs.Taken.{Starts, Nine, Top}
+use Rattle.codes.proofs.BitBuffer.{ahead-byte, ahead-last}
+use Rattle.codes.proofs.LowBits.{length-low, low-mod, low-add}
+use Rattle.codes.proofs.BitsInBytes.{length-bits, drop-bits}
+use Rattle.codes.proofs.EightBytes.{eight-bits}
+use Rattle.pseudo_binary_reader.specs.Steps.Taken.{Starts, Nine, Top}
 
 module _ (s : List ℕ) (held have next : ℕ) where
   -- how much there is

@@ -10,16 +10,16 @@ use native.Mathlib.Omega.{arith}
 use lib.ListN.{length, drop, replicate, length-append, length-drop, length-replicate}
 use lib.Seq.{drop-drop}
 use Rattle.bits.specs.Row.{bits}
-use Rattle.codes.specs.Chain.{Fill, after, Stuck}
-use Rattle.codes.specs.Laid.{laid, Readable}
+use Rattle.codes.specs.Chain.{Fill, stateAfter, Stuck}
+use Rattle.codes.specs.Steps.Laid.{laid, Readable}
 use Rattle.codes.specs.Pack.{Binary}
-use Rattle.codes.specs.Passed.{Passed, Counting, Laying}
-use Rattle.codes.proofs.Laying.{counting-more, laying-more, laying-within}
-use Rattle.codes.proofs.Pack.{binary-drop, bits-binary, length-bits}
-use Rattle.codes.proofs.Passed.{passed-more, passed-stuck}
-use Rattle.codes.proofs.Reading.{stuck-here, never-both}
+use Rattle.codes.specs.Steps.Passed.{Passed, CountedSoFar, LaidSoFar}
+use Rattle.codes.proofs.ReadSoFar.{counting-more, laying-more, laying-within}
+use Rattle.codes.proofs.BitsInBytes.{binary-drop, bits-binary, length-bits}
+use Rattle.codes.proofs.PassedEntries.{passed-more, passed-stuck}
+use Rattle.codes.proofs.OneReading.{stuck-here, never-both}
 use Rattle.pseudo_binary.specs.Table.{scheme}
-use Rattle.pseudo_binary_reader.specs.Taken.{Nine, Takes, characters, saying}
+use Rattle.pseudo_binary_reader.specs.Steps.Taken.{Nine, FirstIndicator, characters, saying}
 use Rattle.pseudo_binary_reader.specs.declared.Indicator.{Indicator}
 use Rattle.pseudo_binary_reader.proofs.First.{next-indicator, no-indicator}
 use Rattle.pseudo_binary.proofs.Table.{laws}
@@ -28,7 +28,7 @@ use Rattle.pseudo_binary_reader.proofs.Values.{length-characters, passe
 
 -- what was said up to bit `at` stands at the front of the buffer that was given, n characters
 abbrev pub Stands : List ℕ → List ℕ → List ℕ → ℕ → ℕ → Type 0
-Stands s entry out at n = (n ≤ length entry) × Laying scheme (bits s) (drop at (bits s)) entry out 0 n
+Stands s entry out at n = (n ≤ length entry) × LaidSoFar scheme (bits s) (drop at (bits s)) entry out 0 n
 
 -- how much follows a bit
 pub length-left : (s : List ℕ) (at : ℕ) → length (drop at (bits s)) ≡ length s * 8 - at
@@ -37,10 +37,10 @@ length-left s at = length-drop at (bits s) ∙ ap (λ (n : ℕ). n - at) (length
 left-binary : (s : List ℕ) (at : ℕ) → Binary (drop at (bits s))
 left-binary s at = binary-drop at (bits s) (bits-binary s)
 
-module _ (s : List ℕ) (at : ℕ) (inside : at ≤ length s * 8) (w : ℕ) (v : Nine (drop at (bits s)) w) (r : Indicator) (k : Takes w r) (said : List ℕ) (p : Passed scheme (bits s) 0 (drop at (bits s)) said) where
+module _ (s : List ℕ) (at : ℕ) (inside : at ≤ length s * 8) (w : ℕ) (v : Nine (drop at (bits s)) w) (r : Indicator) (k : FirstIndicator w r) (said : List ℕ) (p : Passed scheme (bits s) 0 (drop at (bits s)) said) where
   pub passed-indicator : r .width ≤ length s * 8 - at
       → Passed scheme (bits s) (r .values) (drop (at + r .width) (bits s)) (said ++ replicate (r .count) (r .character))
-  unfolding after
+  unfolding stateAfter
   passed-indicator there =
       subst⁻¹ (λ (n : ℕ). Passed scheme (bits s) n (drop (at + r .width) (bits s)) (said ++ replicate (r .count) (r .character)))
       (k .announces ∙ sym (zero-add (k .entry .announces)))
@@ -83,21 +83,21 @@ length-saying r bs =
     length-append (replicate (r .count) (r .character)) (characters (r .values) bs)
     ∙ ap₂ (λ (m n : ℕ). m + n) (length-replicate (r .count) (r .character)) (length-characters (r .values) bs)
 
-pub counting-run : (s : List ℕ) (at : ℕ) → at ≤ length s * 8 → (w : ℕ) → Nine (drop at (bits s)) w → (r : Indicator) → Takes w r
-    → (n : ℕ) → Counting scheme (bits s) (drop at (bits s)) n → r .width + r .values * 6 ≤ length s * 8 - at
-    → Counting scheme (bits s) (drop (at + (r .width + r .values * 6)) (bits s)) (n + (r .count + r .values))
+pub counting-run : (s : List ℕ) (at : ℕ) → at ≤ length s * 8 → (w : ℕ) → Nine (drop at (bits s)) w → (r : Indicator) → FirstIndicator w r
+    → (n : ℕ) → CountedSoFar scheme (bits s) (drop at (bits s)) n → r .width + r .values * 6 ≤ length s * 8 - at
+    → CountedSoFar scheme (bits s) (drop (at + (r .width + r .values * 6)) (bits s)) (n + (r .count + r .values))
 counting-run s at inside w v r k n c there =
     let rest : List ℕ = drop (at + r .width) (bits s) in
     counting-more c (saying r rest) (length-saying r rest) (passed-run s at inside w v r k (c .said) (c .passed) there)
 
 -- one that announces no values
-pub counting-plain : (s : List ℕ) (at : ℕ) → at ≤ length s * 8 → (w : ℕ) → Nine (drop at (bits s)) w → (r : Indicator) → Takes w r
-    → (n : ℕ) → Counting scheme (bits s) (drop at (bits s)) n → r .values ≡ 0 → r .width ≤ length s * 8 - at
-    → Counting scheme (bits s) (drop (at + r .width) (bits s)) (n + r .count)
+pub counting-plain : (s : List ℕ) (at : ℕ) → at ≤ length s * 8 → (w : ℕ) → Nine (drop at (bits s)) w → (r : Indicator) → FirstIndicator w r
+    → (n : ℕ) → CountedSoFar scheme (bits s) (drop at (bits s)) n → r .values ≡ 0 → r .width ≤ length s * 8 - at
+    → CountedSoFar scheme (bits s) (drop (at + r .width) (bits s)) (n + r .count)
 counting-plain s at inside w v r k n c none there =
-    subst (λ (m : ℕ). Counting scheme (bits s) (drop (at + r .width) (bits s)) m)
+    subst (λ (m : ℕ). CountedSoFar scheme (bits s) (drop (at + r .width) (bits s)) m)
     (let x : n + (r .count + r .values) ≡ n + r .count = omega arith in x)
-    (subst (λ (m : ℕ). Counting scheme (bits s) (drop m (bits s)) (n + (r .count + r .values)))
+    (subst (λ (m : ℕ). CountedSoFar scheme (bits s) (drop m (bits s)) (n + (r .count + r .values)))
     (let x : at + (r .width + r .values * 6) ≡ at + r .width = omega arith in x)
     (counting-run s at inside w v r k n c (omega arith)))
 
@@ -106,34 +106,34 @@ pub record Whole (s : List ℕ) (at : ℕ) (r : Indicator) (entry out : List ℕ
   pub there : r .width + r .values * 6 ≤ length s * 8 - at
   pub room : n + (r .count + r .values) ≤ length entry
   pub next : (exit : List ℕ) → exit ≡ laid out n (saying r (drop (at + r .width) (bits s)))
-      → Laying scheme (bits s) (drop (at + (r .width + r .values * 6)) (bits s)) entry exit 0 (n + (r .count + r .values))
+      → LaidSoFar scheme (bits s) (drop (at + (r .width + r .values * 6)) (bits s)) entry exit 0 (n + (r .count + r .values))
 
 -- one that announces no values
 pub whole-plain : (s : List ℕ) (at : ℕ) (r : Indicator) (entry out : List ℕ) (n : ℕ) → Whole s at r entry out n → r .values ≡ 0
     → (exit : List ℕ) → exit ≡ laid out n (replicate (r .count) (r .character))
-    → Laying scheme (bits s) (drop (at + r .width) (bits s)) entry exit 0 (n + r .count)
+    → LaidSoFar scheme (bits s) (drop (at + r .width) (bits s)) entry exit 0 (n + r .count)
 whole-plain s at r entry out n w none exit e =
-    subst (λ (k : ℕ). Laying scheme (bits s) (drop (at + r .width) (bits s)) entry exit 0 k)
+    subst (λ (k : ℕ). LaidSoFar scheme (bits s) (drop (at + r .width) (bits s)) entry exit 0 k)
     (let x : n + (r .count + r .values) ≡ n + r .count = omega arith in x)
-    (subst (λ (k : ℕ). Laying scheme (bits s) (drop k (bits s)) entry exit 0 (n + (r .count + r .values)))
+    (subst (λ (k : ℕ). LaidSoFar scheme (bits s) (drop k (bits s)) entry exit 0 (n + (r .count + r .values)))
     (let x : at + (r .width + r .values * 6) ≡ at + r .width = omega arith in x)
     (w .next exit (run-plain out exit (drop (at + r .width) (bits s)) n (r .count) (r .character) (r .values) none e)))
 
 -- one that announces some
 pub whole-values : (s : List ℕ) (at : ℕ) (r : Indicator) (entry out : List ℕ) (n : ℕ) → Whole s at r entry out n → (r .count ≡ 0) × (r .width ≡ 8)
     → (exit : List ℕ) → exit ≡ laid out n (characters (r .values) (drop (at + 8) (bits s)))
-    → Laying scheme (bits s) (drop (at + (8 + r .values * 6)) (bits s)) entry exit 0 (n + r .values)
+    → LaidSoFar scheme (bits s) (drop (at + (8 + r .values * 6)) (bits s)) entry exit 0 (n + r .values)
 whole-values s at r entry out n w silent exit e =
     let said : ℕ → ℕ → List ℕ = λ k m. laid out n (replicate k (r .character) ++ characters (r .values) (drop (at + m) (bits s))) in
-    subst (λ (k : ℕ). Laying scheme (bits s) (drop (at + (8 + r .values * 6)) (bits s)) entry exit 0 k)
+    subst (λ (k : ℕ). LaidSoFar scheme (bits s) (drop (at + (8 + r .values * 6)) (bits s)) entry exit 0 k)
     (let x : n + (r .count + r .values) ≡ n + r .values = omega (arith, silent .0) in x)
-    (subst (λ (k : ℕ). Laying scheme (bits s) (drop k (bits s)) entry exit 0 (n + (r .count + r .values)))
+    (subst (λ (k : ℕ). LaidSoFar scheme (bits s) (drop k (bits s)) entry exit 0 (n + (r .count + r .values)))
     (let x : at + (r .width + r .values * 6) ≡ at + (8 + r .values * 6) = omega (arith, silent .1) in x)
     (w .next exit (e ∙ ap₂ said (sym (silent .0)) (sym (silent .1)))))
 
 -- so it is where the whole can be read and does not end here
-module _ (s : List ℕ) (at : ℕ) (inside : at ≤ length s * 8) (w : ℕ) (v : Nine (drop at (bits s)) w) (r : Indicator) (k : Takes w r)
-    (entry out : List ℕ) (n : ℕ) (y : Laying scheme (bits s) (drop at (bits s)) entry out 0 n) (f : Readable scheme (bits s) (length entry))
+module _ (s : List ℕ) (at : ℕ) (inside : at ≤ length s * 8) (w : ℕ) (v : Nine (drop at (bits s)) w) (r : Indicator) (k : FirstIndicator w r)
+    (entry out : List ℕ) (n : ℕ) (y : LaidSoFar scheme (bits s) (drop at (bits s)) entry out 0 n) (f : Readable scheme (bits s) (length entry))
     (none : Fill 7 (drop at (bits s)) → ⊥) (fits : n ≤ length entry) where
   there : r .width + r .values * 6 ≤ length s * 8 - at
   there =
@@ -143,7 +143,7 @@ module _ (s : List ℕ) (at : ℕ) (inside : at ≤ length s * 8) (w : ℕ) (v :
       (stuck-value s at inside w v r k (y .said) (y .passed) (length s * 8 - at - r .width) (omega arith) (omega arith) {place = length s * 8 - (length s * 8 - at - r .width) % 6} (omega arith)))))
       (λ l. absurd (never-both laws (f .reads) (stuck-indicator s at inside w v r k (y .said) (y .passed) (omega arith) none)))
 
-  laid-whole : Laying scheme (bits s) (drop (at + (r .width + r .values * 6)) (bits s)) entry
+  laid-whole : LaidSoFar scheme (bits s) (drop (at + (r .width + r .values * 6)) (bits s)) entry
       (laid out n (saying r (drop (at + r .width) (bits s)))) 0 (n + (r .count + r .values))
   laid-whole =
       let rest : List ℕ = drop (at + r .width) (bits s) in
@@ -154,6 +154,6 @@ module _ (s : List ℕ) (at : ℕ) (inside : at ≤ length s * 8) (w : ℕ) (v :
     there = there;
     room = omega (arith, laying-within laid-whole laws f);
     next = λ exit e.
-        subst⁻¹ (λ (l : List ℕ). Laying scheme (bits s) (drop (at + (r .width + r .values * 6)) (bits s)) entry l 0 (n + (r .count + r .values))) e
+        subst⁻¹ (λ (l : List ℕ). LaidSoFar scheme (bits s) (drop (at + (r .width + r .values * 6)) (bits s)) entry l 0 (n + (r .count + r .values))) e
         laid-whole;
   }

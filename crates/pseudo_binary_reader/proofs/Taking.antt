@@ -9,15 +9,15 @@ use lib.ListN.{length, take, drop, getD, set, replicate, length-append, length-s
 use lib.Pow.{field, mod-mod-pow, shr-shr}
 use lib.Seq.{length-take-le, take-at, drop-drop, drop-append-add}
 use Rattle.bits.specs.Row.{bits}
-use Rattle.codes.specs.Ahead.{ahead}
-use Rattle.codes.specs.Laid.{laid}
+use Rattle.codes.specs.Steps.BitBuffer.{ahead}
+use Rattle.codes.specs.Steps.Laid.{laid}
 use Rattle.codes.specs.Pack.{value}
-use Rattle.codes.specs.Words.{eightAt, spilled}
-use Rattle.codes.proofs.Laid.{laid-nil, laid-laid, length-laid, set-laid}
-use Rattle.codes.proofs.Low.{value-low}
-use Rattle.codes.proofs.Words.{eight-bits}
+use Rattle.codes.specs.Steps.EightBytes.{eightAt, spilled}
+use Rattle.codes.proofs.LaidRows.{laid-nil, laid-laid, length-laid, set-laid}
+use Rattle.codes.proofs.LowBits.{value-low}
+use Rattle.codes.proofs.EightBytes.{eight-bits}
 use Rattle.pseudo_binary.specs.Table.{characterOf}
-use Rattle.pseudo_binary_reader.specs.Taken.{Spread, Eight, Top, characters}
+use Rattle.pseudo_binary_reader.specs.Steps.Taken.{Spread, Eight, Top, characters}
 use Rattle.pseudo_binary_reader.proofs.Parting.{each-at}
 use Rattle.pseudo_binary_reader.proofs.Starts.{ahead-part}
 use Rattle.pseudo_binary_reader.proofs.Values.{length-characters}

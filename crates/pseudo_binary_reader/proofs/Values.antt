@@ -10,13 +10,13 @@ use lib.ListN.{length, take, drop, length-append, length-drop, take-append-drop}
 use lib.Seq.{length-take-le, drop-drop}
 use Rattle.codes.specs.Chain.{Entry, In, Begins, Stuck}
 use Rattle.codes.specs.Pack.{Binary, low, value}
-use Rattle.codes.specs.Passed.{Passed}
-use Rattle.codes.proofs.Low.{length-low, low-value, value-lt}
-use Rattle.codes.proofs.Pack.{binary-take, binary-drop}
-use Rattle.codes.proofs.Passed.{passed-more}
-use Rattle.codes.proofs.Reading.{stuck-more, stuck-here}
+use Rattle.codes.specs.Steps.Passed.{Passed}
+use Rattle.codes.proofs.LowBits.{length-low, low-value, value-lt}
+use Rattle.codes.proofs.BitsInBytes.{binary-take, binary-drop}
+use Rattle.codes.proofs.PassedEntries.{passed-more}
+use Rattle.codes.proofs.OneReading.{stuck-more, stuck-here}
 use Rattle.pseudo_binary.specs.Table.{characterOf, six, tables, scheme}
-use Rattle.pseudo_binary_reader.specs.Taken.{characters}
+use Rattle.pseudo_binary_reader.specs.Steps.Taken.{characters}
 use Rattle.pseudo_binary.proofs.Entries.{six-in, six-of, after-six}
 
 pub length-characters : (n : ℕ) (bs : List ℕ) → length (characters n bs) ≡ n

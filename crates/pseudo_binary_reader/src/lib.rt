@@ -9,13 +9,13 @@ ghost use mathlib.Core.List.{List};
 ghost use Prim.Native.Nat.{ℕ, _+_, _*_, _/_, _≤_, _<_, _^_};
 ghost use lib.ListN.{length, take, drop, replicate};
 ghost use Rattle.bits.specs.Row.{bits};
-ghost use Rattle.codes.specs.Ahead.{ahead};
-ghost use Rattle.codes.specs.Laid.{laid, Readable, Placed};
-ghost use Rattle.codes.specs.Measure.{Measures, Comes, ReadsInto};
+ghost use Rattle.codes.specs.Steps.BitBuffer.{ahead};
+ghost use Rattle.codes.specs.Steps.Laid.{laid, Readable, Placed};
+ghost use Rattle.codes.specs.Steps.Measure.{Measures, TakesApartBy, ReadsIntoBufferBy};
 ghost use Rattle.codes.specs.Pack.{value};
-ghost use Rattle.codes.specs.Passed.{Counting, Laying};
+ghost use Rattle.codes.specs.Steps.Passed.{CountedSoFar, LaidSoFar};
 ghost use Rattle.pseudo_binary.specs.Table.{scheme};
-ghost use Rattle.pseudo_binary_reader.specs.Taken.{Eight, Nine, Spread, Starts, Takes, Top, characters, saying};
+ghost use Rattle.pseudo_binary_reader.specs.Steps.Taken.{Eight, Nine, Spread, Starts, FirstIndicator, Top, characters, saying};
 
 // An indicator: how many bits it has, how many values it announces, and how often it says which character.
 struct Indicator {
@@ -35,7 +35,7 @@ impl Indicator {
 // The indicator that begins nine bits: any nine bits begin one.
 fn first_indicator(w: u64) -> Indicator
     requires { ⌜ w < 512 ⌝ }
-    ensures { λ r. ⌜ Takes w r ⌝ }
+    ensures { λ r. ⌜ FirstIndicator w r ⌝ }
 {
     if 256 <= w {
         return Indicator {
@@ -124,7 +124,7 @@ struct Place {
 fn measure_most(s: &[u8]) -> Place
     requires { ⌜ length (now s) < 2 ^ 56 ⌝ }
     ensures { λ r. ⌜ (r .at ≤ length (now (s .entry)) * 8) × (r .n ≤ 3 * r .at) ⌝ }
-    ensures { λ r. ⌜ Counting scheme (bits (now (s .entry))) (drop (r .at) (bits (now (s .entry)))) (r .n) ⌝ }
+    ensures { λ r. ⌜ CountedSoFar scheme (bits (now (s .entry))) (drop (r .at) (bits (now (s .entry)))) (r .n) ⌝ }
 {
     if s.len() < 8 {
         return Place { at: 0, n: 0 };
@@ -338,7 +338,7 @@ fn read_run(s: &[u8], at: usize, run: Indicator, out: &mut [u8], n: usize)
 fn read_front(s: &[u8], out: &mut [u8]) -> Place
     requires { ⌜ (length (now s) < 2 ^ 56) × Readable scheme (bits (now s)) (length (now out)) ⌝ }
     ensures { λ r. ⌜ (r .at ≤ length (now (s .entry)) * 8) × (r .n ≤ length (now (out .entry))) ⌝ }
-    ensures { λ r. ⌜ Laying scheme (bits (now (s .entry))) (drop (r .at) (bits (now (s .entry)))) (now (out .entry)) (now (out .exit)) 0 (r .n) ⌝ }
+    ensures { λ r. ⌜ LaidSoFar scheme (bits (now (s .entry))) (drop (r .at) (bits (now (s .entry)))) (now (out .entry)) (now (out .exit)) 0 (r .n) ⌝ }
 {
     if s.len() < 8 {
         return Place { at: 0, n: 0 };
@@ -366,7 +366,7 @@ fn read_front(s: &[u8], out: &mut [u8]) -> Place
 fn read_most(s: &[u8], out: &mut [u8]) -> Place
     requires { ⌜ (length (now s) < 2 ^ 56) × Readable scheme (bits (now s)) (length (now out)) ⌝ }
     ensures { λ r. ⌜ (r .at ≤ length (now (s .entry)) * 8) × (length (now (s .entry)) * 8 ≤ r .at + 8) × (r .n ≤ length (now (out .entry))) ⌝ }
-    ensures { λ r. ⌜ Laying scheme (bits (now (s .entry))) (drop (r .at) (bits (now (s .entry)))) (now (out .entry)) (now (out .exit)) 0 (r .n) ⌝ }
+    ensures { λ r. ⌜ LaidSoFar scheme (bits (now (s .entry))) (drop (r .at) (bits (now (s .entry)))) (now (out .entry)) (now (out .exit)) 0 (r .n) ⌝ }
 {
     let front = read_front(s, out);
     let mut at = front.at;
@@ -402,7 +402,7 @@ fn put_text(s: &[u8], out: &mut [u8]) -> usize
 
 // The data taken apart, whatever its length.
 pub fn take_apart(s: &[u8]) -> Outcome
-    ensures { λ r. ⌜ Comes scheme (now (s .entry)) r ⌝ }
+    ensures { λ r. ⌜ TakesApartBy scheme (now (s .entry)) r ⌝ }
 {
     if Outcome::LIMIT <= s.len() {
         return Outcome::TooLong;
@@ -416,7 +416,7 @@ pub fn take_apart(s: &[u8]) -> Outcome
 
 // The data taken apart, and then its text at the front of the buffer, where there is room for it; whatever their lengths.
 pub fn read(s: &[u8], out: &mut [u8]) -> Taken
-    ensures { λ r. ⌜ ReadsInto scheme (now (s .entry)) (now (out .entry)) r (now (out .exit)) ⌝ }
+    ensures { λ r. ⌜ ReadsIntoBufferBy scheme (now (s .entry)) (now (out .entry)) r (now (out .exit)) ⌝ }
 {
     let outcome = take_apart(s);
     match outcome {

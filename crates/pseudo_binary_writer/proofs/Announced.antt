@@ -12,15 +12,15 @@ use lib.Pow.{high}
 use lib.Seq.{drop-cons}
 use Rattle.codes.specs.Chain.{codes}
 use Rattle.codes.specs.Pack.{low}
-use Rattle.codes.proofs.Low.{low-add, low-join}
-use Rattle.pseudo_binary.specs.Table.{Kind, values, of, valueOf, six}
+use Rattle.codes.proofs.LowBits.{low-add, low-join}
+use Rattle.pseudo_binary.specs.Table.{Kind, values, isOf, valueOf, six}
 use Rattle.pseudo_binary.specs.Writer.{besides, oursAfter, ours, Alike}
-use Rattle.pseudo_binary_writer.specs.Sending.{FirstOf, NextOf, twoValues, fourValues}
+use Rattle.pseudo_binary_writer.specs.Steps.Sending.{FirstIndicatorOf, NextOf, twoValues, fourValues}
 use Rattle.pseudo_binary_writer.specs.declared.Sent.{Sent}
 use Rattle.pseudo_binary.proofs.Characters.{of-kind}
 
 -- the announced values, one or four, and what comes after them
-value-codes : (m c : ℕ) (t : List ℕ) → of values c ≡ true → codes (oursAfter (suc m) (c ∷ t)) ≡ low 6 (c % 64) ++ codes (oursAfter m t)
+value-codes : (m c : ℕ) (t : List ℕ) → isOf values c ≡ true → codes (oursAfter (suc m) (c ∷ t)) ≡ low 6 (c % 64) ++ codes (oursAfter m t)
 unfolding codes oursAfter besides six valueOf
 value-codes m c t e = ap (λ (k : Kind). codes (besides k c ++ oursAfter m t)) (of-kind values c e)
 
@@ -43,7 +43,7 @@ next-value m c t h a = record {
 }
 
 -- a value more in the number
-add-value : (n a c m : ℕ) (t more : List ℕ) → of values c ≡ true → more ≡ low n a ++ codes (oursAfter (suc m) (c ∷ t))
+add-value : (n a c m : ℕ) (t more : List ℕ) → isOf values c ≡ true → more ≡ low n a ++ codes (oursAfter (suc m) (c ∷ t))
     → more ≡ low (n + 6) (a * 64 + c % 64) ++ codes (oursAfter m t)
 add-value n a c m t more x e =
     e ∙ ap (λ (l : List ℕ). low n a ++ l) (value-codes m c t x) ∙ joined n 6 a (c % 64) (codes (oursAfter m t)) (omega arith)
@@ -120,7 +120,7 @@ module _ (t : List ℕ) (i m : ℕ) (h : i + m ≤ length t) (a : Alike values (
       (omega (arith, length-drop (i + 2 + 2) t)) (subst₂ (λ (j : ℕ) (s : List ℕ). Alike values (take j s)) four e a))
 
 -- an indicator, where no values are announced
-pub first-next : (t : List ℕ) (r : Sent) → FirstOf t r → NextOf 0 t r
+pub first-next : (t : List ℕ) (r : Sent) → FirstIndicatorOf t r → NextOf 0 t r
 unfolding codes ours
 first-next t r f = record {
   next = ap codes (f .first) ∙ ap (λ (l : List ℕ). l ++ codes (oursAfter (r .values) (drop (r .count) t))) (f .code);

@@ -9,7 +9,7 @@ use native.Mathlib.Numerals.{add-one}
 use native.Mathlib.Omega.{arith}
 use lib.ListN.{length, take, drop, getD, drop-of-length-le}
 use lib.Seq.{drop-cons}
-use Rattle.pseudo_binary.specs.Table.{Kind, of, most}
+use Rattle.pseudo_binary.specs.Table.{Kind, isOf, most}
 use Rattle.pseudo_binary.specs.Writer.{run, Alike}
 
 -- a run ends with the text, or before a character of another kind, and else goes on
@@ -18,12 +18,12 @@ unfolding run
 run-none k zero = refl
 run-none k (suc n) = refl
 
-run-stop : (k : Kind) (n c : ℕ) (t : List ℕ) → of k c ≡ false → run k n (c ∷ t) ≡ 0
+run-stop : (k : Kind) (n c : ℕ) (t : List ℕ) → isOf k c ≡ false → run k n (c ∷ t) ≡ 0
 unfolding run
 run-stop k zero c t e = refl
 run-stop k (suc n) c t e = ap (λ (b : Bool). cond b (suc (run k n t)) 0) e
 
-pub run-go : (k : Kind) (n c : ℕ) (t : List ℕ) → of k c ≡ true → run k (suc n) (c ∷ t) ≡ suc (run k n t)
+pub run-go : (k : Kind) (n c : ℕ) (t : List ℕ) → isOf k c ≡ true → run k (suc n) (c ∷ t) ≡ suc (run k n t)
 unfolding run
 run-go k n c t e = ap (λ (b : Bool). cond b (suc (run k n t)) 0) e
 
@@ -36,10 +36,10 @@ module _ (k : Kind) (n : ℕ) (t : List ℕ) (i : ℕ) where
   pub run-end : length t ≤ i → run k n (drop i t) ≡ 0
   run-end h = ap (run k n) (drop-of-length-le t h) ∙ run-none k n
 
-  pub run-other : i < length t → of k (getD t i 0) ≡ false → run k n (drop i t) ≡ 0
+  pub run-other : i < length t → isOf k (getD t i 0) ≡ false → run k n (drop i t) ≡ 0
   run-other h e = ap (run k n) (drop-cons t i 0 h) ∙ run-stop k n (getD t i 0) (drop (suc i) t) e
 
-  pub run-more : i < length t → of k (getD t i 0) ≡ true → run k (suc n) (drop i t) ≡ suc (run k n (drop (i + 1) t))
+  pub run-more : i < length t → isOf k (getD t i 0) ≡ true → run k (suc n) (drop i t) ≡ suc (run k n (drop (i + 1) t))
   run-more h e =
       ap (run k (suc n)) (drop-cons t i 0 h) ∙ run-go k n (getD t i 0) (drop (suc i) t) e
       ∙ ap (λ (j : ℕ). suc (run k n (drop j t))) (sym (add-one i))
@@ -58,7 +58,7 @@ run-past k (suc n) (suc m) (c ∷ t) h l a =
     )
 
 -- n characters of a run were passed: one more of its kind
-pub run-on : (k : Kind) (most n : ℕ) (t : List ℕ) (i whole : ℕ) → n < most → i + n < length t → of k (getD t (i + n) 0) ≡ true
+pub run-on : (k : Kind) (most n : ℕ) (t : List ℕ) (i whole : ℕ) → n < most → i + n < length t → isOf k (getD t (i + n) 0) ≡ true
     → n + run k (most - n) (drop (i + n) t) ≡ whole → n + 1 + run k (most - (n + 1)) (drop (i + (n + 1)) t) ≡ whole
 run-on k most n t i whole h there e so-far =
     let m : ℕ = most - (n + 1) in
@@ -74,7 +74,7 @@ pub run-within : (k : Kind) (n : ℕ) (t : List ℕ) → run k n t ≤ length t
 unfolding run
 run-within k zero t = omega arith
 run-within k (suc n) [] = omega arith
-run-within k (suc n) (c ∷ t) = pick (of k c) (run-within k n t)
+run-within k (suc n) (c ∷ t) = pick (isOf k c) (run-within k n t)
   where
     pick : (b : Bool) → run k n t ≤ length t → cond b (suc (run k n t)) 0 ≤ suc (length t)
     pick true h = omega arith
@@ -84,8 +84,8 @@ pub run-alike : (k : Kind) (n : ℕ) (t : List ℕ) → Alike k (take (run k n t
 unfolding run
 run-alike k zero t = tt
 run-alike k (suc n) [] = tt
-run-alike k (suc n) (c ∷ t) = pick (of k c) refl (run-alike k n t)
+run-alike k (suc n) (c ∷ t) = pick (isOf k c) refl (run-alike k n t)
   where
-    pick : (b : Bool) → of k c ≡ b → Alike k (take (run k n t) t) → Alike k (take (cond b (suc (run k n t)) 0) (c ∷ t))
+    pick : (b : Bool) → isOf k c ≡ b → Alike k (take (run k n t) t) → Alike k (take (cond b (suc (run k n t)) 0) (c ∷ t))
     pick true e h = (e, h)
     pick false e h = tt

@@ -15,9 +15,9 @@ use lib.ListN.{length, take, drop, getD}
 use lib.Pow.{high, low, field, mod-mod-pow, pow-mono, shr-shr}
 use lib.Seq.{drop-cons, drop-drop, take-add}
 use Rattle.bits.proofs.Xor.{xor-zero}
-use Rattle.codes.specs.Words.{fourAt, eightAt}
-use Rattle.codes.proofs.Words.{four-small}
-use Rattle.pseudo_binary.specs.Table.{Kind, values, of}
+use Rattle.codes.specs.Steps.EightBytes.{fourAt, eightAt}
+use Rattle.codes.proofs.EightBytes.{four-small}
+use Rattle.pseudo_binary.specs.Table.{Kind, values, isOf}
 use Rattle.pseudo_binary.specs.Writer.{Alike}
 use Rattle.pseudo_binary_writer.proofs.Ranges.{inside, values-between}
 
@@ -31,7 +31,7 @@ alike-more k t i n m x y =
     subst⁻¹ (Alike k) (take-add n m (drop i t))
     (alike-append k (take n (drop i t)) (take m (drop n (drop i t))) x (subst⁻¹ (λ (l : List ℕ). Alike k (take m l)) (drop-drop n i t) y))
 
-byte-value : (c : ℕ) → c < 256 → bitAnd c 0xC0 ≡ 0x40 → of values c ≡ true
+byte-value : (c : ℕ) → c < 256 → bitAnd c 0xC0 ≡ 0x40 → isOf values c ≡ true
 byte-value c h e =
     let few : c / 64 < 4 = omega arith in
     let one : c / 64 * 64 ≡ 64 = ap (λ (x : ℕ). x * 64) (sym (mod-eq-of-lt few)) ∙ sym (and-high c 2 6) ∙ e in
@@ -65,13 +65,13 @@ front-byte v j h small =
     xor-zero (bitAnd b 0xC0) 0x40 (ap₂ (λ (x y : ℕ). bitXor (bitAnd b x) y) (sym (masks j h .0)) (sym (masks j h .1)) ∙ none)
 
 -- characters of one kind, one by one
-alike-each : (k : Kind) (t : List ℕ) (n i : ℕ) → i + n ≤ length t → ((j : ℕ) → j < n → of k (getD t (i + j) 0) ≡ true) → Alike k (take n (drop i t))
+alike-each : (k : Kind) (t : List ℕ) (n i : ℕ) → i + n ≤ length t → ((j : ℕ) → j < n → isOf k (getD t (i + j) 0) ≡ true) → Alike k (take n (drop i t))
 alike-each k t zero i h e = tt
 alike-each k t (suc n) i h e =
     subst⁻¹ (λ (l : List ℕ). Alike k (take (suc n) l)) (drop-cons t i 0 (omega arith)) (
-      ap (λ (m : ℕ). of k (getD t m 0)) (sym (add-zero i)) ∙ e 0 (omega arith),
+      ap (λ (m : ℕ). isOf k (getD t m 0)) (sym (add-zero i)) ∙ e 0 (omega arith),
       alike-each k t n (suc i) (omega arith)
-          (λ j l. ap (λ (m : ℕ). of k (getD t m 0)) (let x : suc i + j ≡ i + suc j = omega arith in x) ∙ e (suc j) (omega arith)),
+          (λ j l. ap (λ (m : ℕ). isOf k (getD t m 0)) (let x : suc i + j ≡ i + suc j = omega arith in x) ∙ e (suc j) (omega arith)),
     )
 
 -- the bytes of a word

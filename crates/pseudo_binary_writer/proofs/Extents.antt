@@ -12,11 +12,11 @@ use lib.Pow.{high}
 use lib.Seq.{drop-drop}
 use borrow.Author.Tests.{eqb-true, eqb-false, ne-eqb}
 use Rattle.codes.specs.Chain.{Entry, codes}
-use Rattle.codes.proofs.Low.{length-low}
-use Rattle.pseudo_binary.specs.Table.{SPACE, SLASH, Kind, values, spaces, slashes, of, coded}
+use Rattle.codes.proofs.LowBits.{length-low}
+use Rattle.pseudo_binary.specs.Table.{SPACE, SLASH, Kind, values, spaces, slashes, isOf, coded}
 use Rattle.pseudo_binary.specs.Writer.{kind, run, besides, oursAfter, ours, Alike}
 use Rattle.pseudo_binary.proofs.Length.{each}
-use Rattle.pseudo_binary_writer.specs.Sending.{Between, ExtentOf, FirstOf}
+use Rattle.pseudo_binary_writer.specs.Steps.Sending.{Between, ExtentOf, FirstIndicatorOf}
 use Rattle.pseudo_binary_writer.specs.declared.Extent.{Extent}
 use Rattle.pseudo_binary_writer.specs.declared.Sent.{Sent}
 use Rattle.pseudo_binary.proofs.Characters.{value-range, of-kind, kind-of}
@@ -35,8 +35,8 @@ value-bits (suc n) (c ∷ t) h a =
     omega (arith, ap length e, besides-each values c (oursAfter n t), value-bits n t (omega arith) (a .1))
 
 -- a character with a code that is neither space nor slash is of kind values
-pub else-value : (c : ℕ) → T (coded c) → (c ≡ SPACE → ⊥) → (c ≡ SLASH → ⊥) → of values c ≡ true
-unfolding kind of
+pub else-value : (c : ℕ) → T (coded c) → (c ≡ SPACE → ⊥) → (c ≡ SLASH → ⊥) → isOf values c ≡ true
+unfolding kind isOf
 else-value c t a b = kind-of values c t (simp (ne-eqb c SPACE a, ne-eqb c SLASH b))
 
 -- what an indicator of ours takes with the values that it announces, and the rest, are the whole
@@ -50,7 +50,7 @@ pub parted : (t : List ℕ) (e : Extent) → ExtentOf t e → Parted t e
 unfolding codes
 parted t e x =
     let r : Sent = x .sent in
-    let f : FirstOf t r = x .first in
+    let f : FirstIndicatorOf t r = x .first in
     let b : e .bits ≡ r .width + r .values * 6 = x .width in
     let n : e .count ≡ r .count + r .values = x .says in
     let u : List ℕ = drop (r .count) t in

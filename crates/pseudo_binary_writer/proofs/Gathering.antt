@@ -7,9 +7,9 @@ use native.Mathlib.Omega.{arith}
 use lib.Bits.{bitAnd, and-block, and-high, and-mask}
 use lib.Dec.{lit<}
 use lib.ListN.{getD}
-use Rattle.codes.specs.Words.{fourAt, eightAt}
-use Rattle.codes.proofs.Words.{four-small}
-use Rattle.pseudo_binary_writer.specs.Sending.{fourValues}
+use Rattle.codes.specs.Steps.EightBytes.{fourAt, eightAt}
+use Rattle.codes.proofs.EightBytes.{four-small}
+use Rattle.pseudo_binary_writer.specs.Steps.Sending.{fourValues}
 
 -- six bits out of each of two bytes
 upper-six : (a b : ℕ) → b < 256 → bitAnd (a * 256 + b) 0x3f00 ≡ a % 64 * 256

@@ -13,10 +13,10 @@ use borrow.Author.Tests.{eq-eqb}
 use Rattle.bits.specs.Word.{bit}
 use Rattle.codes.specs.Chain.{Entry, codes}
 use Rattle.codes.specs.Pack.{low}
-use Rattle.codes.proofs.Low.{low-join}
-use Rattle.pseudo_binary.specs.Table.{SPACE, SLASH, Kind, values, spaces, slashes, of, indicator, most}
+use Rattle.codes.proofs.LowBits.{low-join}
+use Rattle.pseudo_binary.specs.Table.{SPACE, SLASH, Kind, values, spaces, slashes, isOf, indicator, most}
 use Rattle.pseudo_binary.specs.Writer.{kind, run, besides, oursAfter, ours}
-use Rattle.pseudo_binary_writer.specs.Sending.{FirstOf}
+use Rattle.pseudo_binary_writer.specs.Steps.Sending.{FirstIndicatorOf}
 use Rattle.pseudo_binary.proofs.Characters.{of-kind}
 use Rattle.pseudo_binary.proofs.Entries.{pred-most}
 use Rattle.pseudo_binary.proofs.Writer.{run-le}
@@ -27,9 +27,9 @@ skipped : (k : Kind) → ((c : ℕ) → besides k c ≡ []) → (n : ℕ) (t : L
 unfolding run oursAfter ours
 skipped k e zero t = refl
 skipped k e (suc n) [] = refl
-skipped k e (suc n) (c ∷ t) = pick (of k c) refl (skipped k e n t)
+skipped k e (suc n) (c ∷ t) = pick (isOf k c) refl (skipped k e n t)
   where
-    pick : (b : Bool) → of k c ≡ b → oursAfter (run k n t) t ≡ ours (drop (run k n t) t)
+    pick : (b : Bool) → isOf k c ≡ b → oursAfter (run k n t) t ≡ ours (drop (run k n t) t)
         → oursAfter (cond b (suc (run k n t)) 0) (c ∷ t) ≡ oursAfter 0 (drop (cond b (suc (run k n t)) 0) (c ∷ t))
     pick true x h = ap (λ (es : List Entry). es ++ oursAfter (run k n t) t) (ap (λ (j : Kind). besides j c) (of-kind k c x) ∙ e c) ∙ h
     pick false x h = refl
@@ -55,20 +55,20 @@ slashes-low j h =
     (sym (low-join 4 1 j h) ∙ ap (low 4) (let e : 1 * 16 + j ≡ j + 16 = omega arith in e))
 
 -- the first indicator of ours, of a character of kind k
-opening : (k : Kind) (c : ℕ) (t : List ℕ) → of k c ≡ true
+opening : (k : Kind) (c : ℕ) (t : List ℕ) → isOf k c ≡ true
     → ours (c ∷ t) ≡ indicator k (run k (pred (most k)) t) ∷ oursAfter (suc (run k (pred (most k)) t)) (c ∷ t)
 unfolding ours oursAfter
 opening k c t e =
     ap (λ (j : Kind). indicator j (run j (pred (most j)) t) ∷ (besides (kind c) c ++ oursAfter (run j (pred (most j)) t) t)) (of-kind k c e)
 
-first-values : (c : ℕ) (t : List ℕ) (n : ℕ) → of values c ≡ true → n ≡ run values 128 (c ∷ t)
-    → FirstOf (c ∷ t) (record { bits = n - 1 + 128; width = 8; values = n; count = 0 })
+first-values : (c : ℕ) (t : List ℕ) (n : ℕ) → isOf values c ≡ true → n ≡ run values 128 (c ∷ t)
+    → FirstIndicatorOf (c ∷ t) (record { bits = n - 1 + 128; width = 8; values = n; count = 0 })
 unfolding most
 first-values c t n e x =
     let more : ℕ = run values 127 t in
     let all : suc more ≡ n = sym (x ∙ run-go values 127 c t e) in
     let few : more ≤ 127 = run-le values 127 t in
-    subst (λ (m : ℕ). FirstOf (c ∷ t) (record { bits = m - 1 + 128; width = 8; values = m; count = 0 })) all (record {
+    subst (λ (m : ℕ). FirstIndicatorOf (c ∷ t) (record { bits = m - 1 + 128; width = 8; values = m; count = 0 })) all (record {
       entry = indicator values more;
       first = opening values c t e;
       code = values-low more (omega arith) ∙ ap (low 8) (let y : more + 128 ≡ suc more - 1 + 128 = omega arith in y);
@@ -82,8 +82,8 @@ first-values c t n e x =
     })
 
 first-repeat : (k : Kind) (lead c : ℕ) (t : List ℕ) (n : ℕ) → ((d : ℕ) → besides k d ≡ []) → most k ≡ 16 → lead ≤ 48
-    → ((j : ℕ) → j < 16 → indicator k j .code ≡ low 6 (j + lead)) → of k c ≡ true → n ≡ run k (most k) (c ∷ t)
-    → FirstOf (c ∷ t) (record { bits = n - 1 + lead; width = 6; values = 0; count = n })
+    → ((j : ℕ) → j < 16 → indicator k j .code ≡ low 6 (j + lead)) → isOf k c ≡ true → n ≡ run k (most k) (c ∷ t)
+    → FirstIndicatorOf (c ∷ t) (record { bits = n - 1 + lead; width = 6; values = 0; count = n })
 unfolding oursAfter ours
 first-repeat k lead c t n none m l codes e x =
     let more : ℕ = run k (pred (most k)) t in
@@ -111,31 +111,31 @@ module _ (t : List ℕ) (i : ℕ) (h : i < length t) where
   here : drop i t ≡ getD t i 0 ∷ drop (suc i) t
   here = drop-cons t i 0 h
 
-  pub value-first : (n : ℕ) → of values (getD t i 0) ≡ true → n ≡ run values 128 (drop i t)
-      → FirstOf (drop i t) (record { bits = n - 1 + 128; width = 8; values = n; count = 0 })
+  pub value-first : (n : ℕ) → isOf values (getD t i 0) ≡ true → n ≡ run values 128 (drop i t)
+      → FirstIndicatorOf (drop i t) (record { bits = n - 1 + 128; width = 8; values = n; count = 0 })
   value-first n e x =
-      subst⁻¹ (λ (l : List ℕ). FirstOf l (record { bits = n - 1 + 128; width = 8; values = n; count = 0 })) here
+      subst⁻¹ (λ (l : List ℕ). FirstIndicatorOf l (record { bits = n - 1 + 128; width = 8; values = n; count = 0 })) here
       (first-values (getD t i 0) (drop (suc i) t) n e (x ∙ ap (run values 128) here))
 
   repeat-first : (k : Kind) (lead n : ℕ) → ((d : ℕ) → besides k d ≡ []) → most k ≡ 16 → lead ≤ 48
-      → ((j : ℕ) → j < 16 → indicator k j .code ≡ low 6 (j + lead)) → of k (getD t i 0) ≡ true → n ≡ run k (most k) (drop i t)
-      → FirstOf (drop i t) (record { bits = n - 1 + lead; width = 6; values = 0; count = n })
+      → ((j : ℕ) → j < 16 → indicator k j .code ≡ low 6 (j + lead)) → isOf k (getD t i 0) ≡ true → n ≡ run k (most k) (drop i t)
+      → FirstIndicatorOf (drop i t) (record { bits = n - 1 + lead; width = 6; values = 0; count = n })
   repeat-first k lead n none m l codes e x =
-      subst⁻¹ (λ (l : List ℕ). FirstOf l (record { bits = n - 1 + lead; width = 6; values = 0; count = n })) here
+      subst⁻¹ (λ (l : List ℕ). FirstIndicatorOf l (record { bits = n - 1 + lead; width = 6; values = 0; count = n })) here
       (first-repeat k lead (getD t i 0) (drop (suc i) t) n none m l codes e (x ∙ ap (run k (most k)) here))
 
   pub space-first : (n : ℕ) → getD t i 0 ≡ SPACE → n ≡ run spaces 16 (drop i t)
-      → FirstOf (drop i t) (record { bits = n - 1; width = 6; values = 0; count = n })
-  unfolding most besides of
+      → FirstIndicatorOf (drop i t) (record { bits = n - 1; width = 6; values = 0; count = n })
+  unfolding most besides isOf
   space-first n e x =
-      subst (λ (b : ℕ). FirstOf (drop i t) (record { bits = b; width = 6; values = 0; count = n })) (add-zero (n - 1))
+      subst (λ (b : ℕ). FirstIndicatorOf (drop i t) (record { bits = b; width = 6; values = 0; count = n })) (add-zero (n - 1))
       (repeat-first spaces 0 n (λ d. refl) refl (lit≤ tt) spaces-low (eq-eqb (getD t i 0) SPACE e) x)
 
   pub slash-first : (n : ℕ) → getD t i 0 ≡ SLASH → n ≡ run slashes 16 (drop i t)
-      → FirstOf (drop i t) (record { bits = n - 1 + 16; width = 6; values = 0; count = n })
-  unfolding most besides of
+      → FirstIndicatorOf (drop i t) (record { bits = n - 1 + 16; width = 6; values = 0; count = n })
+  unfolding most besides isOf
   slash-first n e x = repeat-first slashes 16 n (λ d. refl) refl (lit≤ tt) slashes-low (eq-eqb (getD t i 0) SLASH e) x
 
   -- a run of the kind of its first character has one character or more
-  pub run-some : (k : Kind) (m n : ℕ) → of k (getD t i 0) ≡ true → n ≡ run k (suc m) (drop i t) → 1 ≤ n
+  pub run-some : (k : Kind) (m n : ℕ) → isOf k (getD t i 0) ≡ true → n ≡ run k (suc m) (drop i t) → 1 ≤ n
   run-some k m n e x = omega (arith, x, run-more k m t i h e)

@@ -10,24 +10,24 @@ use native.Mathlib.Omega.{arith}
 use lib.Dec.{T, leb, eqb}
 use lib.ListN.{length, getD}
 use borrow.Author.Tests.{leb-true, eqb-true, eqb-false, ne-eqb, lt-leb, le-leb}
-use Rattle.pseudo_binary.specs.Table.{SPACE, SLASH, Kind, values, spaces, slashes, of, coded, Coded}
-use Rattle.pseudo_binary_writer.specs.Sending.{Between}
+use Rattle.pseudo_binary.specs.Table.{SPACE, SLASH, Kind, values, spaces, slashes, isOf, coded, AllCoded}
+use Rattle.pseudo_binary_writer.specs.Steps.Sending.{Between}
 
 -- which characters have a code
 pub space-coded : (c : ℕ) → c ≡ SPACE → true ≡ coded c
-unfolding coded of
+unfolding coded isOf
 space-coded c e = ap coded (sym e)
 
 pub slash-coded : (c : ℕ) → c ≡ SLASH → true ≡ coded c
-unfolding coded of
+unfolding coded isOf
 slash-coded c e = ap coded (sym e)
 
 pub value-coded : (c : ℕ) → 64 ≤ c → c < 128 → true ≡ coded c
-unfolding coded of
+unfolding coded isOf
 value-coded c h k = sym (simp (le-leb 64 c h, le-leb c 127 (omega arith)))
 
 pub low-uncoded : (c : ℕ) → (c ≡ SPACE → ⊥) → (c ≡ SLASH → ⊥) → c < 64 → false ≡ coded c
-unfolding coded of
+unfolding coded isOf
 low-uncoded c a b h = sym (simp (lt-leb 64 c h, ne-eqb c SPACE a, ne-eqb c SLASH b))
 
 and-false : (b : Bool) → (b && false) ≡ false
@@ -35,11 +35,11 @@ and-false true = refl
 and-false false = refl
 
 pub high-uncoded : (c : ℕ) → 128 ≤ c → false ≡ coded c
-unfolding coded of
+unfolding coded isOf
 high-uncoded c h =
     sym (simp (lt-leb c 127 h, and-false (leb 64 c), ne-eqb c SPACE (omega arith), ne-eqb c SLASH (omega arith)))
 
-pub coded-at : (t : List ℕ) (i : ℕ) → Coded t → i < length t → T (coded (getD t i 0))
+pub coded-at : (t : List ℕ) (i : ℕ) → AllCoded t → i < length t → T (coded (getD t i 0))
 coded-at t i c h = c i h
 
 -- the kinds of character as ranges
@@ -58,26 +58,26 @@ equal-between a c = pick (eqb c a) refl
         apart true p true q = absurd (let none : ⊥ = omega (arith, leb-true a c p, leb-true c a q, eqb-false c a e) in none)
 
 pub spaces-between : Between spaces SPACE SPACE
-unfolding of
+unfolding isOf
 spaces-between c = equal-between SPACE c
 
 pub slashes-between : Between slashes SLASH SLASH
-unfolding of
+unfolding isOf
 slashes-between c = equal-between SLASH c
 
 pub values-between : Between values 64 127
-unfolding of
+unfolding isOf
 values-between c = refl
 
-pub below : (k : Kind) (a b c : ℕ) → Between k a b → c < a → of k c ≡ false
+pub below : (k : Kind) (a b c : ℕ) → Between k a b → c < a → isOf k c ≡ false
 below k a b c e h = e c ∙ ap (λ (x : Bool). x && leb c b) (lt-leb a c h)
 
-pub above : (k : Kind) (a b c : ℕ) → Between k a b → b < c → of k c ≡ false
+pub above : (k : Kind) (a b c : ℕ) → Between k a b → b < c → isOf k c ≡ false
 above k a b c e h = e c ∙ ap (λ (x : Bool). leb a c && x) (lt-leb c b h) ∙ and-false (leb a c)
 
 -- where there is one character only
-pub another : (k : Kind) (a c : ℕ) → Between k a a → (c ≡ a → ⊥) → of k c ≡ false
+pub another : (k : Kind) (a c : ℕ) → Between k a a → (c ≡ a → ⊥) → isOf k c ≡ false
 another k a c e h = by-cases (decLt c a) (below k a a c e) (λ l. above k a a c e (omega arith))
 
-pub inside : (k : Kind) (a b c : ℕ) → Between k a b → a ≤ c → c ≤ b → of k c ≡ true
+pub inside : (k : Kind) (a b c : ℕ) → Between k a b → a ≤ c → c ≤ b → isOf k c ≡ true
 inside k a b c e h j = e c ∙ ap₂ (λ (x y : Bool). x && y) (le-leb a c h) (le-leb c b j)

@@ -8,18 +8,18 @@ use lib.ListN.{length, take, drop, length-append, length-drop}
 use lib.Seq.{drop-drop}
 use Rattle.codes.specs.Chain.{codes}
 use Rattle.codes.specs.Pack.{low}
-use Rattle.codes.proofs.Low.{length-low}
-use Rattle.codes.specs.Pending.{Pending}
+use Rattle.codes.proofs.LowBits.{length-low}
+use Rattle.codes.specs.Steps.Pending.{Pending}
 use Rattle.pseudo_binary.specs.Table.{values}
 use Rattle.pseudo_binary.specs.Writer.{Alike, oursAfter}
-use Rattle.pseudo_binary_writer.specs.Sending.{NextOf, Sends, fourValues, eightValues}
+use Rattle.pseudo_binary_writer.specs.Steps.Sending.{NextOf, SendsBits, fourValues, eightValues}
 use Rattle.pseudo_binary_writer.specs.declared.Held.{Held}
 use Rattle.pseudo_binary_writer.specs.declared.Sent.{Sent}
 use Rattle.pseudo_binary_writer.proofs.Announced.{four-next}
 
 -- two rows are one
-pub sends-both : (entry middle exit : List ℕ) (b r z : Held) (x y : List ℕ) → Sends entry middle b x r → Sends middle exit r y z
-    → Sends entry exit b (x ++ y) z
+pub sends-both : (entry middle exit : List ℕ) (b r z : Held) (x y : List ℕ) → SendsBits entry middle b x r → SendsBits middle exit r y z
+    → SendsBits entry exit b (x ++ y) z
 sends-both entry middle exit b r z x y f g = record {
   few = g .few;
   place = omega (arith, f .place, g .place, length-append x y);

@@ -10,10 +10,11 @@ ghost use lib.Dec.{T};
 ghost use Prim.Native.Nat.{_+_, _*_, _/_, _≤_, _<_, _^_};
 ghost use lib.ListN.{length, take, drop, getD};
 ghost use Rattle.bits.specs.Says.{Says};
+ghost use Rattle.codes.specs.Coded.{alone};
 ghost use Rattle.codes.specs.Pack.{low, written};
-ghost use Rattle.codes.specs.Size.{longest, Searches, Needs, Stores};
-ghost use Rattle.pseudo_binary_writer.specs.Sending.{Between, FirstOf, Writes, ExtentOf, NextOf, Sends, twoValues, fourValues, eightValues};
-ghost use Rattle.pseudo_binary.specs.Table.{Kind, coded, Coded, values};
+ghost use Rattle.codes.specs.Steps.Size.{longest, FindsUncoded, Needs, PutsData};
+ghost use Rattle.pseudo_binary_writer.specs.Steps.Sending.{Between, FirstIndicatorOf, PutsOurs, ExtentOf, NextOf, SendsBits, twoValues, fourValues, eightValues};
+ghost use Rattle.pseudo_binary.specs.Table.{Kind, coded, AllCoded, values};
 ghost use Rattle.pseudo_binary.specs.Writer.{run, ours, Alike};
 ghost use Rattle.codes.specs.declared.Uncoded.the-variants.{Nowhere};
 
@@ -31,7 +32,7 @@ fn is_coded(c: u8) -> bool
 
 // Whether each character has a code. All are looked at, whatever is found.
 fn all_coded(text: &[u8]) -> bool
-    ensures { λ r. ⌜ Says r (Searches coded (now (text .entry)) Nowhere) ⌝ }
+    ensures { λ r. ⌜ Says r (FindsUncoded (alone coded) (now (text .entry)) Nowhere) ⌝ }
 {
     let mut all = true;
     let mut i: usize = 0;
@@ -44,7 +45,7 @@ fn all_coded(text: &[u8]) -> bool
 
 // The index of the first character that has no code.
 pub fn first_uncoded(text: &[u8]) -> Uncoded
-    ensures { λ r. ⌜ Searches coded (now (text .entry)) r ⌝ }
+    ensures { λ r. ⌜ FindsUncoded (alone coded) (now (text .entry)) r ⌝ }
 {
     if all_coded(text) {
         return Uncoded::Nowhere;
@@ -162,7 +163,7 @@ fn values_at(text: &[u8], i: usize) -> usize
 // The first of our indicators of the text from i on: it counts as many characters of the first one's kind as it can.
 fn next_indicator(text: &[u8], i: usize) -> Sent
     requires { ⌜ (i < length (now text)) × T (coded (getD (now text) i 0)) ⌝ }
-    ensures { λ r. ⌜ FirstOf (drop i (now (text .entry))) r ⌝ }
+    ensures { λ r. ⌜ FirstIndicatorOf (drop i (now (text .entry))) r ⌝ }
 {
     match text[i] {
         b' ' => {
@@ -222,8 +223,8 @@ fn next_extent(text: &[u8], i: usize) -> Extent
 
 // How many bytes our data of the text has, or that one packet does not hold them: the loop ends where that is certain.
 fn coded_length(text: &[u8]) -> Needed
-    requires { ⌜ Coded (now text) ⌝ }
-    ensures { λ r. ⌜ Needs longest coded (now (text .entry)) (written (ours (now (text .entry)))) r ⌝ }
+    requires { ⌜ AllCoded (now text) ⌝ }
+    ensures { λ r. ⌜ Needs longest (alone coded) (now (text .entry)) (written (ours (now (text .entry)))) r ⌝ }
 {
     let mut i: usize = 0;
     let mut n: usize = 0;
@@ -257,7 +258,7 @@ fn four_values(text: &[u8], i: usize) -> u64
 
 // What our writer sends next of the text from i on, where so many values are announced: four of them, two, one, or an indicator.
 fn next_codes(text: &[u8], i: usize, announced: usize) -> Sent
-    requires { ⌜ Coded (now text) × (i < length (now text)) ⌝ }
+    requires { ⌜ AllCoded (now text) × (i < length (now text)) ⌝ }
     requires { ⌜ (i + announced ≤ length (now text)) × Alike values (take announced (drop i (now text))) ⌝ }
     ensures { λ r. ⌜ NextOf announced (drop i (now (text .entry))) r ⌝ }
 {
@@ -308,7 +309,7 @@ struct Held {
 // `width` bits more, and if four bytes or more are held then, the upper four of them into the buffer.
 fn send(out: &mut [u8], b: Held, bits: u64, width: u64) -> Held
     requires { ⌜ (b .have < 32) × (width ≤ 24) × (bits < 2 ^ width) × (b .n + (b .have + width) / 8 ≤ length (now out)) ⌝ }
-    ensures { λ r. ⌜ Sends (now (out .entry)) (now (out .exit)) b (low width bits) r ⌝ }
+    ensures { λ r. ⌜ SendsBits (now (out .entry)) (now (out .exit)) b (low width bits) r ⌝ }
 {
     let n = b.n;
     let held = codes::push(b.held, bits, width);
@@ -327,7 +328,7 @@ fn send(out: &mut [u8], b: Held, bits: u64, width: u64) -> Held
 // The values of eight characters in a row, from place i on, sent at once.
 fn send_eight(text: &[u8], i: usize, out: &mut [u8], b: Held) -> Held
     requires { ⌜ (i + 8 ≤ length (now text)) × (b .have < 32) × (b .n + (b .have + 48) / 8 ≤ length (now out)) ⌝ }
-    ensures { λ r. ⌜ Sends (now (out .entry)) (now (out .exit)) b (eightValues (now (text .entry)) i) r ⌝ }
+    ensures { λ r. ⌜ SendsBits (now (out .entry)) (now (out .exit)) b (eightValues (now (text .entry)) i) r ⌝ }
 {
     let values = gathered(text, i);
     let first = send(out, b, values / 0x1_0000_0000, 24);
@@ -336,8 +337,8 @@ fn send_eight(text: &[u8], i: usize, out: &mut [u8], b: Held) -> Held
 
 // What our writer builds of the text, at the front of the buffer; how many bytes it is.
 fn put_data(text: &[u8], out: &mut [u8]) -> usize
-    requires { ⌜ Coded (now text) × (length (written (ours (now text))) ≤ length (now out)) ⌝ }
-    ensures { λ r. ⌜ Writes (now (text .entry)) (now (out .entry)) (now (out .exit)) r ⌝ }
+    requires { ⌜ AllCoded (now text) × (length (written (ours (now text))) ≤ length (now out)) ⌝ }
+    ensures { λ r. ⌜ PutsOurs (now (text .entry)) (now (out .entry)) (now (out .exit)) r ⌝ }
 {
     let mut b = Held {
         n: 0,
@@ -363,7 +364,7 @@ fn put_data(text: &[u8], out: &mut [u8]) -> usize
 
 // How many bytes our data of the text has; or the first character that has no code; or that one packet does not hold the data.
 pub fn data_length(text: &[u8]) -> Needed
-    ensures { λ r. ⌜ Needs longest coded (now (text .entry)) (written (ours (now (text .entry)))) r ⌝ }
+    ensures { λ r. ⌜ Needs longest (alone coded) (now (text .entry)) (written (ours (now (text .entry)))) r ⌝ }
 {
     let uncoded = first_uncoded(text);
     match uncoded {
@@ -374,7 +375,7 @@ pub fn data_length(text: &[u8]) -> Needed
 
 // Our data of the text at the front of the buffer, where the text has it and there is room for it; whatever their lengths.
 pub fn write(text: &[u8], out: &mut [u8]) -> Stored
-    ensures { λ r. ⌜ Stores longest coded (now (text .entry)) (written (ours (now (text .entry)))) (now (out .entry)) r (now (out .exit)) ⌝ }
+    ensures { λ r. ⌜ PutsData longest (alone coded) (now (text .entry)) (written (ours (now (text .entry)))) (now (out .entry)) r (now (out .exit)) ⌝ }
 {
     let needed = data_length(text);
     match needed {

@@ -21,7 +21,7 @@ use Rattle.libc.specs.Io.{Moved}
 use Rattle.read_packet.proofs.Input.{the-type}
 use Rattle.read_packet.specs.declared.Input.{Input}
 use Rattle.read_packet.specs.declared.Input.the-variants.{More, Whole, Failed}
-use Rattle.read_packet.specs.Input.{after, Fits, Within}
+use Rattle.read_packet.specs.Steps.Input.{afterRead, Fits, Within}
 
 abbrev pub which : Input → ℕ
 which (More n) = 0
@@ -46,7 +46,7 @@ by-numbers Failed Failed e f = refl
 
 -- so many bytes, and which of the three, are what the read leaves
 abbrev pub Comes : ℕ → ℤ → ℕ → ℕ → Type 0
-Comes done got k n = (k ≡ which (after done got)) × (n ≡ bytes (after done got))
+Comes done got k n = (k ≡ which (afterRead done got)) × (n ≡ bytes (afterRead done got))
 
 -- ---- by the tests that the code makes
 
@@ -99,20 +99,20 @@ module _ (room done : ℕ) (got : ℤ) (moved : Moved (room - done) got) where
       by (negsuc k) m = tt
 
   -- more came: at least a byte, and no more than there is room for
-  pub grows : (n : ℕ) → More n ≡ after done got → done < room → (done < n) × (n ≤ room)
+  pub grows : (n : ℕ) → More n ≡ afterRead done got → done < room → (done < n) × (n ≤ room)
   grows n e h = by got moved e
     where
-      by : (z : ℤ) → Moved (room - done) z → More n ≡ after done z → (done < n) × (n ≤ room)
+      by : (z : ℤ) → Moved (room - done) z → More n ≡ afterRead done z → (done < n) × (n ≤ room)
       by (pos zero) m q = absurd (let no′ : ⊥ = omega (arith, ap which q) in no′)
       by (pos (suc k)) m q = (omega (arith, ap bytes q), omega (arith, ap bytes q))
       by (negsuc k) m q = absurd (let no′ : ⊥ = omega (arith, ap which q) in no′)
 
 -- the last read brought nothing
-pub stays : (room done : ℕ) (got : ℤ) (input : Input) → input ≡ after done got → done ≤ room
+pub stays : (room done : ℕ) (got : ℤ) (input : Input) → input ≡ afterRead done got → done ≤ room
     → OneOf (1 ∷ 2 ∷ []) (tagOf the-type input) → Within room input
 stays room done got input e h one = subst⁻¹ (Within room) e (by got (subst (λ (i : Input). OneOf (1 ∷ 2 ∷ []) (tagOf the-type i)) e one))
   where
-    by : (z : ℤ) → OneOf (1 ∷ 2 ∷ []) (tagOf the-type (after done z)) → Within room (after done z)
+    by : (z : ℤ) → OneOf (1 ∷ 2 ∷ []) (tagOf the-type (afterRead done z)) → Within room (afterRead done z)
     by (pos zero) o = h
     by (pos (suc k)) (inl q) = absurd (let no′ : ⊥ = omega (arith, q) in no′)
     by (pos (suc k)) (inr q) = absurd (let no′ : ⊥ = omega (arith, q) in no′)

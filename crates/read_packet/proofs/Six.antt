@@ -5,7 +5,7 @@ use mathlib.Core.Path.{subst}
 use Prim.Native.Nat.{ℕ}
 use lib.ListN.{length}
 use Rattle.demands.proofs.Edges.{edges-hold}
-use Rattle.codes.specs.Laid.{Fronted}
+use Rattle.codes.specs.Steps.Laid.{Fronted}
 use Rattle.report.specs.Report.{Reports}
 use Rattle.report.proofs.Once.{reports-refused, refused-two}
 

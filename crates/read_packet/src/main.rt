@@ -5,7 +5,7 @@ use libc::STDIN_FILENO;
 use libc::STDOUT_FILENO;
 ghost use mathlib.Core.Path.{_≡_};
 ghost use lib.ListN.{length};
-ghost use Rattle.read_packet.specs.Input.{after, Fits, Within};
+ghost use Rattle.read_packet.specs.Steps.Input.{afterRead, Fits, Within};
 
 // The bytes of standard input that are taken, and the room for the text and for the line.
 const INPUT: usize = 8192;
@@ -24,7 +24,7 @@ enum Input {
 // The input after a read that answered `got`, with `done` bytes before it.
 fn taken(done: usize, got: isize) -> Input
     requires { ⌜ Fits done got ⌝ }
-    ensures { λ r. ⌜ r ≡ after done got ⌝ }
+    ensures { λ r. ⌜ r ≡ afterRead done got ⌝ }
 {
     if got < 0 {
         return Input::Failed;

@@ -5,8 +5,8 @@ use mathlib.Core.List.{List, [], _∷_}
 use mathlib.Core.Path.{_≡_, refl, sym, subst}
 use Prim.Native.Nat.{ℕ}
 use lib.ListN.{length}
-use Rattle.codes.specs.Laid.{Fronted}
-use Rattle.codes.proofs.Only.{one-front}
+use Rattle.codes.specs.Steps.Laid.{Fronted}
+use Rattle.codes.proofs.OneAnswer.{one-front}
 use Rattle.packet.specs.declared.ReadAnswer.{ReadAnswer}
 use Rattle.packet.specs.declared.ReadAnswer.the-variants.{Refused}
 use Rattle.refusals.specs.declared.Refusal.{Refusal}

@@ -8,18 +8,18 @@ use native.Mathlib.Nat.{add-zero, zero-add}
 use native.Mathlib.Numerals.{add-one}
 use lib.ListN.{length, getD, take, drop, set, length-append, drop-of-length-le}
 use lib.Seq.{drop-cons, take-length}
-use Rattle.codes.specs.Laid.{laid, Fronted}
-use Rattle.codes.proofs.Laid.{laid-nil, laid-laid, length-laid, set-laid}
-use Rattle.report.specs.Line.{digit, decimal, spaced, line, Puts}
+use Rattle.codes.specs.Steps.Laid.{laid, Fronted}
+use Rattle.codes.proofs.LaidRows.{laid-nil, laid-laid, length-laid, set-laid}
+use Rattle.report.specs.Line.{digit, decimal, spaced, line, PutsRow}
 use Rattle.report.proofs.Decimal.{decimal-small, decimal-large}
 
 -- nothing else changed, the length neither
-pub puts-length : {row entry exit : List ℕ} {n r : ℕ} → Puts row entry exit n r → n + length row ≤ length entry → length exit ≡ length entry
+pub puts-length : {row entry exit : List ℕ} {n r : ℕ} → PutsRow row entry exit n r → n + length row ≤ length entry → length exit ≡ length entry
 puts-length {row} {entry} {exit} {n} p h = ap length (p .whole) ∙ length-laid entry n row h
 
 -- two rows are one
-pub puts-more : {a b entry mid exit : List ℕ} {n m r : ℕ} → Puts a entry mid n m → Puts b mid exit m r → n + length a ≤ length entry
-    → Puts (a ++ b) entry exit n r
+pub puts-more : {a b entry mid exit : List ℕ} {n m r : ℕ} → PutsRow a entry mid n m → PutsRow b mid exit m r → n + length a ≤ length entry
+    → PutsRow (a ++ b) entry exit n r
 puts-more {a} {b} {entry} {mid} {exit} {n} {m} {r} p q h =
     record {
       place = omega (arith, p .place, q .place, length-append a b);
@@ -28,17 +28,17 @@ puts-more {a} {b} {entry} {mid} {exit} {n} {m} {r} p q h =
     }
 
 -- a byte
-pub puts-byte : (entry : List ℕ) (n v : ℕ) → n < length entry → Puts (v ∷ []) entry (set entry n v) n (n + 1)
+pub puts-byte : (entry : List ℕ) (n v : ℕ) → n < length entry → PutsRow (v ∷ []) entry (set entry n v) n (n + 1)
 puts-byte entry n v h = record { place = refl; whole = set-laid entry n v h }
 
 -- a byte that is to be this one, and the place behind it
-puts-as : {v r : ℕ} {entry : List ℕ} {n : ℕ} (byte : ℕ) → byte ≡ v → r ≡ n + 1 → n < length entry → Puts (v ∷ []) entry (set entry n byte) n r
+puts-as : {v r : ℕ} {entry : List ℕ} {n : ℕ} (byte : ℕ) → byte ≡ v → r ≡ n + 1 → n < length entry → PutsRow (v ∷ []) entry (set entry n byte) n r
 puts-as {v} {r} {entry} {n} byte e f h =
     record { place = f; whole = set-laid entry n byte h ∙ ap (λ (b : ℕ). laid entry n (b ∷ [])) e }
 
 -- ---- a number
 
-pub puts-small : (n : ℕ) (entry : List ℕ) (at : ℕ) → n < 10 → at < length entry → Puts (decimal n) entry (set entry at (digit n)) at (at + 1)
+pub puts-small : (n : ℕ) (entry : List ℕ) (at : ℕ) → n < 10 → at < length entry → PutsRow (decimal n) entry (set entry at (digit n)) at (at + 1)
 puts-small n entry at few h = rw (decimal-small n few) (puts-byte entry at (digit n) h)
 
 module _ (n : ℕ) (fits : n < 2 ^ 64) (many : 10 ≤ n) (entry : List ℕ) (at : ℕ) (held : at + length (decimal n) ≤ length entry) where
@@ -47,8 +47,8 @@ module _ (n : ℕ) (fits : n < 2 ^ 64) (many : 10 ≤ n) (entry : List ℕ) (at 
   tenth-held =
       omega (arith, ap length (decimal-large n fits many), length-append (decimal (n / 10)) (digit (n % 10) ∷ []))
 
-  pub puts-large : (mid : List ℕ) (last : ℕ) → Puts (decimal (n / 10)) entry mid at last
-      → (last < length mid) × Puts (decimal n) entry (set mid last (digit (n % 10))) at (last + 1)
+  pub puts-large : (mid : List ℕ) (last : ℕ) → PutsRow (decimal (n / 10)) entry mid at last
+      → (last < length mid) × PutsRow (decimal n) entry (set mid last (digit (n % 10))) at (last + 1)
   puts-large mid last p =
       let here : last < length mid = omega (arith, p .place, tenth-held, puts-length p (omega (arith, tenth-held))) in
       (here, rw (decimal-large n fits many) (puts-more p (puts-byte mid last (digit (n % 10)) here) (omega (arith, tenth-held))))
@@ -60,13 +60,13 @@ pub record Left (numbers entry : List ℕ) (at : ℕ) (out : List ℕ) (end i : 
   pub few : i ≤ length numbers
   pub held : end + length (spaced (drop i numbers)) ≤ length out
   pub same : length out ≡ length entry
-  pub rest : (exit : List ℕ) (r : ℕ) → Puts (spaced (drop i numbers)) out exit end r → Puts (spaced numbers) entry exit at r
+  pub rest : (exit : List ℕ) (r : ℕ) → PutsRow (spaced (drop i numbers)) out exit end r → PutsRow (spaced numbers) entry exit at r
 
 pub left-all : (numbers entry : List ℕ) (at : ℕ) → at + length (spaced numbers) ≤ length entry → Left numbers entry at entry at 0
 left-all numbers entry at h = record { few = omega arith; held = h; same = refl; rest = λ exit r p. p }
 
 module _ {numbers entry : List ℕ} {at : ℕ} {out : List ℕ} {end i : ℕ} (l : Left numbers entry at out end i) where
-  pub left-none : length numbers ≤ i → Puts (spaced numbers) entry out at end
+  pub left-none : length numbers ≤ i → PutsRow (spaced numbers) entry out at end
   unfolding spaced
   left-none h =
       l .rest out end
@@ -83,11 +83,11 @@ module _ {numbers entry : List ℕ} {at : ℕ} {out : List ℕ} {end i : ℕ} (l
     next-held =
         omega (arith, l .held, ap length next, length-append (32 ∷ decimal (getD numbers i 0)) (spaced (drop (i + 1) numbers)))
 
-    pub left-next : (between : ℕ) (exit : List ℕ) (r : ℕ) → Puts (decimal (getD numbers i 0)) (set out end between) exit (end + 1) r
+    pub left-next : (between : ℕ) (exit : List ℕ) (r : ℕ) → PutsRow (decimal (getD numbers i 0)) (set out end between) exit (end + 1) r
         → between ≡ 32 → Left numbers entry at exit r (i + 1)
     left-next between exit r p e =
-        let space : Puts (32 ∷ []) out (set out end between) end (end + 1) = puts-as between e refl (omega (arith, next-held)) in
-        let both : Puts (32 ∷ decimal (getD numbers i 0)) out exit end r = puts-more space p (omega (arith, next-held)) in
+        let space : PutsRow (32 ∷ []) out (set out end between) end (end + 1) = puts-as between e refl (omega (arith, next-held)) in
+        let both : PutsRow (32 ∷ decimal (getD numbers i 0)) out exit end r = puts-more space p (omega (arith, next-held)) in
         let long : length exit ≡ length out = puts-length both (omega (arith, next-held)) in
         record {
           few = omega arith;
@@ -99,7 +99,7 @@ module _ {numbers entry : List ℕ} {at : ℕ} {out : List ℕ} {end i : ℕ} (l
 -- ---- a line
 
 -- a row laid at place 0 stands at the front
-front : {row entry exit : List ℕ} {r : ℕ} → Puts row entry exit 0 r → Fronted row entry exit r
+front : {row entry exit : List ℕ} {r : ℕ} → PutsRow row entry exit 0 r → Fronted row entry exit r
 unfolding laid
 front {row} {entry} p =
     let long = p .place ∙ zero-add (length row) in
@@ -112,7 +112,7 @@ module _ (word numbers entry : List ℕ) (held : length (line word numbers) ≤ 
       omega (arith, length-append word (spaced numbers ++ (10 ∷ [])), length-append (spaced numbers) (10 ∷ []))
 
   module _ (mid : List ℕ) (at : ℕ) (long : at ≡ length word) (copied : mid ≡ take (length word) word ++ drop (length word) entry) where
-    word-put : Puts word entry mid 0 at
+    word-put : PutsRow word entry mid 0 at
     unfolding laid
     word-put =
         record {
@@ -123,7 +123,7 @@ module _ (word numbers entry : List ℕ) (held : length (line word numbers) ≤ 
     pub spaced-held : at + length (spaced numbers) + 1 ≤ length mid
     spaced-held = omega (arith, line-held, puts-length word-put (omega (arith, line-held)))
 
-    module _ (late : List ℕ) (end : ℕ) (p : Puts (spaced numbers) mid late at end) where
+    module _ (late : List ℕ) (end : ℕ) (p : PutsRow (spaced numbers) mid late at end) where
       pub end-held : end < length late
       end-held = omega (arith, p .place, spaced-held, puts-length p (omega (arith, spaced-held)))
 

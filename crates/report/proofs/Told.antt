@@ -5,7 +5,7 @@ use mathlib.Core.Path.{_≡_, refl, sym, ap, ap₂, subst}
 use Prim.Native.Nat.{ℕ}
 use Rattle.header.specs.Fields.{oneIf}
 use Rattle.header.specs.Typed.{formatNumber}
-use Rattle.codes.specs.Laid.{Fronted}
+use Rattle.codes.specs.Steps.Laid.{Fronted}
 use Rattle.packet.specs.declared.Reading.{Reading}
 use Rattle.refusals.specs.declared.Refusal.{Refusal}
 use Rattle.packet.specs.declared.ReadAnswer.{ReadAnswer}

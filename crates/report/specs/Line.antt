@@ -9,7 +9,7 @@ use lib.Dec.{ltb}
 use lib.ListN.{length}
 use Rattle.header.specs.Fields.{oneIf}
 use Rattle.header.specs.Typed.{formatNumber}
-use Rattle.codes.specs.Laid.{laid}
+use Rattle.codes.specs.Steps.Laid.{laid}
 use Rattle.packet.specs.declared.ReadAnswer.{ReadAnswer}
 use Rattle.packet.specs.declared.ReadAnswer.the-variants.{Accepted, Refused}
 use Rattle.refusals.specs.Refusals as refusals
@@ -59,6 +59,6 @@ abbrev pub room : ℕ
 room = 128
 
 -- the row stands in the buffer from place n on, up to place r, and nothing else changed
-pub record Puts (row entry exit : List ℕ) (n r : ℕ) : Type 0 where
+pub record PutsRow (row entry exit : List ℕ) (n r : ℕ) : Type 0 where
   pub place : r ≡ n + length row
   pub whole : exit ≡ laid entry n row

@@ -4,7 +4,7 @@ use mathlib.Core.List.{List}
 use Prim.Native.Nat.{ℕ}
 use Rattle.packet.specs.declared.ReadAnswer.{ReadAnswer}
 use Rattle.packet.specs.Reader.{Reads}
-use Rattle.codes.specs.Laid.{Fronted}
+use Rattle.codes.specs.Steps.Laid.{Fronted}
 use Rattle.report.specs.Line.{lineOf}
 
 pub record Reports (packet text text′ out out′ : List ℕ) (r : ℕ) : Type 0 where

@@ -3,14 +3,14 @@ use header::Header;
 use packet::ReadAnswer;
 ghost use Prim.Native.Nat.{_+_, _≤_};
 ghost use lib.ListN.{length};
-ghost use Rattle.report.specs.Line.{decimal, spaced, line as lineWith, lineOf, room, Puts};
-ghost use Rattle.codes.specs.Laid.{Fronted};
+ghost use Rattle.report.specs.Line.{decimal, spaced, line as lineWith, lineOf, room, PutsRow};
+ghost use Rattle.codes.specs.Steps.Laid.{Fronted};
 ghost use Rattle.report.specs.Report.{Reports};
 
 // A number in decimal, from place `at` on; the place behind it.
 fn put_decimal(n: usize, out: &mut [u8], at: usize) -> usize
     requires { ⌜ at + length (decimal n) ≤ length (now out) ⌝ }
-    ensures { λ r. ⌜ Puts (decimal n) (now (out .entry)) (now (out .exit)) at r ⌝ }
+    ensures { λ r. ⌜ PutsRow (decimal n) (now (out .entry)) (now (out .exit)) at r ⌝ }
 {
     if n < 10 {
         out[at] = 48 + n as u8;
@@ -24,7 +24,7 @@ fn put_decimal(n: usize, out: &mut [u8], at: usize) -> usize
 // Numbers in decimal, each after a single space.
 fn put_spaced(numbers: &[usize], out: &mut [u8], at: usize) -> usize
     requires { ⌜ at + length (spaced (now numbers)) ≤ length (now out) ⌝ }
-    ensures { λ r. ⌜ Puts (spaced (now (numbers .entry))) (now (out .entry)) (now (out .exit)) at r ⌝ }
+    ensures { λ r. ⌜ PutsRow (spaced (now (numbers .entry))) (now (out .entry)) (now (out .exit)) at r ⌝ }
 {
     let mut end = at;
     let mut i: usize = 0;

@@ -1,7 +1,7 @@
 -- `checksum::both_moved` meets its contract.
 -- Assumes nothing.
 use mathlib.Core.Path.{refl}
-use Rattle.checksum.specs.Words.{bothMoved}
+use Rattle.checksum.specs.Steps.Words.{bothMoved}
 use Rattle.checksum.proofs.both_moved.Statement.{statement}
 use Rattle.checksum.proofs.both_moved.Tie as tie
 

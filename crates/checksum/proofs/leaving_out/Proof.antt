@@ -6,14 +6,14 @@ use Prim.Native.Nat.{_+_, _≤_, _-_}
 use native.Mathlib.Omega.{arith}
 use lib.ListN.{length, take}
 use Rattle.checksum.specs.Checksum.{start, checksumFrom}
-use Rattle.checksum.specs.Words.{Carries}
+use Rattle.checksum.specs.Steps.Words.{StandsFor}
 use Rattle.checksum.proofs.Leaving.{begins}
 use Rattle.checksum.proofs.Row.{checksum-none, checksum-more}
 use Rattle.checksum.proofs.leaving_out.Statement.{statement}
 use Rattle.checksum.proofs.leaving_out.Tie as tie
 
 abbrev Inv-loop : tie.InvT-loop
-Inv-loop «data» carry₀ i₀ carry i = (i + 24 ≤ length «data») × Carries carry (checksumFrom start (take i «data»))
+Inv-loop «data» carry₀ i₀ carry i = (i + 24 ≤ length «data») × StandsFor carry (checksumFrom start (take i «data»))
 
 abbrev μ-loop : tie.MeasureT-loop
 μ-loop «data» carry₀ i₀ carry i = length «data» - i
@@ -41,7 +41,7 @@ loop-again : tie.Need-loop-again Inv-loop μ-loop
 loop-again c =
     let at = c .before .before .loop in
     let bytes = c .before .before .before .before .before .args .«data» .now in
-    (omega arith, subst (Carries (c .three-turns .result)) (checksum-more 24 (at .i) start bytes) (c .three-turns .ensures _ (at .inv .1)))
+    (omega arith, subst (StandsFor (c .three-turns .result)) (checksum-more 24 (at .i) start bytes) (c .three-turns .ensures _ (at .inv .1)))
 
 last-steps-requires : tie.Need-last-steps-requires Inv-loop μ-loop
 last-steps-requires c κs = omega arith

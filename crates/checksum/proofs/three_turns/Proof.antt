@@ -2,7 +2,7 @@
 -- Assumes nothing.
 use mathlib.Core.Path.{refl, subst}
 use Prim.Native.Nat.{_+_}
-use Rattle.checksum.specs.Words.{Carries}
+use Rattle.checksum.specs.Steps.Words.{StandsFor}
 use Rattle.checksum.proofs.Words.{three-words}
 use borrow.Author.Needs.{needs}
 use Rattle.checksum.proofs.three_turns.Statement.{statement}
@@ -39,7 +39,7 @@ returns c register carries =
     let second = c .before .before .before .word-at2 in
     let third = c .before .word-at3 in
     let turned = c .turn3 .ensures _ (c .before .before .turn2 .ensures _ (c .before .before .before .before .turn .ensures register carries)) in
-    subst (Carries (c .turn3 .result))
+    subst (StandsFor (c .turn3 .result))
     (three-words (given .«data» .now) (given .i) (given .i + 8) (given .i + 16) (first .result) (second .result) (third .result) register refl refl
     (first .ensures) (second .ensures) (third .ensures))
     turned

@@ -2,7 +2,7 @@
 -- Assumes nothing.
 use mathlib.Core.Path.{refl, ap, _∙_}
 use native.Mathlib.Nat.{div-one}
-use Rattle.checksum.specs.Words.{entered}
+use Rattle.checksum.specs.Steps.Words.{entered}
 use Rattle.checksum.proofs.Words.{byte-of-word}
 use borrow.Author.Needs.{needs}
 use Rattle.checksum.proofs.word_step.Statement.{statement}

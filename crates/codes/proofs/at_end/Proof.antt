@@ -1,7 +1,7 @@
 -- `codes::at_end` meets its contract. Assumes nothing.
 use native.Mathlib.Omega.{arith}
-use Rattle.codes.proofs.Low.{length-low}
-use Rattle.codes.proofs.Ahead.{window-fill, fill-window}
+use Rattle.codes.proofs.LowBits.{length-low}
+use Rattle.codes.proofs.BitBuffer.{window-fill, fill-window}
 use borrow.Author.Needs.{needs}
 use Rattle.codes.proofs.at_end.Statement.{statement}
 use Rattle.codes.proofs.at_end.Tie as tie

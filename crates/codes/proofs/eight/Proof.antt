@@ -1,8 +1,8 @@
 -- `codes::eight` meets its contract. Assumes nothing.
 use Prim.Native.Nat.{_+_}
 use native.Mathlib.Omega.{arith}
-use Rattle.codes.specs.Words.{fourAt, eightAt}
-use Rattle.codes.proofs.Words.{four-at}
+use Rattle.codes.specs.Steps.EightBytes.{fourAt, eightAt}
+use Rattle.codes.proofs.EightBytes.{four-at}
 use borrow.Author.Needs.{needs}
 use Rattle.codes.proofs.eight.Statement.{statement}
 use Rattle.codes.proofs.eight.Tie as tie

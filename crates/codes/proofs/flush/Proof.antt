@@ -7,9 +7,9 @@ use native.Mathlib.Omega.{arith}
 use lib.Dec.{lit≤}
 use lib.ListN.{length, replicate, set, length-set}
 use Rattle.codes.specs.Pack.{low, packed, filled, gap}
-use Rattle.codes.specs.Pending.{Pending}
-use Rattle.codes.proofs.Spilling.{pending-length, pending-room, pending-byte, pending-done}
-use Rattle.codes.proofs.Flushing.{last-bytes, last-length, last-pending, gap-none, gap-some, pending-last}
+use Rattle.codes.specs.Steps.Pending.{Pending}
+use Rattle.codes.proofs.PendingBytes.{pending-length, pending-room, pending-byte, pending-done}
+use Rattle.codes.proofs.LastBytes.{last-bytes, last-length, last-pending, gap-none, gap-some, pending-last}
 use Rattle.codes.proofs.flush.Statement.{statement}
 use Rattle.codes.proofs.flush.Tie as tie
 

@@ -1,6 +1,6 @@
 -- `codes::push` meets its contract. Assumes nothing.
 use native.Mathlib.Omega.{arith}
-use Rattle.codes.proofs.Held.{pushed}
+use Rattle.codes.proofs.PushedBits.{pushed}
 use borrow.Author.Needs.{needs}
 use Rattle.codes.proofs.push.Statement.{statement}
 use Rattle.codes.proofs.push.Tie as tie

@@ -1,7 +1,7 @@
 -- `codes::spill` meets its contract. Assumes nothing.
 use native.Mathlib.Omega.{arith}
 use lib.ListN.{length-set}
-use Rattle.codes.proofs.Words.{spill-four}
+use Rattle.codes.proofs.EightBytes.{spill-four}
 use borrow.Author.Needs.{needs}
 use Rattle.codes.proofs.spill.Statement.{statement}
 use Rattle.codes.proofs.spill.Tie as tie

@@ -3,8 +3,8 @@ use mathlib.Core.Path.{subst⁻¹}
 use Prim.Native.Nat.{ℕ, _-_}
 use native.Mathlib.Omega.{arith}
 use lib.Pow.{pow-pos, pow-mono}
-use Rattle.codes.specs.Ahead.{Window}
-use Rattle.codes.proofs.Ahead.{window-whole, window-short, one-shifted, held-shifted}
+use Rattle.codes.specs.Steps.BitBuffer.{Window}
+use Rattle.codes.proofs.BitBuffer.{window-whole, window-short, one-shifted, held-shifted}
 use borrow.Author.Needs.{needs}
 use Rattle.codes.proofs.window.Statement.{statement}
 use Rattle.codes.proofs.window.Tie as tie

@@ -4,14 +4,14 @@ use mathlib.Core.List.{List}
 use Prim.Native.Nat.{ℕ}
 use native.Mathlib.Omega.{arith}
 use Rattle.bits.specs.Row.{bits}
-use Rattle.codes.specs.Measure.{Measures}
+use Rattle.codes.specs.Steps.Measure.{Measures}
 use Rattle.codes.specs.Pack.{low}
 use Rattle.codes.specs.declared.Measured.the-variants.{Text, Malformed}
-use Rattle.codes.proofs.Laying.{counting-text, counting-malformed}
-use Rattle.codes.proofs.Low.{length-low}
-use Rattle.codes.proofs.Pack.{length-bits}
-use Rattle.codes.proofs.Within.{builds-within, stuck-within}
-use Rattle.full_ascii_reader.specs.Passing.{Counted}
+use Rattle.codes.proofs.ReadSoFar.{counting-text, counting-malformed}
+use Rattle.codes.proofs.LowBits.{length-low}
+use Rattle.codes.proofs.BitsInBytes.{length-bits}
+use Rattle.codes.proofs.SizeBounds.{builds-within, stuck-within}
+use Rattle.full_ascii_reader.specs.Steps.Passing.{CountedSoFar}
 use Rattle.full_ascii.specs.Table.{scheme}
 use Rattle.full_ascii.proofs.Table.{briefs}
 use borrow.Author.Needs.{needs}
@@ -32,10 +32,10 @@ enum-known-last c = search needs
 
 -- the codes that were passed leave the last bits
 counted : (b : tie.After-last-bits)
-    → Counted (bits (b .before .before .before .args .s .now)) (low (b .last-bits .result .have) (b .last-bits .result .held))
+    → CountedSoFar (bits (b .before .before .before .args .s .now)) (low (b .last-bits .result .have) (b .last-bits .result .held))
     (b .before .measure-words .result .n)
 counted b =
-    subst⁻¹ (λ (l : List ℕ). Counted (bits (b .before .before .before .args .s .now)) l (b .before .measure-words .result .n))
+    subst⁻¹ (λ (l : List ℕ). CountedSoFar (bits (b .before .before .before .args .s .now)) l (b .before .measure-words .result .n))
     (b .last-bits .ensures .same) (b .before .measure-words .ensures .2)
 
 -- what these come to, in the arm of each answer

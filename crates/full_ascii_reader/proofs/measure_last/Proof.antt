@@ -7,16 +7,16 @@ use native.Mathlib.Omega.{arith}
 use Rattle.bits.specs.Says.{Says}
 use Rattle.codes.specs.Chain.{Fill}
 use Rattle.codes.specs.Pack.{low}
-use Rattle.codes.proofs.Laying.{counting-none, counting-end, counting-stuck}
-use Rattle.codes.proofs.Low.{length-low}
-use Rattle.full_ascii_reader.specs.Passing.{Counted}
+use Rattle.codes.proofs.ReadSoFar.{counting-none, counting-end, counting-stuck}
+use Rattle.codes.proofs.LowBits.{length-low}
+use Rattle.full_ascii_reader.specs.Steps.Passing.{CountedSoFar}
 use Rattle.full_ascii.specs.Table.{scheme}
 use Rattle.full_ascii_reader.proofs.Steps.{counted-code, no-code}
 use Rattle.full_ascii_reader.proofs.measure_last.Statement.{statement}
 use Rattle.full_ascii_reader.proofs.measure_last.Tie as tie
 
 abbrev Inv-loop : tie.InvT-loop
-Inv-loop held have left₀ n₀ left n = (left ≤ have) × (n + left ≤ have) × Counted (low have held) (low left held) n
+Inv-loop held have left₀ n₀ left n = (left ≤ have) × (n + left ≤ have) × CountedSoFar (low have held) (low left held) n
 
 abbrev μ-loop : tie.MeasureT-loop
 μ-loop held have left₀ n₀ left n = left

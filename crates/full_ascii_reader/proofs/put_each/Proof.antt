@@ -6,19 +6,19 @@ use Prim.Native.Nat.{ℕ, _+_, _-_, _≤_}
 use native.Mathlib.Nat.{add-zero}
 use native.Mathlib.Omega.{arith}
 use lib.ListN.{length}
-use Rattle.codes.specs.Laid.{laid}
+use Rattle.codes.specs.Steps.Laid.{laid}
 use Rattle.codes.specs.Pack.{low}
-use Rattle.codes.proofs.Laying.{laying-none, laying-length}
-use Rattle.full_ascii_reader.specs.Passing.{Laying}
+use Rattle.codes.proofs.ReadSoFar.{laying-none, laying-length}
+use Rattle.full_ascii_reader.specs.Steps.Passing.{LaidSoFar}
 use Rattle.full_ascii.specs.Table.{scheme}
-use Rattle.full_ascii_reader.specs.Taken.{characters}
+use Rattle.full_ascii_reader.specs.Steps.Taken.{charactersOf}
 use Rattle.full_ascii_reader.proofs.Laying.{puts-room, puts-code}
 use Rattle.full_ascii_reader.proofs.put_each.Statement.{statement}
 use Rattle.full_ascii_reader.proofs.put_each.Tie as tie
 
 abbrev Inv-loop : tie.InvT-loop
 Inv-loop held have out₀ n left₀ count₀ out left count =
-    (count + left ≤ have) × Laying (low have held) (low left held) out₀ out n (n + count)
+    (count + left ≤ have) × LaidSoFar (low have held) (low left held) out₀ out n (n + count)
 
 abbrev μ-loop : tie.MeasureT-loop
 μ-loop held have out₀ n left₀ count₀ out left count = left
@@ -28,7 +28,7 @@ loop-holds c =
     let e = c .before in
     let bs = low (e .args .have) (e .args .held) in (
       omega arith,
-      subst⁻¹ (Laying bs bs (e .args .out .now) (e .args .out .now) (e .args .n)) (add-zero (e .args .n))
+      subst⁻¹ (LaidSoFar bs bs (e .args .out .now) (e .args .out .now) (e .args .n)) (add-zero (e .args .n))
           (laying-none scheme bs (e .args .out .now) (e .args .n)),
     )
 
@@ -40,9 +40,9 @@ first-code-requires c κs = c .window .ensures .small
 
 -- at the code that was found: what is laid with it, and the room for it
 step : (f : tie.After-first-code Inv-loop μ-loop)
-    → Laying (low (f .before .before .before .before .before .args .have) (f .before .before .before .before .before .args .held))
+    → LaidSoFar (low (f .before .before .before .before .before .args .have) (f .before .before .before .before .before .args .held))
     (low (f .before .before .before .loop .left - f .first-code .result .width) (f .before .before .before .before .before .args .held)) (f .before .before .before .before .before .args .out .now)
-    (laid (f .before .before .before .loop .out) (f .before .before .before .before .before .args .n + f .before .before .before .loop .count) (characters (f .first-code .result))) (f .before .before .before .before .before .args .n)
+    (laid (f .before .before .before .loop .out) (f .before .before .before .before .before .args .n + f .before .before .before .loop .count) (charactersOf (f .first-code .result))) (f .before .before .before .before .before .args .n)
     (f .before .before .before .before .before .args .n + (f .before .before .before .loop .count + f .first-code .result .count))
 step f =
     let a = f .before .before .before in
@@ -88,7 +88,7 @@ loop-again c =
     let e = a .before .before in
     let t = f .first-code .ensures in (
       omega (arith, t .short, t .long, t .few),
-      subst⁻¹ (λ (l : List ℕ). Laying (low (e .args .have) (e .args .held)) (low (a .loop .left - f .first-code .result .width) (e .args .held))
+      subst⁻¹ (λ (l : List ℕ). LaidSoFar (low (e .args .have) (e .args .held)) (low (a .loop .left - f .first-code .result .width) (e .args .held))
           (e .args .out .now) l (e .args .n) (e .args .n + (a .loop .count + f .first-code .result .count))) (c .before .before .before .before .put .ensures) (step f),
     )
 

@@ -6,13 +6,13 @@ use Prim.Native.Nat.{ℕ, _+_, _-_, _*_, _%_, _^_, _≤_, _<_}
 use native.Mathlib.Nat.{add-zero}
 use native.Mathlib.Omega.{arith}
 use lib.ListN.{length}
-use Rattle.codes.specs.Ahead.{Window}
-use Rattle.codes.specs.Laid.{laid}
+use Rattle.codes.specs.Steps.BitBuffer.{Window}
+use Rattle.codes.specs.Steps.Laid.{laid}
 use Rattle.codes.specs.Pack.{low}
-use Rattle.codes.proofs.Laying.{laying-none, laying-length}
-use Rattle.full_ascii_reader.specs.Passing.{Laying}
+use Rattle.codes.proofs.ReadSoFar.{laying-none, laying-length}
+use Rattle.full_ascii_reader.specs.Steps.Passing.{LaidSoFar}
 use Rattle.full_ascii.specs.Table.{scheme}
-use Rattle.full_ascii_reader.specs.Taken.{Takes, characters}
+use Rattle.full_ascii_reader.specs.Steps.Taken.{FirstCode, charactersOf}
 use Rattle.full_ascii_reader.proofs.Laying.{puts-room, puts-code}
 use Rattle.full_ascii_reader.proofs.Seven.{top-seven, seven-takes, top-on}
 use Rattle.full_ascii_reader.proofs.put_plain.Statement.{statement}
@@ -21,7 +21,7 @@ use Rattle.full_ascii_reader.proofs.put_plain.Tie as tie
 abbrev Inv-loop : tie.InvT-loop
 Inv-loop held have out₀ n top₀ left₀ count₀ out top left count =
     (left + 6 * count ≤ have) × (have ≤ left + 7 * count) × (count ≤ 8) × (top ≡ held * 2 ^ (64 - left) % 2 ^ 64)
-    × Laying (low have held) (low left held) out₀ out n (n + count)
+    × LaidSoFar (low have held) (low left held) out₀ out n (n + count)
 
 abbrev μ-loop : tie.MeasureT-loop
 μ-loop held have out₀ n top₀ left₀ count₀ out top left count = 8 - count
@@ -40,7 +40,7 @@ loop-holds c =
       omega arith,
       omega arith,
       refl,
-      subst⁻¹ (Laying bs bs (e .args .out .now) (e .args .out .now) (e .args .n)) (add-zero (e .args .n))
+      subst⁻¹ (LaidSoFar bs bs (e .args .out .now) (e .args .out .now) (e .args .n)) (add-zero (e .args .n))
           (laying-none scheme bs (e .args .out .now) (e .args .n)),
     )
 
@@ -53,7 +53,7 @@ first-plain-requires c κs =
 
 -- the code is that of the window
 taken : (f : tie.After-first-plain Inv-loop μ-loop)
-    → (w : ℕ) × Window (f .before .before .before .before .args .held) (f .before .before .loop .left) w × Takes w (f .first-plain .result)
+    → (w : ℕ) × Window (f .before .before .before .before .args .held) (f .before .before .loop .left) w × FirstCode w (f .first-plain .result)
 taken f =
     let a = f .before .before in
     seven-takes (a .before .before .args .held) (a .loop .left) (a .loop .top) (f .first-plain .result) (omega arith) (omega arith)
@@ -61,9 +61,9 @@ taken f =
 
 -- at the code that was found: what is laid with it, and the room for it
 step : (f : tie.After-first-plain Inv-loop μ-loop)
-    → Laying (low (f .before .before .before .before .args .have) (f .before .before .before .before .args .held))
+    → LaidSoFar (low (f .before .before .before .before .args .have) (f .before .before .before .before .args .held))
     (low (f .before .before .loop .left - f .first-plain .result .width) (f .before .before .before .before .args .held)) (f .before .before .before .before .args .out .now)
-    (laid (f .before .before .loop .out) (f .before .before .before .before .args .n + f .before .before .loop .count) (characters (f .first-plain .result))) (f .before .before .before .before .args .n)
+    (laid (f .before .before .loop .out) (f .before .before .before .before .args .n + f .before .before .loop .count) (charactersOf (f .first-plain .result))) (f .before .before .before .before .args .n)
     (f .before .before .before .before .args .n + (f .before .before .loop .count + f .first-plain .result .count))
 step f =
     let a = f .before .before in
@@ -115,7 +115,7 @@ loop-again c =
       omega (arith, f .first-plain .ensures .0, f .first-plain .ensures .1),
       omega (arith, f .first-plain .ensures .1),
       top-on (e .args .held) (a .loop .left) (a .loop .top) (r .width) (omega (arith, f .first-plain .ensures .0)) (omega arith) (a .loop .inv .3),
-      subst⁻¹ (λ (l : List ℕ). Laying (low (e .args .have) (e .args .held)) (low (a .loop .left - f .first-plain .result .width) (e .args .held))
+      subst⁻¹ (λ (l : List ℕ). LaidSoFar (low (e .args .have) (e .args .held)) (low (a .loop .left - f .first-plain .result .width) (e .args .held))
           (e .args .out .now) l (e .args .n) (e .args .n + (a .loop .count + f .first-plain .result .count))) (c .before .before .before .before .before .put .ensures) (step f),
     )
 

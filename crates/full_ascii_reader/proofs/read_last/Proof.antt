@@ -8,12 +8,12 @@ use native.Mathlib.Omega.{arith}
 use lib.ListN.{length}
 use Rattle.bits.specs.Says.{Says}
 use Rattle.codes.specs.Chain.{Fill}
-use Rattle.codes.specs.Laid.{laid}
+use Rattle.codes.specs.Steps.Laid.{laid}
 use Rattle.codes.specs.Pack.{low}
-use Rattle.codes.proofs.Laying.{laying-none, laying-length, laying-end, laying-later, laying-within}
-use Rattle.full_ascii_reader.specs.Passing.{Laying}
+use Rattle.codes.proofs.ReadSoFar.{laying-none, laying-length, laying-end, laying-later, laying-within}
+use Rattle.full_ascii_reader.specs.Steps.Passing.{LaidSoFar}
 use Rattle.full_ascii.specs.Table.{scheme}
-use Rattle.full_ascii_reader.specs.Taken.{characters}
+use Rattle.full_ascii_reader.specs.Steps.Taken.{charactersOf}
 use Rattle.full_ascii_reader.proofs.Laying.{laying-code, code-there}
 use Rattle.full_ascii.proofs.Table.{laws}
 use Rattle.full_ascii_reader.proofs.read_last.Statement.{statement}
@@ -21,7 +21,7 @@ use Rattle.full_ascii_reader.proofs.read_last.Tie as tie
 
 abbrev Inv-loop : tie.InvT-loop
 Inv-loop held have out₀ n left₀ at₀ out left at =
-    (left ≤ have) × (at ≤ length out₀) × Laying (low have held) (low left held) out₀ out n at
+    (left ≤ have) × (at ≤ length out₀) × LaidSoFar (low have held) (low left held) out₀ out n at
 
 abbrev μ-loop : tie.MeasureT-loop
 μ-loop held have out₀ n left₀ at₀ out left at = left
@@ -62,11 +62,11 @@ there f =
     (subst (λ (b : Bool). Says b (Fill 7 rest)) (f .before .before .if1 .left) (f .before .before .before .at-end .ensures))
 
 step : (f : tie.After-first-code Inv-loop μ-loop)
-    → Laying (low (f .before .before .before .before .before .before .args .have) (f .before .before .before .before .before .before .args .held))
+    → LaidSoFar (low (f .before .before .before .before .before .before .args .have) (f .before .before .before .before .before .before .args .held))
     (low (f .before .before .before .before .loop .left - f .first-code .result .width)
     (f .before .before .before .before .before .before .args .held))
     (f .before .before .before .before .before .before .args .out .now)
-    (laid (f .before .before .before .before .loop .out) (f .before .before .before .before .loop .at) (characters (f .first-code .result)))
+    (laid (f .before .before .before .before .loop .out) (f .before .before .before .before .loop .at) (charactersOf (f .first-code .result)))
     (f .before .before .before .before .before .before .args .n) (f .before .before .before .before .loop .at + f .first-code .result .count)
 step f =
     let a = f .before .before .before .before in
@@ -108,7 +108,7 @@ loop-again c =
     let e = a .before .before in (
       omega arith,
       room f,
-      subst⁻¹ (λ (l : List ℕ). Laying (low (e .args .have) (e .args .held)) (low (a .loop .left - f .first-code .result .width) (e .args .held))
+      subst⁻¹ (λ (l : List ℕ). LaidSoFar (low (e .args .have) (e .args .held)) (low (a .loop .left - f .first-code .result .width) (e .args .held))
           (e .args .out .now) l (e .args .n) (a .loop .at + f .first-code .result .count)) (c .before .before .before .before .put .ensures) (step f),
     )
 

@@ -3,15 +3,15 @@
 use Prim.Native.Nat.{_+_, _≤_}
 use native.Mathlib.Omega.{arith}
 use Rattle.codes.specs.Pack.{low}
-use Rattle.codes.proofs.Laying.{counting-none}
-use Rattle.full_ascii_reader.specs.Passing.{Counted}
+use Rattle.codes.proofs.ReadSoFar.{counting-none}
+use Rattle.full_ascii_reader.specs.Steps.Passing.{CountedSoFar}
 use Rattle.full_ascii.specs.Table.{scheme}
 use Rattle.full_ascii_reader.proofs.Steps.{counted-code}
 use Rattle.full_ascii_reader.proofs.skim_each.Statement.{statement}
 use Rattle.full_ascii_reader.proofs.skim_each.Tie as tie
 
 abbrev Inv-loop : tie.InvT-loop
-Inv-loop held have left₀ count₀ left count = (count + left ≤ have) × Counted (low have held) (low left held) count
+Inv-loop held have left₀ count₀ left count = (count + left ≤ have) × CountedSoFar (low have held) (low left held) count
 
 abbrev μ-loop : tie.MeasureT-loop
 μ-loop held have left₀ count₀ left count = left

@@ -3,12 +3,12 @@
 use mathlib.Core.Path.{_≡_, refl, subst⁻¹}
 use Prim.Native.Nat.{ℕ, _+_, _-_, _*_, _%_, _^_, _≤_, _<_}
 use native.Mathlib.Omega.{arith}
-use Rattle.codes.specs.Ahead.{Window}
+use Rattle.codes.specs.Steps.BitBuffer.{Window}
 use Rattle.codes.specs.Pack.{low}
-use Rattle.codes.proofs.Laying.{counting-none}
-use Rattle.full_ascii_reader.specs.Passing.{Counted}
+use Rattle.codes.proofs.ReadSoFar.{counting-none}
+use Rattle.full_ascii_reader.specs.Steps.Passing.{CountedSoFar}
 use Rattle.full_ascii.specs.Table.{scheme}
-use Rattle.full_ascii_reader.specs.Taken.{Takes}
+use Rattle.full_ascii_reader.specs.Steps.Taken.{FirstCode}
 use Rattle.full_ascii_reader.proofs.Seven.{top-seven, seven-takes, top-on}
 use Rattle.full_ascii_reader.proofs.Steps.{counted-code}
 use Rattle.full_ascii_reader.proofs.skim_plain.Statement.{statement}
@@ -17,7 +17,7 @@ use Rattle.full_ascii_reader.proofs.skim_plain.Tie as tie
 abbrev Inv-loop : tie.InvT-loop
 Inv-loop held have top₀ left₀ count₀ top left count =
     (left + 6 * count ≤ have) × (have ≤ left + 7 * count) × (count ≤ 8) × (top ≡ held * 2 ^ (64 - left) % 2 ^ 64)
-    × Counted (low have held) (low left held) count
+    × CountedSoFar (low have held) (low left held) count
 
 abbrev μ-loop : tie.MeasureT-loop
 μ-loop held have top₀ left₀ count₀ top left count = 8 - count
@@ -39,7 +39,7 @@ first-plain-requires c κs =
 
 -- the code is that of the window, and its bits are there
 taken : (f : tie.After-first-plain Inv-loop μ-loop)
-    → (w : ℕ) × Window (f .before .before .before .args .held) (f .before .before .loop .left) w × Takes w (f .first-plain .result)
+    → (w : ℕ) × Window (f .before .before .before .args .held) (f .before .before .loop .left) w × FirstCode w (f .first-plain .result)
 taken f =
     let a = f .before .before in
     seven-takes (a .before .args .held) (a .loop .left) (a .loop .top) (f .first-plain .result) (omega arith) (omega arith) (a .loop .inv .3)

@@ -7,7 +7,7 @@ use lib.Bits.{bitAnd, and-le-l}
 use lib.Dec.{eqb}
 use lib.ListN.{getD}
 use Rattle.full_ascii.specs.Table.{CR}
-use Rattle.full_ascii_writer.specs.Sending.{characterBefore, eightOf}
+use Rattle.full_ascii_writer.specs.Steps.Sending.{characterBefore, eightOf}
 use Rattle.full_ascii_writer.proofs.Adding.{coded-small, controls-small, counted-enough, total-eight}
 use Rattle.full_ascii_writer.proofs.Counting.{byte-most}
 use Rattle.full_ascii_writer.proofs.Eight.{eight-row}

@@ -3,7 +3,7 @@
 use Prim.Native.Nat.{_-_}
 use native.Mathlib.Omega.{arith}
 use lib.ListN.{length}
-use Rattle.full_ascii_writer.specs.Sending.{TotalOf}
+use Rattle.full_ascii_writer.specs.Steps.Sending.{TotalOf}
 use Rattle.full_ascii_writer.proofs.Adding.{total-none}
 use Rattle.full_ascii_writer.proofs.add_eights.Statement.{statement}
 use Rattle.full_ascii_writer.proofs.add_eights.Tie as tie

@@ -6,14 +6,14 @@ use native.Mathlib.Omega.{arith}
 use borrow.Author.Needs.{needs}
 use lib.ListN.{length}
 use Rattle.bits.specs.Says.{Says}
-use Rattle.codes.specs.Size.{Coded}
-use Rattle.codes.proofs.Coded.{coded-more}
+use Rattle.codes.specs.Coded.{alone, CodedBelow}
+use Rattle.codes.proofs.CodedTexts.{coded-more}
 use Rattle.full_ascii.specs.Writer.{coded}
 use Rattle.full_ascii_writer.proofs.all_coded.Statement.{statement}
 use Rattle.full_ascii_writer.proofs.all_coded.Tie as tie
 
 abbrev Inv-loop : tie.InvT-loop
-Inv-loop text all₀ i₀ all i = (i ≤ length text) × Says all (Coded coded text i)
+Inv-loop text all₀ i₀ all i = (i ≤ length text) × Says all (CodedBelow (alone coded) text i)
 
 abbrev μ-loop : tie.MeasureT-loop
 μ-loop text all₀ i₀ all i = length text - i
@@ -37,13 +37,13 @@ loop-again : tie.Need-loop-again Inv-loop μ-loop
 loop-again c =
     let a = c .before .before .before in
     let text = a .before .before .args .text .now in
-    (omega arith, coded-more coded text (a .loop .i) (a .loop .all) (c .is-coded .result) (a .loop .inv .1) (c .is-coded .ensures))
+    (omega arith, coded-more (alone coded) text (a .loop .i) (a .loop .all) (c .is-coded .result) (a .loop .inv .1) (c .is-coded .ensures))
 
 returns : tie.Need-returns Inv-loop μ-loop
 returns c =
     let a = c .before in
     let text = a .before .before .args .text .now in
-    subst (λ (n : ℕ). Says (a .loop .all) (Coded coded text n)) (let e : a .loop .i ≡ length text = omega arith in e) (a .loop .inv .1)
+    subst (λ (n : ℕ). Says (a .loop .all) (CodedBelow (alone coded) text n)) (let e : a .loop .i ≡ length text = omega arith in e) (a .loop .inv .1)
 
 pub all-coded-spec : {M : Type 1} → statement M
 all-coded-spec =

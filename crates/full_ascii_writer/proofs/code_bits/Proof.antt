@@ -6,7 +6,7 @@ use Prim.Native.Nat.{ℕ, _+_, _-_, _*_, _≤_}
 use native.Mathlib.Omega.{arith}
 use lib.ListN.{length, drop}
 use Rattle.codes.specs.Chain.{codes}
-use Rattle.full_ascii_writer.specs.Sending.{bitsAfter}
+use Rattle.full_ascii_writer.specs.Steps.Sending.{bitsAfter}
 use Rattle.full_ascii.specs.Writer.{ours}
 use Rattle.full_ascii_writer.proofs.Adding.{unmarked, marked}
 use Rattle.full_ascii_writer.proofs.Counting.{bits-next, bits-end}

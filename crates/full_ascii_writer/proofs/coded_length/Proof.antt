@@ -1,7 +1,7 @@
 -- `full_ascii_writer::coded_length` meets its contract. Assumes nothing.
 use native.Mathlib.Omega.{arith}
 use borrow.Author.Needs.{needs}
-use Rattle.codes.proofs.Pack.{length-written}
+use Rattle.codes.proofs.BitsInBytes.{length-written}
 use Rattle.full_ascii.specs.Writer.{ours}
 use Rattle.full_ascii_writer.proofs.Counting.{least-bits}
 use Rattle.full_ascii_writer.proofs.coded_length.Statement.{statement}

@@ -9,14 +9,14 @@ use borrow.Author.Tests.{not-true, not-false}
 use lib.Dec.{T}
 use lib.ListN.{length, getD}
 use Rattle.bits.proofs.Said.{said-yes}
-use Rattle.codes.specs.Size.{Coded}
-use Rattle.codes.proofs.Coded.{first-at}
+use Rattle.codes.specs.Coded.{alone, CodedBelow}
+use Rattle.codes.proofs.CodedTexts.{first-at}
 use Rattle.full_ascii.specs.Writer.{coded}
 use Rattle.full_ascii_writer.proofs.first_uncoded.Statement.{statement}
 use Rattle.full_ascii_writer.proofs.first_uncoded.Tie as tie
 
 abbrev Inv-loop : tie.InvT-loop
-Inv-loop text i₀ i = (i ≤ length text) × Coded coded text i
+Inv-loop text i₀ i = (i ≤ length text) × CodedBelow (alone coded) text i
 
 abbrev μ-loop : tie.MeasureT-loop
 μ-loop text i₀ i = length text - i
@@ -39,7 +39,7 @@ is-coded-requires c κs = search needs
 returns-2 : tie.Need-returns-2 Inv-loop μ-loop
 returns-2 c =
     let a = c .before .before .before .before in
-    first-at coded (a .before .before .before .before .args .text .now) _ (a .loop .i) (omega arith) (omega arith) (a .loop .inv .1)
+    first-at (alone coded) (a .before .before .before .before .args .text .now) _ (a .loop .i) (omega arith) (omega arith) (a .loop .inv .1)
     (sym (c .before .is-coded .ensures) ∙ not-true (c .before .is-coded .result) (c .if2 .taken))
 
 add-i : tie.Need-add-i Inv-loop μ-loop

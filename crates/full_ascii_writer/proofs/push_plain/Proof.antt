@@ -4,7 +4,7 @@ use Prim.Native.Nat.{ℕ, _+_}
 use native.Mathlib.Omega.{arith}
 use borrow.Author.Needs.{needs}
 use lib.ListN.{drop, getD}
-use Rattle.full_ascii_writer.specs.Sending.{FirstOf}
+use Rattle.full_ascii_writer.specs.Steps.Sending.{FirstCodeOf}
 use Rattle.full_ascii_writer.proofs.Pushing.{first-plain, pushed-code}
 use Rattle.full_ascii_writer.proofs.Sending.{coded-most}
 use Rattle.full_ascii_writer.proofs.push_plain.Statement.{statement}
@@ -21,7 +21,7 @@ plain-code-requires c κs =
 
 -- the code is the first of ours
 found : (f : tie.After-plain-code)
-    → FirstOf (drop (f .before .before .before .args .b .next) (f .before .before .before .args .text .now)) (f .plain-code .result)
+    → FirstCodeOf (drop (f .before .before .before .args .b .next) (f .before .before .before .args .text .now)) (f .plain-code .result)
 found f =
     let e = f .before .before .before in
     first-plain (e .args .text .now) (e .args .b .next) (f .plain-code .result) (e .pre .1) (e .pre .2) (f .plain-code .ensures .0)

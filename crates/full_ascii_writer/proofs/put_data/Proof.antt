@@ -7,14 +7,14 @@ use native.Mathlib.Nat.{zero-add}
 use native.Mathlib.Omega.{arith}
 use lib.ListN.{length, drop, replicate}
 use Rattle.codes.specs.Chain.{Entry, codes}
-use Rattle.codes.specs.Laid.{laid}
+use Rattle.codes.specs.Steps.Laid.{laid}
 use Rattle.codes.specs.Pack.{written, gap}
 use Rattle.full_ascii.specs.Writer.{ours}
-use Rattle.codes.specs.Pending.{Pending}
-use Rattle.codes.proofs.Spilling.{pending-none, pending-length, pending-room-bytes, pending-bytes}
-use Rattle.codes.proofs.Flushing.{flush-room, flushed}
-use Rattle.codes.proofs.Pack.{bits-written, length-written, gap-few}
-use Rattle.full_ascii.proofs.Writer.{writes}
+use Rattle.codes.specs.Steps.Pending.{Pending}
+use Rattle.codes.proofs.PendingBytes.{pending-none, pending-length, pending-room-bytes, pending-bytes}
+use Rattle.codes.proofs.LastBytes.{flush-room, flushed}
+use Rattle.codes.proofs.BitsInBytes.{bits-written, length-written, gap-few}
+use Rattle.full_ascii.proofs.Writer.{writer-laws}
 use Rattle.full_ascii_writer.proofs.Pushing.{pushed-pending}
 use Rattle.full_ascii_writer.proofs.Sending.{ours-end}
 use Rattle.full_ascii_writer.proofs.put_data.Statement.{statement}
@@ -34,7 +34,7 @@ loop-holds c =
     let t = e .args .text .now in (
       omega arith,
       omega arith,
-      subst (Pending (written (ours t)) (e .args .out .now) (e .args .out .now) 0 0 0 0) (bits-written (ours t) (writes .ours-binary t (e .pre .0)))
+      subst (Pending (written (ours t)) (e .args .out .now) (e .args .out .now) 0 0 0 0) (bits-written (ours t) (writer-laws .ours-binary t (e .pre .0)))
           (pending-none (written (ours t)) (e .args .out .now) 0),
     )
 
@@ -50,7 +50,7 @@ same : (a : tie.At-loop Inv-loop μ-loop) → length (a .loop .out) ≡ length (
 same a =
     let e = a .before .before .before in
     let t = e .args .text .now in
-    pending-length (written (ours t)) (e .args .out .now) 0 (writes .ours-bytes t (e .pre .0)) (room a) (a .loop .out) (a .loop .n) (a .loop .held)
+    pending-length (written (ours t)) (e .args .out .now) 0 (writer-laws .ours-bytes t (e .pre .0)) (room a) (a .loop .out) (a .loop .n) (a .loop .held)
     (a .loop .have) (rest t (a .loop .i)) (a .loop .inv .2)
 
 four-room : (c : tie.Then1 Inv-loop μ-loop) → c .before .before .loop .n + 4 ≤ length (c .before .before .before .before .before .args .out .now)
@@ -58,7 +58,7 @@ four-room c =
     let a = c .before .before in
     let e = a .before .before .before in
     let t = e .args .text .now in
-    pending-room-bytes (written (ours t)) (e .args .out .now) 0 (writes .ours-bytes t (e .pre .0)) (room a) 4 (a .loop .out) (a .loop .n) (a .loop .held)
+    pending-room-bytes (written (ours t)) (e .args .out .now) 0 (writer-laws .ours-bytes t (e .pre .0)) (room a) 4 (a .loop .out) (a .loop .n) (a .loop .held)
     (a .loop .have) (rest t (a .loop .i)) (c .if1 .taken) (a .loop .inv .2)
 
 spill-requires : tie.Need-spill-requires Inv-loop μ-loop
@@ -86,7 +86,7 @@ loop-again c =
       omega arith,
       moved (subst⁻¹ (λ (o : List ℕ). Pending (written (ours t)) (e .args .out .now) o 0 (a .loop .n + 4) (a .loop .held) (a .loop .have - 32) (rest t (a .loop .i)))
           (c .before .before .spill .ensures)
-          (pending-bytes (written (ours t)) (e .args .out .now) 0 (writes .ours-bytes t (e .pre .0)) (room a) 4 (a .loop .out) (a .loop .n) (a .loop .held)
+          (pending-bytes (written (ours t)) (e .args .out .now) 0 (writer-laws .ours-bytes t (e .pre .0)) (room a) 4 (a .loop .out) (a .loop .n) (a .loop .held)
           (a .loop .have) (rest t (a .loop .i)) (l .if1 .taken) (a .loop .inv .2))) (omega arith),
     )
 
@@ -134,7 +134,7 @@ flush-requires c κs =
       omega (
         arith,
         flush-room (written (ours t)) (e .args .out .now) (a .loop .out) 0 (a .loop .n) (a .loop .held) (a .loop .have) (gap (length (codes (ours t))))
-            (writes .ours-bytes t (e .pre .0)) (room a) (gap-few (length (codes (ours t)))) (held l),
+            (writer-laws .ours-bytes t (e .pre .0)) (room a) (gap-few (length (codes (ours t)))) (held l),
         room a,
         same a,
       ),
@@ -152,7 +152,7 @@ returns c =
     let t = e .args .text .now in
     let d =
     flushed (written (ours t)) (e .args .out .now) (a .loop .out) 0 (a .loop .n) (a .loop .held) (a .loop .have) (gap (length (codes (ours t))))
-    (writes .ours-bytes t (e .pre .0)) (room a) (gap-few (length (codes (ours t)))) (held l) (c .before .before .flush .last .0)
+    (writer-laws .ours-bytes t (e .pre .0)) (room a) (gap-few (length (codes (ours t)))) (held l) (c .before .before .flush .last .0)
     (c .before .before .flush .result) (c .before .before .flush .ensures) in
     let size : c .before .before .flush .result ≡ length (written (ours t)) = d .1 ∙ zero-add (length (written (ours t))) in
     record { size = size; whole = d .0 ∙ ap (λ (k : ℕ). written (ours t) ++ drop k (e .args .out .now)) (sym (d .1)) }

@@ -9,7 +9,7 @@ use lib.Dec.{lit≤}
 use lib.Pow.{shl-exact, shl-lt, shr-mod, pow-mono}
 use Rattle.bits.proofs.Xor.{xor-undo}
 use Rattle.header.specs.Check.{remainder, checkOf}
-use Rattle.header.specs.Steps.{Multiple}
+use Rattle.header.specs.Steps.Differences.{Multiple}
 use Rattle.header.proofs.Division.{longer}
 use Rattle.header.proofs.Several.{taken, taken-lt}
 use Rattle.header.proofs.check_bits.Statement.{statement}

@@ -5,7 +5,7 @@ use Prim.Native.Nat.{ℕ, _%_, _^_}
 use borrow.Author.Needs.{needs}
 use lib.Bits.{bitXor}
 use Rattle.header.specs.Check.{checkOf}
-use Rattle.header.specs.Steps.{differenceIn}
+use Rattle.header.specs.Steps.Differences.{differenceIn}
 use Rattle.header.specs.Valid.{checkIn}
 use Rattle.header.proofs.Made.{information-in}
 use Rattle.header.proofs.difference.Statement.{statement}

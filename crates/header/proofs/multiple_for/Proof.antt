@@ -7,7 +7,7 @@ use native.Mathlib.Omega.{arith}
 use lib.Dec.{T, eqb, eqb→eq}
 use Rattle.bits.proofs.Said.{and-left, and-right}
 use Rattle.header.specs.Check.{generator, remainder}
-use Rattle.header.specs.Steps.{Multiple}
+use Rattle.header.specs.Steps.Differences.{Multiple}
 use Rattle.header.proofs.multiple_for.Statement.{statement}
 use Rattle.header.proofs.multiple_for.Tie as tie
 

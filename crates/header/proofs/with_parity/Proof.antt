@@ -5,7 +5,7 @@ use Prim.Native.Nat.{ℕ, _+_, _*_, _/_, _%_, _^_, _<_}
 use native.Mathlib.Omega.{arith}
 use borrow.Author.Needs.{needs}
 use Rattle.header.specs.Flag.{Odd, parityFor}
-use Rattle.header.specs.Steps.{WithParity}
+use Rattle.header.specs.Steps.Differences.{WithParity}
 use Rattle.header.specs.Valid.{flagIn}
 use Rattle.header.proofs.Made.{parity-lt, parity-odd}
 use Rattle.header.proofs.with_parity.Statement.{statement}

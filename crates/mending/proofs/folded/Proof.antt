@@ -1,7 +1,7 @@
 -- `mending::folded` meets its contract: each row of the table is computed.
 -- Assumes nothing.
 use mathlib.Core.Path.{refl}
-use Rattle.mending.specs.Repair.{foldedOf, raised, up, first, second}
+use Rattle.mending.specs.Steps.Repair.{foldedOf, raised, up, first, second}
 use Rattle.mending.proofs.Rows.{row, last}
 use Rattle.mending.proofs.folded.Statement.{statement}
 use Rattle.mending.proofs.folded.Tie as tie

@@ -7,7 +7,7 @@ use mathlib.Core.Path.{_≡_, refl, sym, ap, _∙_}
 use Prim.Native.Nat.{ℕ, _+_}
 use borrow.Author.Tests.{ne-eqb}
 use lib.Dec.{eqb}
-use Rattle.mending.specs.Repair.{patterns, patternIn, patternAt}
+use Rattle.mending.specs.Steps.Repair.{patterns, patternIn, patternAt}
 use Rattle.mending.proofs.Rows.{row}
 use Rattle.mending.proofs.pattern_at.Statement.{statement}
 use Rattle.mending.proofs.pattern_at.Tie as tie

@@ -1,7 +1,7 @@
 -- `mending::place_of` meets its contract: each row of the table is computed.
 -- Assumes nothing.
 use mathlib.Core.Path.{refl}
-use Rattle.mending.specs.Repair.{placeOf, powerBetween, up, second, nowhere}
+use Rattle.mending.specs.Steps.Repair.{placeOf, powerBetween, up, second, nowhere}
 use Rattle.mending.proofs.Rows.{row, last}
 use Rattle.mending.proofs.place_of.Statement.{statement}
 use Rattle.mending.proofs.place_of.Tie as tie

@@ -7,7 +7,7 @@ use Prim.Native.Nat.{ℕ, _*_, _/_, _%_, _^_, _<_}
 use borrow.Author.Needs.{needs}
 use lib.Bits.{bitXor}
 use lib.Pow.{pow-pos}
-use Rattle.mending.specs.Repair.{Accounts}
+use Rattle.mending.specs.Steps.Repair.{Accounts}
 use Rattle.mending.proofs.Accounts.{no-bits}
 use Rattle.mending.proofs.Parts.{turn-lt, place-lt, parts-small, Worked, worked-accounts, worked-none}
 use Rattle.mending.proofs.repair.Statement.{statement}

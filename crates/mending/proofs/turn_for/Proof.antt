@@ -1,6 +1,6 @@
 -- `mending::turn_for` meets its contract: each row of the table is computed.
 -- Assumes nothing.
-use Rattle.mending.specs.Repair.{turnFor, powerBetween, up, first, nowhere}
+use Rattle.mending.specs.Steps.Repair.{turnFor, powerBetween, up, first, nowhere}
 use Rattle.mending.proofs.Rows.{row-tested, last}
 use Rattle.mending.proofs.turn_for.Statement.{statement}
 use Rattle.mending.proofs.turn_for.Tie as tie

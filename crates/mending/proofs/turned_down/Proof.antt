@@ -2,7 +2,7 @@
 -- Assumes nothing.
 use mathlib.Core.Path.{refl}
 use borrow.Author.Needs.{needs}
-use Rattle.mending.specs.Repair.{turnedDown}
+use Rattle.mending.specs.Steps.Repair.{turnedDown}
 use Rattle.mending.proofs.turned_down.Statement.{statement}
 use Rattle.mending.proofs.turned_down.Tie as tie
 

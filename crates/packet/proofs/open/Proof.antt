@@ -9,15 +9,15 @@ use borrow.Author.Needs.{needs}
 use lib.ListN.{length}
 use Rattle.header.specs.declared.Format.{Format}
 use Rattle.header.specs.declared.Header.{Header}
-use Rattle.header.specs.declared.Typing.{Typing}
-use Rattle.header.specs.declared.Typing.the-variants.{Ours, Foreign}
+use Rattle.header.specs.declared.WhichFormat.{WhichFormat}
+use Rattle.header.specs.declared.WhichFormat.the-variants.{Ours, Foreign}
 use Rattle.header.specs.Fields.{fieldsIn}
-use Rattle.header.specs.Typed.{Typed, Types}
+use Rattle.header.specs.Typed.{HasFormat, FormatInHeader}
 use Rattle.header.specs.Valid.{lengthIn}
 use Rattle.mending.specs.declared.Mending.{Mending}
 use Rattle.mending.specs.declared.Mending.the-variants.{Mended, Hopeless}
-use Rattle.mending.specs.Mends.{Near, Mends, distance}
-use Rattle.codes.specs.Size.{longest}
+use Rattle.mending.specs.Mends.{ValidWithin, Mends, distance}
+use Rattle.codes.specs.Steps.Size.{longest}
 use Rattle.packet.specs.Packet.{received}
 use Rattle.packet.specs.Reader.{Fault}
 use Rattle.refusals.specs.Refusals.{readerTurn}
@@ -28,20 +28,20 @@ use Rattle.packet.proofs.open.Tie as tie
 
 -- what mending says of the packet
 mended-near : (packet word bits count : ℕ) (answer : Mending) → word ≡ packet → Mends word answer → answer ≡ Mended bits count
-    → Near 2 packet bits × (count ≡ distance packet bits)
-mended-near packet word bits count answer e m told = subst (λ (w : ℕ). Near 2 w bits × (count ≡ distance w bits)) e (subst (Mends word) told m)
+    → ValidWithin 2 packet bits × (count ≡ distance packet bits)
+mended-near packet word bits count answer e m told = subst (λ (w : ℕ). ValidWithin 2 w bits × (count ≡ distance w bits)) e (subst (Mends word) told m)
 
-hopeless-far : (packet word : ℕ) (answer : Mending) → word ≡ packet → Mends word answer → answer ≡ Hopeless → (header : ℕ) → Near 2 packet header → ⊥
-hopeless-far packet word answer e m told = subst (λ (w : ℕ). (header : ℕ) → Near 2 w header → ⊥) e (subst (Mends word) told m)
+hopeless-far : (packet word : ℕ) (answer : Mending) → word ≡ packet → Mends word answer → answer ≡ Hopeless → (header : ℕ) → ValidWithin 2 packet header → ⊥
+hopeless-far packet word answer e m told = subst (λ (w : ℕ). (header : ℕ) → ValidWithin 2 w header → ⊥) e (subst (Mends word) told m)
 
 -- what the type bits say of it
-typed-ours : (bits : ℕ) (fields : Header) (answer : Typing) (format : Format) → fields ≡ fieldsIn bits → Types fields answer → answer ≡ Ours format
-    → Typed (fieldsIn bits) format
-typed-ours bits fields answer format e t told = subst (λ (f : Header). Typed f format) e (subst (Types fields) told t)
+typed-ours : (bits : ℕ) (fields : Header) (answer : WhichFormat) (format : Format) → fields ≡ fieldsIn bits → FormatInHeader fields answer → answer ≡ Ours format
+    → HasFormat (fieldsIn bits) format
+typed-ours bits fields answer format e t told = subst (λ (f : Header). HasFormat f format) e (subst (FormatInHeader fields) told t)
 
-typed-foreign : (bits : ℕ) (fields : Header) (answer : Typing) → fields ≡ fieldsIn bits → Types fields answer → answer ≡ Foreign
-    → (format : Format) → Typed (fieldsIn bits) format → ⊥
-typed-foreign bits fields answer e t told = subst (λ (f : Header). (format : Format) → Typed f format → ⊥) e (subst (Types fields) told t)
+typed-foreign : (bits : ℕ) (fields : Header) (answer : WhichFormat) → fields ≡ fieldsIn bits → FormatInHeader fields answer → answer ≡ Foreign
+    → (format : Format) → HasFormat (fieldsIn bits) format → ⊥
+typed-foreign bits fields answer e t told = subst (λ (f : Header). (format : Format) → HasFormat f format → ⊥) e (subst (FormatInHeader fields) told t)
 
 length-is : (bits : ℕ) (fields : Header) → fields ≡ fieldsIn bits → fields .length ≡ lengthIn bits
 unfolding fieldsIn
@@ -63,7 +63,7 @@ abbrev bits-at : tie.After-known-told → ℕ
 bits-at c = c .before .mending .given .0 .0
 
 near-at : (c : tie.After-known-told)
-    → Near 2 (received (packet-at (c .before .before .before .before))) (bits-at c)
+    → ValidWithin 2 (received (packet-at (c .before .before .before .before))) (bits-at c)
     × (c .before .mending .given .0 .1 .0 ≡ distance (received (packet-at (c .before .before .before .before))) (bits-at c))
 near-at c =
     let m = c .before .before .before in
@@ -136,7 +136,7 @@ returns-3 c = λ room.
 abbrev told-at : tie.After-known-told2 → tie.After-known-told
 told-at c = c .before .before .before .before .before
 
-typed-at : (c : tie.After-known-told2) → Typed (fieldsIn (bits-at (told-at c))) (c .before .typing2 .given .0 .0)
+typed-at : (c : tie.After-known-told2) → HasFormat (fieldsIn (bits-at (told-at c))) (c .before .typing2 .given .0 .0)
 typed-at c =
     let t = c .before .before .before in
     typed-ours (bits-at (told-at c)) (t .before .from-bits .result) (t .typing .result) (c .before .typing2 .given .0 .0) (t .before .from-bits .ensures)

@@ -12,8 +12,8 @@ use Rattle.header.specs.declared.Header.{Header}
 use Rattle.header.specs.Fields.{Fit, bytesOf, headerOf, sentFields}
 use Rattle.header.specs.Typed.{formatNumber}
 use Rattle.header.proofs.Typed.{number-lt}
-use Rattle.checksum.specs.Checksum.{sent}
-use Rattle.codes.specs.Size.{longest}
+use Rattle.checksum.specs.Checksum.{checksumBytes}
+use Rattle.codes.specs.Steps.Size.{longest}
 use Rattle.packet.specs.Packet.{packetOf, headerFor}
 use Rattle.packet.proofs.InPlace.{framed}
 use Rattle.packet.proofs.put_frame.Statement.{statement}
@@ -22,16 +22,16 @@ use Rattle.packet.proofs.put_frame.Tie as tie
 -- what we send fits its bits
 sent-fit : (f : Header) (format : Format) (number n : ℕ) (sync : Bool) → n ≤ longest → number ≡ formatNumber format → f ≡ sentFields number sync n → Fit f
 sent-fit f format number n sync few e same =
-    subst Fit (sym same) (record { message = omega arith; extended = omega (arith, number-lt format); length = omega arith })
+    subst Fit (sym same) (record { «message_type» = omega arith; «extended_type» = omega (arith, number-lt format); length = omega arith })
 
 -- the two steps, one after the other
 steps : (s after-sum after-header : List ℕ) (n header : ℕ) → n + 6 ≤ length s
-    → after-sum ≡ take (n + 4) s ++ (sent (take n (drop 4 s)) ++ drop (n + 6) s)
+    → after-sum ≡ take (n + 4) s ++ (checksumBytes (take n (drop 4 s)) ++ drop (n + 6) s)
     → after-header ≡ bytesOf header ++ drop 4 after-sum
     → after-header ≡ packetOf header (take n (drop 4 s)) ++ drop (n + 6) s
 unfolding packetOf
 steps s after-sum after-header n header room es eh =
-    eh ∙ ap (λ (l : List ℕ). bytesOf header ++ drop 4 l) es ∙ framed s (bytesOf header) (sent (take n (drop 4 s))) n room
+    eh ∙ ap (λ (l : List ℕ). bytesOf header ++ drop 4 l) es ∙ framed s (bytesOf header) (checksumBytes (take n (drop 4 s))) n room
 
 put-sum-requires : tie.Need-put-sum-requires
 put-sum-requires c κs = search needs

@@ -8,7 +8,7 @@ use native.Mathlib.Omega.{arith}
 use borrow.Author.Needs.{needs}
 use lib.ListN.{length, set, take, drop, length-set}
 use lib.Seq.{sets-eq}
-use Rattle.checksum.specs.Checksum.{sent, checksumOf}
+use Rattle.checksum.specs.Checksum.{checksumBytes, checksumOf}
 use Rattle.packet.proofs.put_sum.Statement.{statement}
 use Rattle.packet.proofs.put_sum.Tie as tie
 
@@ -51,7 +51,7 @@ same-length : tie.Need-same-length
 same-length c = search needs
 
 returns : tie.Need-returns
-unfolding sent
+unfolding checksumBytes
 returns c =
     let a = c .before .before .before .before .before .before .args in
     let s = a .packet .now in

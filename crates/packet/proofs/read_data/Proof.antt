@@ -9,7 +9,7 @@ use borrow.Author.Tests.{not-true, not-false}
 use lib.ListN.{length, take, drop}
 use Rattle.bits.specs.Says.{Says}
 use Rattle.bits.proofs.Said.{said-yes, said-no}
-use Rattle.checksum.specs.Checksum.{sent}
+use Rattle.checksum.specs.Checksum.{checksumBytes}
 use Rattle.codes.specs.declared.Taken.{Taken}
 use Rattle.codes.specs.declared.Taken.the-variants.{Text, Malformed, NoRoom, TooLong}
 use Rattle.packet.specs.Packet.{dataIn, sumIn}
@@ -24,7 +24,7 @@ abbrev start : tie.After-agrees → tie.Start
 start c = c .before .before .before .before .before .before
 
 tested-at : (c : tie.After-agrees)
-    → Says (c .agrees .result) (sumIn (start c .pre .header) (start c .args .packet .now) ≡ sent (dataIn (start c .pre .header) (start c .args .packet .now)))
+    → Says (c .agrees .result) (sumIn (start c .pre .header) (start c .args .packet .now) ≡ checksumBytes (dataIn (start c .pre .header) (start c .args .packet .now)))
 tested-at c = tested (start c .args .packet .now) (start c .args .opened) (start c .pre) (c .agrees .result) (c .agrees .ensures)
 
 abbrev agreed : tie.After-take → tie.After-agrees
@@ -41,7 +41,7 @@ taken-at c =
 
 summed-at : (c : tie.After-take)
     → sumIn (start (agreed c) .pre .header) (start (agreed c) .args .packet .now)
-    ≡ sent (dataIn (start (agreed c) .pre .header) (start (agreed c) .args .packet .now))
+    ≡ checksumBytes (dataIn (start (agreed c) .pre .header) (start (agreed c) .args .packet .now))
 summed-at c = said-yes (agreed c .agrees .result) (tested-at (agreed c)) (not-false (agreed c .agrees .result) (c .before .before .before .if1 .left))
 
 -- what was taken, as the answer that it is

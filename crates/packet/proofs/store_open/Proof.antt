@@ -5,8 +5,8 @@ use native.Mathlib.Omega.{arith}
 use borrow.Author.Needs.{needs}
 use lib.ListN.{length}
 use Rattle.header.specs.declared.Format.the-variants.{Open}
-use Rattle.codes.specs.Size.{longest}
-use Rattle.codes.proofs.Storing.{store-no-room, store-bytes}
+use Rattle.codes.specs.Steps.Size.{longest}
+use Rattle.codes.proofs.DataInBuffer.{store-no-room, store-bytes}
 use Rattle.packet.specs.Data.{coded}
 use Rattle.packet.proofs.OpenData.{copied, open-need, open-many}
 use Rattle.packet.proofs.store_open.Statement.{statement}

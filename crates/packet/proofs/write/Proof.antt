@@ -7,10 +7,10 @@ use native.Mathlib.Omega.{arith}
 use borrow.Author.Needs.{needs}
 use lib.ListN.{length}
 use Rattle.header.specs.declared.Format.{Format}
-use Rattle.header.specs.Typed.{Names, formatNumber}
+use Rattle.header.specs.Typed.{FormatOfNumber, formatNumber}
 use Rattle.codes.specs.declared.Stored.{Stored}
 use Rattle.codes.specs.declared.Stored.the-variants.{NoCode, TooMany, NoRoom, Bytes}
-use Rattle.codes.specs.Size.{longest}
+use Rattle.codes.specs.Steps.Size.{longest}
 use Rattle.packet.specs.Data.{dataOf}
 use Rattle.packet.specs.Steps.{Places}
 use Rattle.packet.proofs.InPlace.{same-room}
@@ -33,7 +33,7 @@ format-at c = c .before .typing .given .0 .0
 
 named-at : (c : tie.After-known-told) → formatNumber (format-at c) ≡ start c .args .format
 named-at c =
-    subst (Names (start c .args .format)) (c .before .typing .given .1) (c .before .before .before .named .ensures)
+    subst (FormatOfNumber (start c .args .format)) (c .before .typing .given .1) (c .before .before .before .named .ensures)
 
 abbrev known : tie.After-put-data → tie.After-known-told
 known p = p .before .before .before
@@ -70,7 +70,7 @@ returns : tie.Need-returns
 returns c =
     let a = c .before .before .before .before .before .args in (
       record {
-        fault = subst (Names (a .format)) (c .enum-told .given .1) (c .before .before .named .ensures);
+        fault = subst (FormatOfNumber (a .format)) (c .enum-told .given .1) (c .before .before .named .ensures);
         first = clear-twelve (a .format) (a .text .now) (length (a .packet .now));
       },
       refl,

@@ -3,7 +3,7 @@ use mathlib.Core.Path.{_≡_, ap, _∙_}
 use Prim.Native.Nat.{ℕ, _+_, _-_, _/_, _%_}
 use native.Mathlib.Omega.{arith}
 use lib.ListN.{getD}
-use Rattle.codes.specs.Ahead.{ahead}
+use Rattle.codes.specs.Steps.BitBuffer.{ahead}
 use Rattle.pseudo_binary_reader.proofs.Starts.{ahead-none, ahead-one, ahead-at}
 use borrow.Author.Needs.{needs}
 use Rattle.pseudo_binary_reader.proofs.buffer_at.Statement.{statement}

@@ -1,7 +1,7 @@
 -- `pseudo_binary_reader::eight_characters` meets its contract. Assumes nothing.
 use mathlib.Core.Path.{subst}
 use Prim.Native.Nat.{ℕ, _/_, _%_, _^_}
-use Rattle.pseudo_binary_reader.specs.Taken.{Spread}
+use Rattle.pseudo_binary_reader.specs.Steps.Taken.{Spread}
 use Rattle.pseudo_binary_reader.proofs.Taking.{word-eight}
 use borrow.Author.Needs.{needs}
 use Rattle.pseudo_binary_reader.proofs.eight_characters.Statement.{statement}

@@ -9,17 +9,17 @@ use Rattle.bits.specs.Row.{bits}
 use Rattle.bits.specs.Says.{Says}
 use Rattle.codes.specs.Chain.{Fill}
 use Rattle.codes.specs.Pack.{low}
-use Rattle.codes.specs.Passed.{Counting}
-use Rattle.codes.proofs.Laying.{counting-end}
+use Rattle.codes.specs.Steps.Passed.{CountedSoFar}
+use Rattle.codes.proofs.ReadSoFar.{counting-end}
 use Rattle.pseudo_binary.specs.Table.{scheme}
-use Rattle.pseudo_binary_reader.specs.Taken.{Nine}
+use Rattle.pseudo_binary_reader.specs.Steps.Taken.{Nine}
 use Rattle.pseudo_binary_reader.proofs.Starts.{starts-fill, starts-no-fill, starts-nine}
 use Rattle.pseudo_binary_reader.proofs.Steps.{counting-run, stuck-indicator, stuck-value}
 use Rattle.pseudo_binary_reader.proofs.measure.Statement.{statement}
 use Rattle.pseudo_binary_reader.proofs.measure.Tie as tie
 
 abbrev Inv-loop : tie.InvT-loop
-Inv-loop s end at₀ n₀ at n = (at ≤ length s * 8) × (n ≤ 3 * at) × Counting scheme (bits s) (drop at (bits s)) n
+Inv-loop s end at₀ n₀ at n = (at ≤ length s * 8) × (n ≤ 3 * at) × CountedSoFar scheme (bits s) (drop at (bits s)) n
 
 abbrev μ-loop : tie.MeasureT-loop
 μ-loop s end at₀ n₀ at n = length s * 8 - at

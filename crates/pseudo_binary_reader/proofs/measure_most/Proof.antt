@@ -4,17 +4,17 @@ use Prim.Native.Nat.{_-_, _*_, _/_, _^_, _≤_}
 use native.Mathlib.Omega.{arith}
 use lib.ListN.{length, drop}
 use Rattle.bits.specs.Row.{bits}
-use Rattle.codes.specs.Passed.{Counting}
-use Rattle.codes.proofs.Laying.{counting-none}
+use Rattle.codes.specs.Steps.Passed.{CountedSoFar}
+use Rattle.codes.proofs.ReadSoFar.{counting-none}
 use Rattle.pseudo_binary.specs.Table.{scheme}
-use Rattle.pseudo_binary_reader.specs.Taken.{Nine}
+use Rattle.pseudo_binary_reader.specs.Steps.Taken.{Nine}
 use Rattle.pseudo_binary_reader.proofs.Starts.{top-nine}
 use Rattle.pseudo_binary_reader.proofs.Steps.{counting-run, counting-plain, length-left}
 use Rattle.pseudo_binary_reader.proofs.measure_most.Statement.{statement}
 use Rattle.pseudo_binary_reader.proofs.measure_most.Tie as tie
 
 abbrev Inv-loop : tie.InvT-loop
-Inv-loop s end limit at₀ n₀ at n = (at ≤ length s * 8) × (n ≤ 3 * at) × Counting scheme (bits s) (drop at (bits s)) n
+Inv-loop s end limit at₀ n₀ at n = (at ≤ length s * 8) × (n ≤ 3 * at) × CountedSoFar scheme (bits s) (drop at (bits s)) n
 
 abbrev μ-loop : tie.MeasureT-loop
 μ-loop s end limit at₀ n₀ at n = length s * 8 - at

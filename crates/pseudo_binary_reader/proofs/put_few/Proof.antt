@@ -7,8 +7,8 @@ use native.Mathlib.Nat.{mod-lt}
 use native.Mathlib.Omega.{arith}
 use lib.ListN.{length, length-set}
 use lib.Pow.{pow-pos}
-use Rattle.codes.specs.Laid.{laid}
-use Rattle.pseudo_binary_reader.specs.Taken.{Eight, characters}
+use Rattle.codes.specs.Steps.Laid.{laid}
+use Rattle.pseudo_binary_reader.specs.Steps.Taken.{Eight, characters}
 use Rattle.pseudo_binary_reader.proofs.Taking.{taken-none, taken-one, Left, left-all, left-first, left-next}
 use Rattle.pseudo_binary_reader.proofs.put_few.Statement.{statement}
 use Rattle.pseudo_binary_reader.proofs.put_few.Tie as tie

@@ -9,9 +9,9 @@ use lib.ListN.{length}
 use Rattle.bits.specs.Row.{bits}
 use Rattle.bits.specs.Says.{Says}
 use Rattle.codes.specs.Chain.{Fill}
-use Rattle.codes.specs.Laid.{Readable}
+use Rattle.codes.specs.Steps.Laid.{Readable}
 use Rattle.codes.specs.Pack.{low}
-use Rattle.codes.proofs.Laying.{laying-length, laying-end}
+use Rattle.codes.proofs.ReadSoFar.{laying-length, laying-end}
 use Rattle.pseudo_binary.specs.Table.{scheme}
 use Rattle.pseudo_binary_reader.proofs.Starts.{starts-fill, starts-no-fill, starts-nine}
 use Rattle.pseudo_binary_reader.proofs.Steps.{Stands, Whole, whole, whole-plain}

@@ -5,10 +5,10 @@ use Prim.Native.Nat.{_≤_}
 use native.Mathlib.Omega.{arith}
 use borrow.Author.Needs.{needs}
 use lib.ListN.{length}
-use Rattle.codes.specs.Measure.{Comes}
+use Rattle.codes.specs.Steps.Measure.{TakesApartBy}
 use Rattle.codes.specs.declared.Outcome.{Outcome}
 use Rattle.codes.specs.declared.Outcome.the-variants.{Text, Malformed, TooLong}
-use Rattle.codes.proofs.Entering.{enter-place, enter-no-room, enter-readable, enter-text}
+use Rattle.codes.proofs.ReadIntoBuffer.{enter-place, enter-no-room, enter-readable, enter-text}
 use Rattle.pseudo_binary.specs.Table.{scheme}
 use Rattle.pseudo_binary.proofs.Table.{laws}
 use Rattle.pseudo_binary_reader.proofs.read.Statement.{statement}
@@ -17,8 +17,8 @@ use Rattle.pseudo_binary_reader.proofs.read.Tie as tie
 abbrev start : tie.After-take-apart → tie.Start
 start c = c .before .before .before
 
-comes : (c : tie.After-take-apart) (r : Outcome) → c .take-apart .result ≡ r → Comes scheme (start c .args .s .now) r
-comes c r e = subst (Comes scheme (start c .args .s .now)) e (c .take-apart .ensures)
+comes : (c : tie.After-take-apart) (r : Outcome) → c .take-apart .result ≡ r → TakesApartBy scheme (start c .args .s .now) r
+comes c r e = subst (TakesApartBy scheme (start c .args .s .now)) e (c .take-apart .ensures)
 
 take-apart-requires : tie.Need-take-apart-requires
 take-apart-requires c κs = search needs

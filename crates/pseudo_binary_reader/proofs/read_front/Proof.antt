@@ -5,8 +5,8 @@ use Prim.Native.Nat.{_-_, _*_, _/_, _^_, _≤_}
 use native.Mathlib.Omega.{arith}
 use lib.ListN.{length, drop}
 use Rattle.bits.specs.Row.{bits}
-use Rattle.codes.specs.Passed.{Laying}
-use Rattle.codes.proofs.Laying.{laying-none, laying-length}
+use Rattle.codes.specs.Steps.Passed.{LaidSoFar}
+use Rattle.codes.proofs.ReadSoFar.{laying-none, laying-length}
 use Rattle.pseudo_binary.specs.Table.{scheme}
 use Rattle.pseudo_binary_reader.proofs.Starts.{top-nine}
 use Rattle.pseudo_binary_reader.proofs.Steps.{Whole, whole, whole-plain, whole-values, length-left}
@@ -15,7 +15,7 @@ use Rattle.pseudo_binary_reader.proofs.read_front.Tie as tie
 
 abbrev Inv-loop : tie.InvT-loop
 Inv-loop s out₀ limit at₀ n₀ out at n =
-    (at ≤ length s * 8) × (n ≤ length out₀) × Laying scheme (bits s) (drop at (bits s)) out₀ out 0 n
+    (at ≤ length s * 8) × (n ≤ length out₀) × LaidSoFar scheme (bits s) (drop at (bits s)) out₀ out 0 n
 
 abbrev μ-loop : tie.MeasureT-loop
 μ-loop s out₀ limit at₀ n₀ out at n = length s * 8 - at

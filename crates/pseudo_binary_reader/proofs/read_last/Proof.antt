@@ -7,10 +7,10 @@ use native.Mathlib.Omega.{arith}
 use lib.ListN.{length, take, drop}
 use lib.Seq.{drop-drop}
 use Rattle.bits.specs.Row.{bits}
-use Rattle.codes.specs.Laid.{laid}
+use Rattle.codes.specs.Steps.Laid.{laid}
 use Rattle.codes.specs.Pack.{value}
 use Rattle.pseudo_binary.specs.Table.{characterOf}
-use Rattle.pseudo_binary_reader.specs.Taken.{characters}
+use Rattle.pseudo_binary_reader.specs.Steps.Taken.{characters}
 use Rattle.pseudo_binary_reader.proofs.Taking.{taken-none, taken-length, taken-one}
 use Rattle.pseudo_binary_reader.proofs.read_last.Statement.{statement}
 use Rattle.pseudo_binary_reader.proofs.read_last.Tie as tie

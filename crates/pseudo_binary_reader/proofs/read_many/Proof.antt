@@ -6,8 +6,8 @@ use Prim.Native.Nat.{ℕ, _+_, _-_, _*_, _≤_}
 use native.Mathlib.Omega.{arith}
 use lib.ListN.{length, drop}
 use Rattle.bits.specs.Row.{bits}
-use Rattle.codes.specs.Laid.{laid}
-use Rattle.pseudo_binary_reader.specs.Taken.{characters}
+use Rattle.codes.specs.Steps.Laid.{laid}
+use Rattle.pseudo_binary_reader.specs.Steps.Taken.{characters}
 use Rattle.pseudo_binary_reader.proofs.Taking.{taken-length, taken-more, taken-over, eight-after}
 use Rattle.pseudo_binary_reader.proofs.read_many.Statement.{statement}
 use Rattle.pseudo_binary_reader.proofs.read_many.Tie as tie

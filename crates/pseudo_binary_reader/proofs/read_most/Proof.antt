@@ -6,8 +6,8 @@ use Prim.Native.Nat.{ℕ, _-_, _*_, _≤_}
 use native.Mathlib.Omega.{arith}
 use lib.ListN.{length}
 use Rattle.bits.specs.Row.{bits}
-use Rattle.codes.specs.Laid.{Readable}
-use Rattle.codes.proofs.Laying.{laying-length}
+use Rattle.codes.specs.Steps.Laid.{Readable}
+use Rattle.codes.proofs.ReadSoFar.{laying-length}
 use Rattle.pseudo_binary.specs.Table.{scheme}
 use Rattle.pseudo_binary_reader.proofs.Steps.{Stands, Whole, whole, length-left}
 use Rattle.pseudo_binary_reader.proofs.read_most.Statement.{statement}

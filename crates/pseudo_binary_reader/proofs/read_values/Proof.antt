@@ -6,8 +6,8 @@ use native.Mathlib.Omega.{arith}
 use lib.ListN.{drop}
 use lib.Seq.{drop-drop}
 use Rattle.bits.specs.Row.{bits}
-use Rattle.codes.specs.Laid.{laid}
-use Rattle.pseudo_binary_reader.specs.Taken.{Eight, characters}
+use Rattle.codes.specs.Steps.Laid.{laid}
+use Rattle.pseudo_binary_reader.specs.Steps.Taken.{Eight, characters}
 use Rattle.pseudo_binary_reader.proofs.Taking.{top-eight}
 use borrow.Author.Needs.{needs}
 use Rattle.pseudo_binary_reader.proofs.read_values.Statement.{statement}

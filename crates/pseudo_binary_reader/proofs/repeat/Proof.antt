@@ -4,8 +4,8 @@ use mathlib.Core.Path.{_≡_, sym, ap, _∙_}
 use Prim.Native.Nat.{ℕ, _-_, _≤_}
 use native.Mathlib.Omega.{arith}
 use lib.ListN.{length, replicate}
-use Rattle.codes.specs.Laid.{laid}
-use Rattle.codes.proofs.Laid.{laid-nil}
+use Rattle.codes.specs.Steps.Laid.{laid}
+use Rattle.codes.proofs.LaidRows.{laid-nil}
 use Rattle.pseudo_binary_reader.proofs.Repeated.{repeated-length, repeated-more}
 use borrow.Author.Needs.{needs}
 use Rattle.pseudo_binary_reader.proofs.repeat.Statement.{statement}

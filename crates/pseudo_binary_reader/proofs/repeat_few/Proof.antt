@@ -3,8 +3,8 @@ use mathlib.Core.Path.{_≡_, sym, ap, _∙_}
 use Prim.Native.Nat.{ℕ, _+_}
 use native.Mathlib.Omega.{arith}
 use lib.ListN.{replicate, set, length-set}
-use Rattle.codes.specs.Laid.{laid}
-use Rattle.codes.proofs.Laid.{laid-nil, set-laid, set-laid-two}
+use Rattle.codes.specs.Steps.Laid.{laid}
+use Rattle.codes.proofs.LaidRows.{laid-nil, set-laid, set-laid-two}
 use Rattle.pseudo_binary_reader.proofs.Repeated.{repeated-more}
 use borrow.Author.Needs.{needs}
 use Rattle.pseudo_binary_reader.proofs.repeat_few.Statement.{statement}

@@ -8,7 +8,7 @@ use native.Mathlib.Omega.{arith}
 use lib.ListN.{length, drop, length-drop}
 use lib.Seq.{drop-drop}
 use Rattle.codes.specs.Chain.{codes}
-use Rattle.codes.proofs.Pack.{length-written}
+use Rattle.codes.proofs.BitsInBytes.{length-written}
 use Rattle.pseudo_binary.specs.Writer.{ours}
 use Rattle.pseudo_binary_writer.proofs.Announced.{ours-end}
 use Rattle.pseudo_binary_writer.proofs.Extents.{Parted, parted}

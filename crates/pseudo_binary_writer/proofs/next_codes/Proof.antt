@@ -4,7 +4,7 @@ use Prim.Native.Nat.{ℕ, _-_}
 use native.Mathlib.Omega.{arith}
 use lib.ListN.{drop}
 use borrow.Author.Needs.{needs}
-use Rattle.pseudo_binary_writer.specs.Sending.{NextOf}
+use Rattle.pseudo_binary_writer.specs.Steps.Sending.{NextOf}
 use Rattle.pseudo_binary_writer.proofs.Announced.{value-next, two-next, four-next, first-next}
 use Rattle.pseudo_binary_writer.proofs.Ranges.{coded-at}
 use Rattle.pseudo_binary_writer.proofs.next_codes.Statement.{statement}

@@ -4,7 +4,7 @@ use mathlib.Core.Bool.{true}
 use native.Mathlib.Omega.{arith}
 use lib.ListN.{getD, drop}
 use borrow.Author.Tests.{eq-eqb}
-use Rattle.pseudo_binary.specs.Table.{SPACE, SLASH, values, spaces, slashes, of}
+use Rattle.pseudo_binary.specs.Table.{SPACE, SLASH, values, spaces, slashes, isOf}
 use Rattle.pseudo_binary_writer.proofs.Extents.{else-value}
 use Rattle.pseudo_binary_writer.proofs.Opening.{space-first, slash-first, value-first, run-some}
 use Rattle.pseudo_binary_writer.proofs.Ranges.{spaces-between, slashes-between}
@@ -20,7 +20,7 @@ run-of-requires : tie.Need-run-of-requires
 run-of-requires c κs = (omega arith, (spaces, spaces-between))
 
 sub-t11 : tie.Need-sub-t11
-unfolding of
+unfolding isOf
 sub-t11 c =
     let e = c .before .before .before .before in
     run-some (e .args .text .now) (e .args .i) (e .pre .0) spaces 15 (c .run-of .result)
@@ -30,7 +30,7 @@ run-of-requires-2 : tie.Need-run-of-requires-2
 run-of-requires-2 c κs = (omega arith, (slashes, slashes-between))
 
 sub-t13 : tie.Need-sub-t13
-unfolding of
+unfolding isOf
 sub-t13 c =
     let e = c .before .before .before .before in
     run-some (e .args .text .now) (e .args .i) (e .pre .0) slashes 15 (c .run-of2 .result)
@@ -45,7 +45,7 @@ values-at-requires : tie.Need-values-at-requires
 values-at-requires c κs = search needs
 
 -- the last arm is that of the values
-is-value : (c : tie.At-match-rest) → of values (getD (c .before .before .before .args .text .now) (c .before .before .before .args .i) 0) ≡ true
+is-value : (c : tie.At-match-rest) → isOf values (getD (c .before .before .before .args .text .now) (c .before .before .before .args .i) 0) ≡ true
 is-value c =
     let e = c .before .before .before in
     else-value (getD (e .args .text .now) (e .args .i) 0) (e .pre .1) (c .match .rest .0 .1) (c .match .rest .1)

@@ -8,20 +8,20 @@ use native.Mathlib.Omega.{arith}
 use lib.ListN.{length, take, drop, replicate}
 use Rattle.bits.specs.Row.{Bytes}
 use Rattle.codes.specs.Chain.{codes}
-use Rattle.codes.specs.Laid.{laid}
+use Rattle.codes.specs.Steps.Laid.{laid}
 use Rattle.codes.specs.Pack.{low, written, gap}
-use Rattle.codes.proofs.Low.{length-low}
-use Rattle.codes.proofs.Pack.{bits-written, gap-few}
-use Rattle.codes.specs.Pending.{Pending}
-use Rattle.codes.proofs.Spilling.{pending-none, pending-length, row-room}
-use Rattle.codes.proofs.Flushing.{flush-room, flushed}
-use Rattle.pseudo_binary_writer.specs.Sending.{Sends, eightValues}
+use Rattle.codes.proofs.LowBits.{length-low}
+use Rattle.codes.proofs.BitsInBytes.{bits-written, gap-few}
+use Rattle.codes.specs.Steps.Pending.{Pending}
+use Rattle.codes.proofs.PendingBytes.{pending-none, pending-length, row-room}
+use Rattle.codes.proofs.LastBytes.{flush-room, flushed}
+use Rattle.pseudo_binary_writer.specs.Steps.Sending.{SendsBits, eightValues}
 use Rattle.pseudo_binary.specs.Table.{values}
 use Rattle.pseudo_binary.specs.Writer.{Alike, oursAfter, ours}
 use Rattle.pseudo_binary_writer.specs.declared.Held.{Held}
 use Rattle.pseudo_binary_writer.proofs.Announced.{ours-end}
 use Rattle.pseudo_binary_writer.proofs.Sends.{Proceeds, row-next, row-fewer, next-proceeds, eight-length, eight-proceeds}
-use Rattle.pseudo_binary.proofs.Writer.{writes}
+use Rattle.pseudo_binary.proofs.Writer.{writer-laws}
 use Rattle.pseudo_binary_writer.proofs.put_data.Statement.{statement}
 use Rattle.pseudo_binary_writer.proofs.put_data.Tie as tie
 
@@ -46,7 +46,7 @@ loop-holds c =
       omega arith,
       omega arith,
       tt,
-      subst (Pending (written (ours t)) (e .args .out .now) (e .args .out .now) 0 0 0 0) (bits-written (ours t) (writes .ours-binary t (e .pre .0)))
+      subst (Pending (written (ours t)) (e .args .out .now) (e .args .out .now) 0 0 0 0) (bits-written (ours t) (writer-laws .ours-binary t (e .pre .0)))
           (pending-none (written (ours t)) (e .args .out .now) 0),
     )
 
@@ -59,7 +59,7 @@ module _ (a : tie.At-loop Inv-loop μ-loop) where
   first = a .before .before .before .args .out .now
 
   bytes : Bytes (written (ours text))
-  bytes = writes .ours-bytes text (a .before .before .before .pre .0)
+  bytes = writer-laws .ours-bytes text (a .before .before .before .pre .0)
 
   fits : 0 + length (written (ours text)) ≤ length first
   fits = omega (arith, a .before .before .before .pre .1)
@@ -83,7 +83,7 @@ module _ (a : tie.At-loop Inv-loop μ-loop) where
           row-room (written (ours text)) first (a .loop .out) 0 (a .loop .b .n) (a .loop .b .held) (a .loop .b .have) row (rest text k j) fits to-come,
         )
 
-    again : (exit : List ℕ) (r : Held) → Sends (a .loop .out) exit (a .loop .b) row r
+    again : (exit : List ℕ) (r : Held) → SendsBits (a .loop .out) exit (a .loop .b) row r
         → (j + k ≤ length text) × (r .have < 32) × Alike values (take k (drop j text))
         × Pending (written (ours text)) first exit 0 (r .n) (r .held) (r .have) (rest text k j)
     again exit r s = (f .within, s .few, f .alike, s .same (written (ours text)) first 0 (rest text k j) bytes fits to-come)

@@ -8,7 +8,7 @@ use native.Mathlib.Omega.{arith}
 use lib.ListN.{length, drop}
 use Rattle.pseudo_binary.specs.Table.{Kind}
 use Rattle.pseudo_binary.specs.Writer.{run}
-use Rattle.pseudo_binary_writer.specs.Sending.{Between}
+use Rattle.pseudo_binary_writer.specs.Steps.Sending.{Between}
 use Rattle.pseudo_binary_writer.proofs.Counting.{run-end, run-other, run-on, run-full}
 use Rattle.pseudo_binary_writer.proofs.Ranges.{another, inside}
 use Rattle.pseudo_binary_writer.proofs.run_of.Statement.{statement}

@@ -4,9 +4,9 @@ use mathlib.Core.Path.{sym, subst}
 use Prim.Native.Nat.{ℕ, _+_, _-_}
 use native.Mathlib.Omega.{arith}
 use borrow.Author.Needs.{needs}
-use Rattle.codes.proofs.Low.{length-low}
-use Rattle.codes.specs.Pending.{Pending}
-use Rattle.codes.proofs.Spilling.{pending-push, pending-bytes}
+use Rattle.codes.proofs.LowBits.{length-low}
+use Rattle.codes.specs.Steps.Pending.{Pending}
+use Rattle.codes.proofs.PendingBytes.{pending-push, pending-bytes}
 use Rattle.pseudo_binary_writer.proofs.send.Statement.{statement}
 use Rattle.pseudo_binary_writer.proofs.send.Tie as tie
 

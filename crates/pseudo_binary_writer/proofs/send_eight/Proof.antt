@@ -5,8 +5,8 @@ use Prim.Native.Nat.{ℕ, _+_, _/_, _%_}
 use native.Mathlib.Omega.{arith}
 use borrow.Author.Needs.{needs}
 use Rattle.codes.specs.Pack.{low}
-use Rattle.codes.proofs.Low.{length-low}
-use Rattle.pseudo_binary_writer.specs.Sending.{Sends}
+use Rattle.codes.proofs.LowBits.{length-low}
+use Rattle.pseudo_binary_writer.specs.Steps.Sending.{SendsBits}
 use Rattle.pseudo_binary_writer.proofs.Gathering.{four-values-small, upper-half, lower-half}
 use Rattle.pseudo_binary_writer.proofs.Sends.{sends-both}
 use Rattle.pseudo_binary_writer.proofs.send_eight.Statement.{statement}
@@ -48,7 +48,7 @@ returns c =
     let a = g .before .before .before .args in
     let x = g .gathered .result in
     let t = a .text .now in
-    subst₂ (λ (u v : ℕ). Sends (a .out .now) (z .send2 .last .0) (a .b) (low 24 u ++ low 24 v) (z .send2 .result))
+    subst₂ (λ (u v : ℕ). SendsBits (a .out .now) (z .send2 .last .0) (a .b) (low 24 u ++ low 24 v) (z .send2 .result))
     (upper-half t (a .i) x (g .gathered .ensures)) (lower-half t (a .i) x (g .gathered .ensures))
     (sends-both (a .out .now) (s .send .last .0) (z .send2 .last .0) (a .b) (s .send .result) (z .send2 .result) (low 24 (x / 4294967296))
     (low 24 (x % 4294967296)) (s .send .ensures) (z .send2 .ensures))

@@ -4,7 +4,7 @@ use Prim.Native.Nat.{ℕ, _+_, _%_, _<_}
 use native.Mathlib.Omega.{arith}
 use mathlib.Core.Path.{ap}
 use lib.ListN.{length, set, length-set}
-use Rattle.report.specs.Line.{digit, decimal, Puts}
+use Rattle.report.specs.Line.{digit, decimal, PutsRow}
 use Rattle.report.proofs.Decimal.{decimal-small}
 use Rattle.report.proofs.Putting.{puts-small, tenth-held, puts-large}
 use borrow.Author.Needs.{needs}
@@ -64,7 +64,7 @@ module _ (t : ℕ) where
   -- behind what a tenth of the number is, its last digit
   last-digit : (c : put-decimal-lts.After-slice-known2 (below t, put-decimal.Post) (at-most t) put-decimal.Post)
       → (c .before .before .put-decimal .result < length (c .before .before .put-decimal .last .1 .0))
-      × Puts (decimal (c .before .before .before .before .before .before .args .n))
+      × PutsRow (decimal (c .before .before .before .before .before .before .args .n))
       (c .before .before .before .before .before .before .args .out .now)
       (set (c .before .before .put-decimal .last .1 .0) (c .before .before .put-decimal .result)
       (digit (c .before .before .before .before .before .before .args .n % 10))) (c .before .before .before .before .before .before .args .at)

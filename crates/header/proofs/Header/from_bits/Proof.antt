@@ -5,7 +5,7 @@ use Prim.Native.Nat.{_%_}
 use native.Mathlib.Nat.{div-one}
 use borrow.Author.Needs.{needs}
 use lib.Dec.{eqb}
-use Rattle.header.specs.Flag.{flagBits, spareIn, syncIn, extendedIn, messageIn}
+use Rattle.header.specs.Flag.{flagBits, spareIn, syncIn, extendedTypeIn, messageTypeIn}
 use Rattle.header.specs.Valid.{flagIn, lengthIn}
 use Rattle.header.specs.Fields.{fieldsIn}
 use Rattle.header.proofs.Header.from_bits.Statement.{statement}
@@ -21,13 +21,13 @@ cast-t16 : tie.Need-cast-t16
 cast-t16 c = search needs
 
 returns : tie.Need-returns
-unfolding fieldsIn flagIn lengthIn flagBits spareIn syncIn extendedIn messageIn
+unfolding fieldsIn flagIn lengthIn flagBits spareIn syncIn extendedTypeIn messageTypeIn
 returns c =
     let h = c .args .word in
     λ i.
     record {
-      message = messageIn (flagIn h);
-      extended = extendedIn (flagIn h);
+      «message_type» = messageTypeIn (flagIn h);
+      «extended_type» = extendedTypeIn (flagIn h);
       sync = eqb (syncIn (flagIn h)) 1;
       spare = eqb (sym (div-one (flagIn h)) i % 2) 1;
       length = lengthIn h;

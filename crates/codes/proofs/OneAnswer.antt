@@ -1,0 +1,144 @@
+-- The contracts of measuring, reading and sizing leave one answer, and one content of the buffer.
+-- Assumes nothing.
+use mathlib.Core.Path.{_≡_, refl, sym, ap, ap₂, _∙_}
+use mathlib.Core.Bool.{Bool, cond}
+use mathlib.Core.Logic.{by-cases}
+use mathlib.Core.List.{List, _++_}
+use Prim.Native.Nat.{ℕ}
+use native.Mathlib.Decide.{decLt}
+use native.Mathlib.Omega.{arith}
+use borrow.Author.Tests.{lt-ltb, le-ltb}
+use lib.Dec.{ltb}
+use lib.ListN.{length, drop}
+use Rattle.codes.specs.Chain as chain
+use Rattle.codes.specs.Chain.{Scheme, Built}
+use Rattle.codes.specs.Steps.Laid.{Fronted}
+use Rattle.codes.specs.Steps.Measure.{TakesApart, ReadsIntoBuffer, TakesApartBy, ReadsIntoBufferBy}
+use Rattle.codes.specs.declared.Outcome.{Outcome}
+use Rattle.codes.specs.declared.Outcome.the-variants as Outcome
+use Rattle.codes.specs.Coded.{CodedBelow, FirstUncoded}
+use Rattle.codes.specs.Steps.Size.{FindsUncoded, Needs, PutsData}
+use Rattle.codes.specs.declared.Needed.{Needed}
+use Rattle.codes.specs.declared.Needed.the-variants.{NoCode, TooMany, Bytes}
+use Rattle.codes.specs.declared.Stored.{Stored}
+use Rattle.codes.specs.declared.Stored.the-variants as Stored
+use Rattle.codes.specs.declared.Taken.{Taken}
+use Rattle.codes.specs.declared.Taken.the-variants as Taken
+use Rattle.codes.specs.declared.Uncoded.{Uncoded}
+use Rattle.codes.specs.declared.Uncoded.the-variants.{At, Nowhere}
+use Rattle.codes.proofs.SchemeLaws.{Laws}
+use Rattle.codes.proofs.OneReading.{one-text, one-place, never-both}
+
+-- ---- taking data apart, and reading it into a buffer, where it carries one text or is malformed at one place, never both
+
+module _ (Carried : List ℕ → Type 0) (Place : ℕ → Type 0) (one : (t u : List ℕ) → Carried t → Carried u → t ≡ u)
+    (place : (i j : ℕ) → Place i → Place j → i ≡ j) (never : (t : List ℕ) (i : ℕ) → Carried t → Place i → ⊥) (size : ℕ) where
+  pub one-coming : (a b : Outcome) → TakesApart Carried Place size a → TakesApart Carried Place size b → a ≡ b
+  one-coming (Outcome.Text m) (Outcome.Text n) (s, (t, l, p)) (s′, (u, l′, q)) = ap {B = Outcome} Outcome.Text (sym l ∙ ap length (one t u p q) ∙ l′)
+  one-coming (Outcome.Text m) (Outcome.Malformed j) (s, (t, l, p)) (s′, q) = absurd (never t j p q)
+  one-coming (Outcome.Text m) Outcome.TooLong (s, h) k = absurd (let no′ : ⊥ = omega (arith, s, k) in no′)
+  one-coming (Outcome.Malformed i) (Outcome.Text n) (s, p) (s′, (u, l′, q)) = absurd (never u i q p)
+  one-coming (Outcome.Malformed i) (Outcome.Malformed j) (s, p) (s′, q) = ap {B = Outcome} Outcome.Malformed (place i j p q)
+  one-coming (Outcome.Malformed i) Outcome.TooLong (s, h) k = absurd (let no′ : ⊥ = omega (arith, s, k) in no′)
+  one-coming Outcome.TooLong (Outcome.Text n) h (s′, k) = absurd (let no′ : ⊥ = omega (arith, h, s′) in no′)
+  one-coming Outcome.TooLong (Outcome.Malformed j) h (s′, k) = absurd (let no′ : ⊥ = omega (arith, h, s′) in no′)
+  one-coming Outcome.TooLong Outcome.TooLong h k = refl
+
+  module _ (entry : List ℕ) where
+    pub one-entry : (a b : Taken) (x y : List ℕ) → ReadsIntoBuffer Carried Place size entry a x → ReadsIntoBuffer Carried Place size entry b y → (a ≡ b) × (x ≡ y)
+    one-entry (Taken.Text m) (Taken.Text n) x y (s, (t, p, l, r, e)) (s′, (u, q, l′, r′, e′)) =
+        let same = one t u p q in
+        let long : m ≡ n = l ∙ ap length same ∙ sym l′ in
+        (ap {B = Taken} Taken.Text long, e ∙ ap₂ (λ (k : List ℕ) (z : ℕ). k ++ drop z entry) same long ∙ sym e′)
+    one-entry (Taken.Text m) (Taken.Malformed j) x y (s, (t, p, l, r, e)) (s′, q, e′) = absurd (never t j p q)
+    one-entry (Taken.Text m) (Taken.NoRoom n) x y (s, (t, p, l, r, e)) (s′, (u, q, l′, r′), e′) =
+        absurd (let no′ : ⊥ = omega (arith, l, ap length (one t u p q), l′, r, r′) in no′)
+    one-entry (Taken.Text m) Taken.TooLong x y (s, h) (s′, e′) = absurd (let no′ : ⊥ = omega (arith, s, s′) in no′)
+    one-entry (Taken.Malformed i) (Taken.Text n) x y (s, p, e) (s′, (u, q, l′, r′, e′)) = absurd (never u i q p)
+    one-entry (Taken.Malformed i) (Taken.Malformed j) x y (s, p, e) (s′, q, e′) = (ap {B = Taken} Taken.Malformed (place i j p q), e ∙ sym e′)
+    one-entry (Taken.Malformed i) (Taken.NoRoom n) x y (s, p, e) (s′, (u, q, l′, r′), e′) = absurd (never u i q p)
+    one-entry (Taken.Malformed i) Taken.TooLong x y (s, p, e) (s′, e′) = absurd (let no′ : ⊥ = omega (arith, s, s′) in no′)
+    one-entry (Taken.NoRoom m) (Taken.Text n) x y (s, (t, p, l, r), e) (s′, (u, q, l′, r′, e′)) =
+        absurd (let no′ : ⊥ = omega (arith, l, ap length (one t u p q), l′, r, r′) in no′)
+    one-entry (Taken.NoRoom m) (Taken.Malformed j) x y (s, (t, p, l, r), e) (s′, q, e′) = absurd (never t j p q)
+    one-entry (Taken.NoRoom m) (Taken.NoRoom n) x y (s, (t, p, l, r), e) (s′, (u, q, l′, r′), e′) =
+        (ap {B = Taken} Taken.NoRoom (l ∙ ap length (one t u p q) ∙ sym l′), e ∙ sym e′)
+    one-entry (Taken.NoRoom m) Taken.TooLong x y (s, h, e) (s′, e′) = absurd (let no′ : ⊥ = omega (arith, s, s′) in no′)
+    one-entry Taken.TooLong (Taken.Text n) x y (s, e) (s′, k) = absurd (let no′ : ⊥ = omega (arith, s, s′) in no′)
+    one-entry Taken.TooLong (Taken.Malformed j) x y (s, e) (s′, q, e′) = absurd (let no′ : ⊥ = omega (arith, s, s′) in no′)
+    one-entry Taken.TooLong (Taken.NoRoom n) x y (s, e) (s′, k, e′) = absurd (let no′ : ⊥ = omega (arith, s, s′) in no′)
+    one-entry Taken.TooLong Taken.TooLong x y (s, e) (s′, e′) = (refl, e ∙ sym e′)
+
+-- of a scheme that has the laws
+pub one-outcome : {scheme : Scheme} → Laws scheme → (sent : List ℕ) (a b : Outcome) → TakesApartBy scheme sent a → TakesApartBy scheme sent b → a ≡ b
+one-outcome {scheme} laws sent =
+    one-coming (λ (text : List ℕ). Built scheme text sent) (chain.Malformed scheme sent) (λ t u p q. one-text laws p q) (λ i j p q. one-place laws p q)
+    (λ t i p q. never-both laws p q) (length sent)
+
+pub one-reading : {scheme : Scheme} → Laws scheme → (sent entry : List ℕ) (a b : Taken) (x y : List ℕ)
+    → ReadsIntoBufferBy scheme sent entry a x → ReadsIntoBufferBy scheme sent entry b y → (a ≡ b) × (x ≡ y)
+one-reading {scheme} laws sent entry =
+    one-entry (λ (text : List ℕ). Built scheme text sent) (chain.Malformed scheme sent) (λ t u p q. one-text laws p q) (λ i j p q. one-place laws p q)
+    (λ t i p q. never-both laws p q) (length sent) entry
+
+-- ---- the contracts of what a text asks before it is written
+
+module _ (has : List ℕ → ℕ → Bool) (text : List ℕ) where
+  pub first-one : (i j : ℕ) → FirstUncoded has text i → FirstUncoded has text j → i ≡ j
+  first-one i j a b =
+      by-cases (decLt i j) (λ l. absurd (a .none (b .before i l)))
+      (λ l. by-cases (decLt j i) (λ m. absurd (b .none (a .before j m))) (λ m. omega arith))
+
+  pub one-search : (a b : Uncoded) → FindsUncoded has text a → FindsUncoded has text b → a ≡ b
+  one-search (At i) (At j) h k = ap {B = Uncoded} At (first-one i j h k)
+  one-search (At i) Nowhere h k = absurd (h .none (k i (h .there)))
+  one-search Nowhere (At j) h k = absurd (k .none (h j (k .there)))
+  one-search Nowhere Nowhere h k = refl
+
+  -- a text that has codes has no character without one
+  all-coded : (i : ℕ) → FirstUncoded has text i → CodedBelow has text (length text) → ⊥
+  all-coded i f c = f .none (c i (f .there))
+
+  module _ (most : ℕ) (carried : List ℕ) where
+    pub one-need : (a b : Needed) → Needs most has text carried a → Needs most has text carried b → a ≡ b
+    one-need (NoCode i) (NoCode j) h k = ap {B = Needed} NoCode (first-one i j h k)
+    one-need (NoCode i) TooMany h k = absurd (all-coded i h (k .0))
+    one-need (NoCode i) (Bytes n) h k = absurd (all-coded i h (k .0))
+    one-need TooMany (NoCode j) h k = absurd (all-coded j k (h .0))
+    one-need TooMany TooMany h k = refl
+    one-need TooMany (Bytes n) h k = absurd (let no′ : ⊥ = omega (arith, h .1, k .1, k .2) in no′)
+    one-need (Bytes m) (NoCode j) h k = absurd (all-coded j k (h .0))
+    one-need (Bytes m) TooMany h k = absurd (let no′ : ⊥ = omega (arith, k .1, h .1, h .2) in no′)
+    one-need (Bytes m) (Bytes n) h k = ap {B = Needed} Bytes (h .1 ∙ sym (k .1))
+
+    module _ (entry : List ℕ) where
+      -- what is stored is what the text needs, in this room
+      need : Stored → Needed
+      need (Stored.NoCode i) = NoCode i
+      need Stored.TooMany = TooMany
+      need (Stored.NoRoom n) = Bytes n
+      need (Stored.Bytes n) = Bytes n
+
+      stored : Needed → Stored × List ℕ
+      stored (NoCode i) = (Stored.NoCode i, entry)
+      stored TooMany = (Stored.TooMany, entry)
+      stored (Bytes n) = cond (ltb (length entry) n) (Stored.NoRoom n, entry) (Stored.Bytes n, carried ++ drop n entry)
+
+      needed : (a : Stored) (x : List ℕ) → PutsData most has text carried entry a x → Needs most has text carried (need a) × ((a, x) ≡ stored (need a))
+      unfolding need stored
+      needed (Stored.NoCode i) x h = (h .0, ap (λ (l : List ℕ). (Stored.NoCode i, l)) (h .1))
+      needed Stored.TooMany x h = (h .0, ap (λ (l : List ℕ). (Stored.TooMany, l)) (h .1))
+      needed (Stored.NoRoom n) x h =
+          (h .0, ap (λ (l : List ℕ). (Stored.NoRoom n, l)) (h .2) ∙ sym (ap (λ (t : Bool). cond t (Stored.NoRoom n, entry) (Stored.Bytes n, carried ++ drop n entry)) (lt-ltb (length entry) n (h .1))))
+      needed (Stored.Bytes n) x h =
+          (h .0, ap (λ (l : List ℕ). (Stored.Bytes n, l)) (h .2) ∙ sym (ap (λ (t : Bool). cond t (Stored.NoRoom n, entry) (Stored.Bytes n, carried ++ drop n entry)) (le-ltb (length entry) n (h .1))))
+
+      pub one-store : (a b : Stored) (x y : List ℕ) → PutsData most has text carried entry a x → PutsData most has text carried entry b y → (a ≡ b) × (x ≡ y)
+      one-store a b x y h k =
+          let same = needed a x h .1 ∙ ap stored (one-need (need a) (need b) (needed a x h .0) (needed b y k .0)) ∙ sym (needed b y k .1) in
+          (ap (λ (p : Stored × List ℕ). p .0) same, ap (λ (p : Stored × List ℕ). p .1) same)
+
+pub one-front : {row entry x y : List ℕ} {r q : ℕ} → Fronted row entry x r → Fronted row entry y q → (x ≡ y) × (r ≡ q)
+one-front {row} {entry} h k =
+    let same = h .size ∙ sym (k .size) in
+    (h .whole ∙ ap (λ (n : ℕ). row ++ drop n entry) same ∙ sym (k .whole), same)

@@ -1,0 +1,124 @@
+-- Data that is read up to a bit: what was said so far is counted, or laid into a buffer. It holds of every scheme.
+-- Assumes nothing.
+use mathlib.Core.Path.{_≡_, refl, sym, ap, subst, _∙_}
+use mathlib.Core.List.{List, [], _++_, append-nil}
+use Prim.Native.Nat.{ℕ, _+_, _-_, _≤_}
+use native.Mathlib.Nat.{add-zero}
+use native.Mathlib.Omega.{arith}
+use lib.ListN.{length, length-append}
+use Rattle.codes.specs.Chain.{Scheme, Fill, Builds}
+use Rattle.codes.specs.Steps.Laid.{laid, Readable, Placed}
+use Rattle.codes.specs.Steps.Measure.{Measures}
+use Rattle.codes.specs.Steps.Passed.{Passed, CountedSoFar, LaidSoFar}
+use Rattle.codes.specs.declared.Measured.the-variants.{Text, Malformed}
+use Rattle.codes.proofs.LaidRows.{laid-nil, laid-laid, length-laid}
+use Rattle.codes.proofs.SchemeLaws.{Laws}
+use Rattle.codes.proofs.PassedEntries.{passed-none, passed-front, passed-on, passed-builds, passed-stuck, passed-text}
+use Rattle.codes.proofs.OneReading.{Halts, builds-end, stuck-here}
+
+pub counting-none : (scheme : Scheme) (bs : List ℕ) → CountedSoFar scheme bs bs 0
+counting-none scheme bs = record { said = []; counts = refl; passed = passed-none scheme bs }
+
+module _ {scheme : Scheme} {bs rest : List ℕ} {n : ℕ} (c : CountedSoFar scheme bs rest n) where
+  -- k characters more
+  pub counting-more : {later : List ℕ} {k : ℕ} (more : List ℕ) → length more ≡ k → Passed scheme bs 0 later (c .said ++ more)
+      → CountedSoFar scheme bs later (n + k)
+  counting-more more e p = record { said = c .said ++ more; counts = omega (arith, length-append (c .said) more, c .counts); passed = p }
+
+  -- reading after reading
+  pub counting-on : {later : List ℕ} {k : ℕ} → CountedSoFar scheme rest later k → CountedSoFar scheme bs later (n + k)
+  counting-on d = counting-more (d .said) (d .counts) (passed-on (c .passed) (d .passed))
+
+  -- what follows the bits does not matter
+  pub counting-front : (more : List ℕ) → CountedSoFar scheme (bs ++ more) (rest ++ more) n
+  counting-front more = record { said = c .said; counts = c .counts; passed = passed-front more (c .passed) }
+
+  -- the ends of the reading
+  pub counting-end : Fill (scheme .unused) rest → Measures scheme bs (Text n)
+  counting-end f = (
+    c .said,
+    c .counts,
+    subst (Builds scheme 0 bs) (append-nil (c .said)) (passed-builds rest [] (c .passed) (builds-end scheme f)),
+  )
+
+  pub counting-stuck : (i : ℕ) → i + length rest ≡ length bs → Halts scheme 0 rest → (Fill (scheme .unused) rest → ⊥) → Measures scheme bs (Malformed i)
+  counting-stuck i e h f = passed-stuck rest i 0 (c .passed) (omega arith) (stuck-here h (λ x. f))
+
+  -- what the rest comes to, of the whole
+  pub counting-text : (k : ℕ) → Measures scheme rest (Text k) → Measures scheme bs (Text (n + k))
+  counting-text k t = (
+    c .said ++ t .0,
+    omega (arith, length-append (c .said) (t .0), c .counts, t .1),
+    passed-builds rest (t .0) (c .passed) (t .2),
+  )
+
+  pub counting-malformed : (i j : ℕ) → j + length rest ≡ length bs + i → Measures scheme rest (Malformed i) → Measures scheme bs (Malformed j)
+  counting-malformed i j e s = passed-stuck rest j i (c .passed) e s
+
+pub laying-none : (scheme : Scheme) (bs out : List ℕ) (n : ℕ) → LaidSoFar scheme bs bs out out n n
+laying-none scheme bs out n = record { said = []; passed = passed-none scheme bs; place = sym (add-zero n); whole = sym (laid-nil out n) }
+
+module _ {scheme : Scheme} {bs rest entry out : List ℕ} {m n : ℕ} (y : LaidSoFar scheme bs rest entry out m n) where
+  -- k characters more, laid after what stands there
+  pub laying-more : {later : List ℕ} {k : ℕ} (more : List ℕ) → length more ≡ k → n ≤ length entry → Passed scheme bs 0 later (y .said ++ more)
+      → LaidSoFar scheme bs later entry (laid out n more) m (n + k)
+  laying-more more e h p = record {
+    said = y .said ++ more;
+    passed = p;
+    place = omega (arith, y .place, length-append (y .said) more);
+    whole = ap (λ (l : List ℕ). laid l n more) (y .whole) ∙ laid-laid entry m n (y .said) more (omega (arith, y .place)) (y .place);
+  }
+
+  -- reading after reading
+  pub laying-on : {later exit : List ℕ} {k : ℕ} → n ≤ length entry → LaidSoFar scheme rest later out exit n k
+      → LaidSoFar scheme bs later entry exit m k
+  laying-on h z = record {
+    said = y .said ++ z .said;
+    passed = passed-on (y .passed) (z .passed);
+    place = omega (arith, y .place, z .place, length-append (y .said) (z .said));
+    whole = z .whole ∙ ap (λ (l : List ℕ). laid l n (z .said)) (y .whole)
+        ∙ laid-laid entry m n (y .said) (z .said) (omega (arith, y .place)) (y .place);
+  }
+
+  -- what follows the bits does not matter
+  pub laying-front : (more : List ℕ) → LaidSoFar scheme (bs ++ more) (rest ++ more) entry out m n
+  laying-front more = record { said = y .said; passed = passed-front more (y .passed); place = y .place; whole = y .whole }
+
+  -- a buffer keeps its length
+  pub laying-length : n ≤ length entry → length out ≡ length entry
+  laying-length h = ap length (y .whole) ∙ length-laid entry m (y .said) (omega (arith, y .place))
+
+  -- the end of the reading
+  pub laying-end : Fill (scheme .unused) rest → Placed scheme bs entry out m n
+  laying-end f = record {
+    text = y .said;
+    reads = subst (Builds scheme 0 bs) (append-nil (y .said)) (passed-builds rest [] (y .passed) (builds-end scheme f));
+    place = y .place;
+    whole = y .whole;
+  }
+
+  -- the text of the rest laid after it
+  pub laying-last : {exit : List ℕ} {r : ℕ} → n ≤ length entry → Placed scheme rest out exit n r → Placed scheme bs entry exit m r
+  laying-last h p = record {
+    text = y .said ++ p .text;
+    reads = passed-builds rest (p .text) (y .passed) (p .reads);
+    place = omega (arith, p .place, y .place, length-append (y .said) (p .text));
+    whole = p .whole ∙ ap (λ (l : List ℕ). laid l n (p .text)) (y .whole)
+        ∙ laid-laid entry m n (y .said) (p .text) (omega (arith, y .place)) (y .place);
+  }
+
+  -- where the whole can be read: the text goes on after what was said, and there is room for it
+  module _ (laws : Laws scheme) {room : ℕ} (f : Readable scheme bs room) where
+    pub laying-later : Readable scheme rest (m + room - n)
+    laying-later =
+        let p = passed-text laws rest (f .text) (y .passed) (f .reads) in
+        record {
+          text = p .0;
+          reads = p .2;
+          fits = omega (arith, f .fits, ap length (p .1), length-append (y .said) (p .0), y .place);
+        }
+
+    pub laying-within : n ≤ m + room
+    laying-within =
+        let p = passed-text laws rest (f .text) (y .passed) (f .reads) in
+        omega (arith, f .fits, ap length (p .1), length-append (y .said) (p .0), y .place)
