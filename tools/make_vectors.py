@@ -231,7 +231,7 @@ def case(kind, format, sync, room, given, answer):
     COUNT += 1
     line, beside, put = answer
     assert len(put) <= room, (line, room)
-    STDIN += kind + bytes([format, sync]) + room.to_bytes(3, "big") + len(given).to_bytes(3, "big") + given
+    STDIN += kind + bytes([sync]) + b"".join(number.to_bytes(3, "big") for number in (format, room, len(given))) + given
     lent = put + bytes(i % 251 + 5 for i in range(len(put), room))
     STDOUT.append(f"{line}\n{beside} {zlib.adler32(lent):08x} {lent[:512].hex()}\n")
 
@@ -454,7 +454,8 @@ def writer_refusals():
         for text in b"", b"/", b"\x80":
             for room in 0, 16:
                 writes(format, text, room)
-    writes(255, b"/", 16)
+    for format in 255, 256, 257, 260, 65540, 0xFFFFFF:  # the low byte of some is a format's number
+        writes(format, b"/", 16)
     for format in PSEUDO, ASCII:
         for character in range(256):
             writes(format, bytes([character]), 9, sync=character % 2)
