@@ -2,11 +2,11 @@
 """Writes the cases of crates/vectors (stdin) and what the program must print for them (stdout).
 
 Written from the documents alone: 01 (what is to be made) and source document 001. For the published packets of 001's section 5
-(tests/vectors/section5.txt) the expectation is the published packet and the message beside it; for the edges P1 to P15 it is the line of 01's table; for
+(outside-tests/vectors/section5.txt) the expectation is the published packet and the message beside it; for the edges P1 to P15 it is the line of 01's table; for
 all others it is worked out here, in the plainest way: bits are strings of 0 and 1, a header is mended by trying every pattern of at most two bits.
 
-    python3 tools/make_vectors.py            writes both files
-    python3 tools/make_vectors.py --check    writes nothing: are they what would be written?
+    python3 vector-maker/make_vectors.py            writes both files
+    python3 vector-maker/make_vectors.py --check    writes nothing: are they what would be written?
 """
 import itertools
 import pathlib
@@ -254,7 +254,7 @@ def flipped(received, places):
 def sections():
     """001's section 5, by number: the packet, and the text of the message beside it."""
     found = {}
-    for section in (ROOT / "tests/vectors/section5.txt").read_text().split("\n## ")[1:]:
+    for section in (ROOT / "outside-tests/vectors/section5.txt").read_text().split("\n## ")[1:]:
         sent = bytes.fromhex("".join(re.findall(r"^packet (\w+)", section, re.M)))
         message = bytes.fromhex("".join(re.findall(r"^text (\w+)", section, re.M)))
         found[section.split()[0]] = sent, message
@@ -504,7 +504,7 @@ def main(words):
         if not words:
             file.write_bytes(made)
         elif file.read_bytes() != made:
-            sys.exit(f"crates/vectors/{name} is not what tools/make_vectors.py makes")
+            sys.exit(f"crates/vectors/{name} is not what vector-maker/make_vectors.py makes")
 
 
 if __name__ == "__main__":
