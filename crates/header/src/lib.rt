@@ -22,9 +22,9 @@ pub enum WhichFormat {
 
 pub struct Header {
     // bits 7/6 of the flag
-    pub message_type: u8,
+    pub message_type: u32,
     // bits 5/4/3
-    pub extended_type: u8,
+    pub extended_type: u32,
     // bit 2
     pub sync: bool,
     // bit 1, sent 0
@@ -35,20 +35,20 @@ pub struct Header {
 
 impl Header {
     // The message type of every binary packet.
-    pub const BINARY: u8 = 2;
+    pub const BINARY: u32 = 2;
     // The extended types.
-    pub const OPEN: u8 = 0;
+    pub const OPEN: u32 = 0;
 
-    pub const PSEUDO_BINARY: u8 = 1;
+    pub const PSEUDO_BINARY: u32 = 1;
 
-    pub const FULL_ASCII: u8 = 4;
+    pub const FULL_ASCII: u32 = 4;
     // The most data bytes of one packet.
     pub const LONGEST: u16 = 4000;
     // x^10 + x^9 + x^8 + x^6 + x^5 + x^3 + 1, of the check bits.
     pub const GENERATOR: u32 = 0x769;
 
     // The header that we send for these fields.
-    pub fn from_fields(extended_type: u8, sync: bool, length: u16) -> Self
+    pub fn from_fields(extended_type: u32, sync: bool, length: u16) -> Self
         ensures { λ r. ⌜ r ≡ sentFields «extended_type» sync length ⌝ }
     {
         Header {
@@ -66,8 +66,8 @@ impl Header {
     {
         let flag = word / 0x100_0000;
         Header {
-            message_type: (flag / 32 % 4) as u8,
-            extended_type: (flag / 4 % 8) as u8,
+            message_type: flag / 32 % 4,
+            extended_type: flag / 4 % 8,
             sync: flag / 2 % 2 == 1,
             spare: flag % 2 == 1,
             length: (word / 1024 % 16384) as u16,
@@ -90,7 +90,7 @@ impl Header {
     }
 
     // The format of a number, which is its extended type.
-    pub fn format_of(number: u8) -> WhichFormat
+    pub fn format_of(number: u32) -> WhichFormat
         ensures { λ r. ⌜ FormatOfNumber number r ⌝ }
     {
         match number {
@@ -102,7 +102,7 @@ impl Header {
     }
 
     // The number of a format.
-    pub fn number(format: Format) -> u8
+    pub fn number(format: Format) -> u32
         ensures { λ r. ⌜ r ≡ formatNumber format ⌝ }
     {
         match format {
@@ -117,10 +117,7 @@ impl Header {
         requires { ⌜ Fit self ⌝ }
         ensures { λ r. ⌜ r ≡ lowFlag self ⌝ }
     {
-        (self.message_type as u32) * 32
-            + (self.extended_type as u32) * 4
-            + one_if(self.sync) * 2
-            + one_if(self.spare)
+        self.message_type * 32 + self.extended_type * 4 + one_if(self.sync) * 2 + one_if(self.spare)
     }
 
     // The 32 bits of a header: the flag with its parity, the length, and the check bits over both.

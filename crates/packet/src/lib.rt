@@ -222,7 +222,7 @@ fn put_frame(format: Format, sync: bool, n: usize, packet: &mut [u8])
 }
 
 // Writes a text as a packet into a packet buffer.
-pub fn write(format: u8, sync: bool, text: &[u8], packet: &mut [u8]) -> WriteAnswer
+pub fn write(format: u32, sync: bool, text: &[u8], packet: &mut [u8]) -> WriteAnswer
     ensures { λ r. ⌜ Writes format sync (now (text .entry)) (now (packet .entry)) r (now (packet .exit)) ⌝ }
 {
     let which = Header::format_of(format);

@@ -35,7 +35,7 @@ pub extern "C" fn rosopyat_read(packet: &[u8], text: &mut [u8]) -> ReadReply
             ReadReply {
                 refusal: 0,
                 number: 0,
-                format: Header::number(format) as u32,
+                format: Header::number(format),
                 sync: header::one_if(reading.sync),
                 mended: reading.mended,
                 data_length: reading.data_length,
@@ -58,7 +58,7 @@ pub extern "C" fn rosopyat_read(packet: &[u8], text: &mut [u8]) -> ReadReply
 
 #[no_mangle]
 pub extern "C" fn rosopyat_write(
-    format: u8,
+    format: u32,
     sync: bool,
     text: &[u8],
     packet: &mut [u8],

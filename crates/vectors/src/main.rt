@@ -1,6 +1,6 @@
-// Runs packets through the reader and texts through the writer. Standard input is a row of cases: `r` or `w`, the writer's format and sync bit, the
-// length of the lent buffer and of the packet or text (three bytes each, high byte first), and the packet or text. For each it prints two lines: the
-// answer's line; and the number that comes with a refusal, or the bytes used, then the lent buffer's Adler-32, and its first 512 bytes.
+// Runs packets through the reader and texts through the writer. Standard input is a row of cases: `r` or `w`, the writer's sync bit; the writer's format,
+// the length of the lent buffer and that of the packet or text (three bytes each, high byte first); and the packet or text. For each it prints two lines:
+// the answer's line; and the number that comes with a refusal, or the bytes used, then the lent buffer's Adler-32, and its first 512 bytes.
 use libc::STDIN_FILENO;
 use libc::STDOUT_FILENO;
 use packet::ReadAnswer;
@@ -80,7 +80,7 @@ fn print_line(word: &[u8], number: usize) {
     io::write_all(STDOUT_FILENO, b"\n");
 }
 
-fn run_writer(format: u8, sync: bool, text: &[u8], packet: &mut [u8]) {
+fn run_writer(format: u32, sync: bool, text: &[u8], packet: &mut [u8]) {
     let answer = packet::write(format, sync, text, packet);
     match answer {
         WriteAnswer::Written(length) => {
@@ -94,12 +94,12 @@ fn run_writer(format: u8, sync: bool, text: &[u8], packet: &mut [u8]) {
     }
 }
 
-fn number(high: u8, middle: u8, low: u8) -> usize {
-    (high as usize) * 65536 + (middle as usize) * 256 + (low as usize)
+fn number(high: u8, middle: u8, low: u8) -> u32 {
+    (high as u32) * 65536 + (middle as u32) * 256 + (low as u32)
 }
 
 // The packet or text of a case, and the call.
-fn run_case(kind: u8, format: u8, sync: bool, given: &mut [u8], lent: &mut [u8]) {
+fn run_case(kind: u8, format: u32, sync: bool, given: &mut [u8], lent: &mut [u8]) {
     io::read_full(STDIN_FILENO, given);
     fill(lent);
     if kind == b'r' {
@@ -111,12 +111,13 @@ fn run_case(kind: u8, format: u8, sync: bool, given: &mut [u8], lent: &mut [u8])
 
 // Runs the next case; whether there was one.
 fn run_next() -> bool {
-    let mut head = [0u8; 9];
-    if io::read_full(STDIN_FILENO, &mut head) < 9 {
+    let mut head = [0u8; 11];
+    if io::read_full(STDIN_FILENO, &mut head) < 11 {
         return false;
     }
-    let room = number(head[3], head[4], head[5]);
-    let length = number(head[6], head[7], head[8]);
+    let format = number(head[2], head[3], head[4]);
+    let room = number(head[5], head[6], head[7]) as usize;
+    let length = number(head[8], head[9], head[10]) as usize;
     if LARGEST < room {
         return false;
     }
@@ -127,8 +128,8 @@ fn run_next() -> bool {
     let mut lent = buffer();
     run_case(
         head[0],
-        head[1],
-        head[2] == 1,
+        format,
+        head[1] == 1,
         &mut given[..length],
         &mut lent[..room],
     );

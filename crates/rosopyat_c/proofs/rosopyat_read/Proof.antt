@@ -17,9 +17,6 @@ enum-known-answer c = search needs
 number-requires : tie.Need-number-requires
 number-requires c κs = search needs
 
-cast-t11 : tie.Need-cast-t11
-cast-t11 c = search needs
-
 one-if-requires : tie.Need-one-if-requires
 one-if-requires c κs = search needs
 
@@ -94,7 +91,6 @@ rosopyat-read-spec =
     read-requires
     enum-known-answer
     number-requires
-    cast-t11
     one-if-requires
     enum-known-answer-2
     number-requires-2

@@ -40,6 +40,24 @@ array-read-number-6 c = search needs
 number-requires-2 : tie.Need-number-requires-2
 number-requires-2 c κs = search needs
 
+cast-room : tie.Need-cast-room
+cast-room c = search needs
+
+array-read-number-7 : tie.Need-array-read-number-7
+array-read-number-7 c = search needs
+
+array-read-number-8 : tie.Need-array-read-number-8
+array-read-number-8 c = search needs
+
+array-read-number-9 : tie.Need-array-read-number-9
+array-read-number-9 c = search needs
+
+number-requires-3 : tie.Need-number-requires-3
+number-requires-3 c κs = search needs
+
+cast-length : tie.Need-cast-length
+cast-length c = search needs
+
 returns-2 : tie.Need-returns-2
 returns-2 c = search needs
 
@@ -57,9 +75,6 @@ array-read-run-case c = search needs
 
 array-read-run-case-2 : tie.Need-array-read-run-case-2
 array-read-run-case-2 c = search needs
-
-array-read-run-case-3 : tie.Need-array-read-run-case-3
-array-read-run-case-3 c = search needs
 
 array-borrow-prefix-given : tie.Need-array-borrow-prefix-given
 array-borrow-prefix-given c = search needs
@@ -94,13 +109,18 @@ run-next-spec =
     array-read-number-5
     array-read-number-6
     number-requires-2
+    cast-room
+    array-read-number-7
+    array-read-number-8
+    array-read-number-9
+    number-requires-3
+    cast-length
     returns-2
     returns-3
     buffer-requires
     buffer-requires-2
     array-read-run-case
     array-read-run-case-2
-    array-read-run-case-3
     array-borrow-prefix-given
     slice-aggregate-run-case
     array-borrow-prefix-lent

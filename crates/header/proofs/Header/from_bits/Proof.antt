@@ -11,14 +11,8 @@ use Rattle.header.specs.Fields.{fieldsIn}
 use Rattle.header.proofs.Header.from_bits.Statement.{statement}
 use Rattle.header.proofs.Header.from_bits.Tie as tie
 
-cast-t5 : tie.Need-cast-t5
-cast-t5 c = search needs
-
-cast-t8 : tie.Need-cast-t8
-cast-t8 c = search needs
-
-cast-t16 : tie.Need-cast-t16
-cast-t16 c = search needs
+cast-t14 : tie.Need-cast-t14
+cast-t14 c = search needs
 
 returns : tie.Need-returns
 unfolding fieldsIn flagIn lengthIn flagBits spareIn syncIn extendedTypeIn messageTypeIn
@@ -34,4 +28,4 @@ returns c =
     }
 
 pub from-bits-spec : {M : Type 1} → statement M
-from-bits-spec = tie.close (tie.spec cast-t5 cast-t8 cast-t16 returns)
+from-bits-spec = tie.close (tie.spec cast-t14 returns)

@@ -7,14 +7,8 @@ use Rattle.header.proofs.Made.{oneIf-lt}
 use Rattle.header.proofs.Header.low_flag.Statement.{statement}
 use Rattle.header.proofs.Header.low_flag.Tie as tie
 
-cast-result : tie.Need-cast-result
-cast-result c = search needs
-
 mul-result : tie.Need-mul-result
 mul-result c = search needs
-
-cast-result-2 : tie.Need-cast-result-2
-cast-result-2 c = search needs
 
 mul-result-2 : tie.Need-mul-result-2
 mul-result-2 c = search needs
@@ -45,9 +39,7 @@ pub low-flag-spec : {M : Type 1} → statement M
 low-flag-spec =
     tie.close
     (tie.spec
-    cast-result
     mul-result
-    cast-result-2
     mul-result-2
     add-result
     one-if-requires

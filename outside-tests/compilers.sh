@@ -46,7 +46,7 @@ if ! found $compiler ${compiler%gcc}g++ $run || [ ! -e $headers/stdio.h ]; then 
 found python3 || install_packages python3
 
 compile() {
-    $compiler -std=c11 -O2 -static -Wall -Wextra -Werror "-I$root/include" "-I$root/tests" "-I$root/tests/independent" "$@"
+    $compiler -std=c11 -O2 -static -Wall -Wextra -Werror "-I$root/include" "-I$root/outside-tests" "-I$root/outside-tests/independent" "$@"
 }
 
 compile_cpp() {

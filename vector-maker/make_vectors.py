@@ -2,11 +2,11 @@
 """Writes the cases of crates/vectors (stdin) and what the program must print for them (stdout).
 
 Written from the documents alone: 01 (what is to be made) and source document 001. For the published packets of 001's section 5
-(tests/vectors/section5.txt) the expectation is the published packet and the message beside it; for the edges P1 to P15 it is the line of 01's table; for
+(outside-tests/vectors/section5.txt) the expectation is the published packet and the message beside it; for the edges P1 to P15 it is the line of 01's table; for
 all others it is worked out here, in the plainest way: bits are strings of 0 and 1, a header is mended by trying every pattern of at most two bits.
 
-    python3 tools/make_vectors.py            writes both files
-    python3 tools/make_vectors.py --check    writes nothing: are they what would be written?
+    python3 vector-maker/make_vectors.py            writes both files
+    python3 vector-maker/make_vectors.py --check    writes nothing: are they what would be written?
 """
 import itertools
 import pathlib
@@ -231,7 +231,7 @@ def case(kind, format, sync, room, given, answer):
     COUNT += 1
     line, beside, put = answer
     assert len(put) <= room, (line, room)
-    STDIN += kind + bytes([format, sync]) + room.to_bytes(3, "big") + len(given).to_bytes(3, "big") + given
+    STDIN += kind + bytes([sync]) + b"".join(number.to_bytes(3, "big") for number in (format, room, len(given))) + given
     lent = put + bytes(i % 251 + 5 for i in range(len(put), room))
     STDOUT.append(f"{line}\n{beside} {zlib.adler32(lent):08x} {lent[:512].hex()}\n")
 
@@ -254,7 +254,7 @@ def flipped(received, places):
 def sections():
     """001's section 5, by number: the packet, and the text of the message beside it."""
     found = {}
-    for section in (ROOT / "tests/vectors/section5.txt").read_text().split("\n## ")[1:]:
+    for section in (ROOT / "outside-tests/vectors/section5.txt").read_text().split("\n## ")[1:]:
         sent = bytes.fromhex("".join(re.findall(r"^packet (\w+)", section, re.M)))
         message = bytes.fromhex("".join(re.findall(r"^text (\w+)", section, re.M)))
         found[section.split()[0]] = sent, message
@@ -454,7 +454,8 @@ def writer_refusals():
         for text in b"", b"/", b"\x80":
             for room in 0, 16:
                 writes(format, text, room)
-    writes(255, b"/", 16)
+    for format in 255, 256, 257, 260, 65540, 0xFFFFFF:  # the low byte of some is a format's number
+        writes(format, b"/", 16)
     for format in PSEUDO, ASCII:
         for character in range(256):
             writes(format, bytes([character]), 9, sync=character % 2)
@@ -503,7 +504,7 @@ def main(words):
         if not words:
             file.write_bytes(made)
         elif file.read_bytes() != made:
-            sys.exit(f"crates/vectors/{name} is not what tools/make_vectors.py makes")
+            sys.exit(f"crates/vectors/{name} is not what vector-maker/make_vectors.py makes")
 
 
 if __name__ == "__main__":

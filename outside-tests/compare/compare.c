@@ -2,9 +2,9 @@
  *
  *     compare [COUNT [SEED [FIRST]]]
  *
- * Each case depends on the seed and its own number only, so `tests/compare/run 1 SEED FIRST` repeats one. A difference in any member of an answer or any byte of a
- * buffer, a byte changed outside of what the answer allows, a read or write past a buffer's end, or an answer other than the one known from how the
- * packet was made ends the run with status 1. So does, in a run of MEANT_CASES or more, an outcome that never occurred. */
+ * Each case depends on the seed and its own number only, so `outside-tests/compare/run 1 SEED FIRST` repeats one. A difference in any member of an
+ * answer or any byte of a buffer, a byte changed outside of what the answer allows, a read or write past a buffer's end, or an answer other than the
+ * one known from how the packet was made ends the run with status 1. So does, in a run of MEANT_CASES or more, an outcome that never occurred. */
 #define _GNU_SOURCE
 #include "independent.h"
 #include "maker.h"
@@ -194,7 +194,7 @@ static void dump_bytes(const char *name, const uint8_t *bytes, size_t length)
 
 static void dump_case(void)
 {
-    printf("seed %" PRIu64 " case %" PRIu64 " (repeat it with: tests/compare/run 1 %" PRIu64 " %" PRIu64 ")\n", seed, case_number, seed, case_number);
+    printf("seed %" PRIu64 " case %" PRIu64 " (repeat it with: outside-tests/compare/run 1 %" PRIu64 " %" PRIu64 ")\n", seed, case_number, seed, case_number);
 }
 
 static void touched_outside(int signal_number)
