@@ -1,78 +1,74 @@
--- A refusal is its number and its value, and the first match is one.
+-- A refusal is its number and its value, and the first match is one; over the refusals of any entry point.
 -- Assumes nothing.
-use mathlib.Core.Logic.{⊎-elim}
-use mathlib.Core.Path.{_≡_, refl, sym, ap, _∙_, subst}
-use Prim.Native.Nat.{ℕ, zero, suc, _<_}
+use mathlib.Core.Logic.{⊎-elim, _↔_}
+use mathlib.Core.Path.{_≡_, refl, sym, ap, ap₂, _∙_, subst, subst₂}
+use Prim.Native.Nat.{ℕ, suc, _<_}
 use native.Mathlib.Decide.{decLt}
 use native.Mathlib.Nat.{eq-or-lt-of-le, le-of-suc-le-suc}
 use native.Mathlib.Omega.{arith}
-use Rattle.refusals.specs.declared.Refusal.{Refusal}
-use Rattle.refusals.specs.declared.Refusal.the-variants.{Short, NoHeader, OtherType, OtherLength, CutOff, Checksum, Malformed, NoRoom, NoCode, Empty, TooLong, OtherFormat}
-use Rattle.refusals.specs.Refusals.{numberOf, valueOf, First}
+use Rattle.refusals.specs.Match.{ToldAs, FirstMatch}
+use Rattle.refusals.specs.Refusals.{Told, numberIn, valueIn}
 
-unfoldable pub refusalFrom : ℕ → ℕ → Refusal
-refusalFrom zero v = Short
-refusalFrom (suc zero) v = Short
-refusalFrom (suc (suc zero)) v = NoHeader
-refusalFrom (suc (suc (suc zero))) v = OtherType
-refusalFrom (suc (suc (suc (suc zero)))) v = OtherLength
-refusalFrom (suc (suc (suc (suc (suc zero))))) v = CutOff
-refusalFrom (suc (suc (suc (suc (suc (suc zero)))))) v = Checksum
-refusalFrom (suc (suc (suc (suc (suc (suc (suc zero))))))) v = Malformed v
-refusalFrom (suc (suc (suc (suc (suc (suc (suc (suc zero)))))))) v = NoRoom v
-refusalFrom (suc (suc (suc (suc (suc (suc (suc (suc (suc zero))))))))) v = NoCode v
-refusalFrom (suc (suc (suc (suc (suc (suc (suc (suc (suc (suc zero)))))))))) v = Empty
-refusalFrom (suc (suc (suc (suc (suc (suc (suc (suc (suc (suc (suc zero))))))))))) v = TooLong
-refusalFrom (suc (suc (suc (suc (suc (suc (suc (suc (suc (suc (suc (suc n)))))))))))) v = OtherFormat
+-- a refusal is known by what it is told as
+pub record Known (Refusal : Type 0) (told : Refusal → Told) : Type 0 where
+  pub from : ℕ → ℕ → Refusal
+  pub back : (r : Refusal) → from (numberIn (told r)) (valueIn (told r)) ≡ r
 
-pub from-both : (r : Refusal) → refusalFrom (numberOf r) (valueOf r) ≡ r
-unfolding refusalFrom
-from-both Short = refl
-from-both NoHeader = refl
-from-both OtherType = refl
-from-both OtherLength = refl
-from-both CutOff = refl
-from-both Checksum = refl
-from-both (Malformed bit) = refl
-from-both (NoRoom needed) = refl
-from-both (NoCode index) = refl
-from-both Empty = refl
-from-both TooLong = refl
-from-both OtherFormat = refl
+module _ {Refusal : Type 0} {told : Refusal → Told} (known : Known Refusal told) (Fault : Refusal → Type 0) (turn : ℕ → ℕ) where
+  -- no condition holds that is tested before that of this number
+  abbrev pub Clear : ℕ → Type 0
+  Clear number = (other : Refusal) → turn (numberIn (told other)) < turn number → Fault other → ⊥
 
--- of a refusal of the same number only the value is open
-pub same-number : (r s : Refusal) → numberOf r ≡ numberOf s → s ≡ refusalFrom (numberOf r) (valueOf s)
-same-number r s e = sym (from-both s) ∙ ap (λ (n : ℕ). refusalFrom n (valueOf s)) (sym e)
+  -- a refusal of this number, by its value
+  by-value : (k : ℕ) (r : Refusal) → numberIn (told r) ≡ k → Fault r → Fault (known .from k (valueIn (told r)))
+  by-value k r e f = subst Fault (sym (known .back r) ∙ ap (λ (n : ℕ). known .from n (valueIn (told r))) e) f
 
--- a refusal that carries no value, and one of its number
-pub plain : (r s : Refusal) → numberOf r ≡ numberOf s → valueOf (refusalFrom (numberOf r) (valueOf s)) ≡ 0 → 0 ≡ valueOf s
-plain r s e z = sym (ap valueOf (same-number r s e) ∙ z)
+  -- one test more that is passed, that of number k, and the next one's number is l
+  pub clear-next : (k l : ℕ) → ((r : Refusal) → turn (numberIn (told r)) ≡ turn k → numberIn (told r) ≡ k) → turn l ≡ suc (turn k)
+      → Clear k → ((v : ℕ) → Fault (known .from k v) → ⊥) → Clear l
+  clear-next k l alone next clear none other lt f =
+      ⊎-elim (λ e. none (valueIn (told other)) (by-value k other (alone other e) f)) (λ less. clear other less f)
+      (eq-or-lt-of-le (le-of-suc-le-suc (subst (λ (n : ℕ). turn (numberIn (told other)) < n) next lt)))
 
--- two first matches are of one turn, so they are the same where no two conditions of one turn hold of different refusals
-pub first-one : (Fault : Refusal → Type 0) (turn : ℕ → ℕ)
-    → ((r s : Refusal) → turn (numberOf r) ≡ turn (numberOf s) → Fault r → Fault s → r ≡ s)
-    → (r s : Refusal) → First Fault turn r → First Fault turn s → r ≡ s
-first-one Fault turn same r s p q =
-    same r s (pick (decLt (turn (numberOf r)) (turn (numberOf s))) (decLt (turn (numberOf s)) (turn (numberOf r)))) (p .fault) (q .fault)
-  where
-    pick : Dec (turn (numberOf r) < turn (numberOf s)) → Dec (turn (numberOf s) < turn (numberOf r)) → turn (numberOf r) ≡ turn (numberOf s)
-    pick (yes lt) d = absurd (q .first r lt (p .fault))
-    pick (no ge) (yes lt) = absurd (p .first s lt (q .fault))
-    pick (no ge) (no le) = omega arith
+  -- two first matches are of one turn; they are the same where one turn has one number, and one number one value
+  pub match-one : ((r s : Refusal) → turn (numberIn (told r)) ≡ turn (numberIn (told s)) → numberIn (told r) ≡ numberIn (told s))
+      → ((k u v : ℕ) → Fault (known .from k u) → Fault (known .from k v) → valueIn (told (known .from k u)) ≡ valueIn (told (known .from k v)))
+      → (r s : Refusal) → FirstMatch Refusal told Fault turn r → FirstMatch Refusal told Fault turn s → r ≡ s
+  match-one one-number one-value r s p q =
+      let same = one-number r s (pick (decLt (turn (numberIn (told r))) (turn (numberIn (told s)))) (decLt (turn (numberIn (told s))) (turn (numberIn (told r))))) in
+      let k = numberIn (told s) in
+      let value =
+      ap (λ (x : Refusal). valueIn (told x)) (sym (known .back r) ∙ ap (λ (n : ℕ). known .from n (valueIn (told r))) same)
+      ∙ one-value k (valueIn (told r)) (valueIn (told s)) (by-value k r same (p .fault)) (by-value k s refl (q .fault))
+      ∙ ap (λ (x : Refusal). valueIn (told x)) (known .back s) in
+      sym (known .back r) ∙ ap₂ (known .from) same value ∙ known .back s
+    where
+      pick : Dec (turn (numberIn (told r)) < turn (numberIn (told s))) → Dec (turn (numberIn (told s)) < turn (numberIn (told r)))
+          → turn (numberIn (told r)) ≡ turn (numberIn (told s))
+      pick (yes lt) d = absurd (q .first r lt (p .fault))
+      pick (no ge) (yes lt) = absurd (p .first s lt (q .fault))
+      pick (no ge) (no le) = omega arith
 
--- ---- tests in turn
-
--- no condition holds that is tested before that of this number
-abbrev pub Clear : (Refusal → Type 0) → (ℕ → ℕ) → ℕ → Type 0
-Clear Fault turn number = (other : Refusal) → turn (numberOf other) < turn number → Fault other → ⊥
-
--- one test more that is passed, that of number k, and the next one's number is l
-pub clear-next : (Fault : Refusal → Type 0) (turn : ℕ → ℕ) (k l : ℕ)
-    → ((r : Refusal) → Fault r → turn (numberOf r) ≡ turn k → numberOf r ≡ k) → turn l ≡ suc (turn k)
-    → Clear Fault turn k → ((v : ℕ) → Fault (refusalFrom k v) → ⊥) → Clear Fault turn l
-clear-next Fault turn k l alone next clear none other lt f =
-    ⊎-elim
-    (λ e.
-    none (valueOf other) (subst Fault (sym (from-both other) ∙ ap (λ (n : ℕ). refusalFrom n (valueOf other)) (alone other f e)) f))
-    (λ less. clear other less f)
-    (eq-or-lt-of-le (le-of-suc-le-suc (subst (λ (n : ℕ). turn (numberOf other) < n) next lt)))
+-- the first match, said of numbers
+pub numbered : (Refusal : Type 0) (told : Refusal → Told) (Fault : Refusal → Type 0) (turn : ℕ → ℕ) (number value : ℕ)
+    → ToldAs Refusal told (FirstMatch Refusal told Fault turn) number value
+    ↔ (ToldAs Refusal told Fault number value
+    × ((earlier other : ℕ) → turn earlier < turn number → ToldAs Refusal told Fault earlier other → ⊥))
+numbered Refusal told Fault turn number value = (
+  λ f. (
+    (f .0, f .1, f .2 .fault),
+    λ earlier other lt g.
+        f .2 .first (g .0) (subst₂ (λ (m n : ℕ). turn m < turn n) (sym (ap numberIn (g .1))) (sym (ap numberIn (f .1))) lt) (g .2),
+  ),
+  λ f.
+      let r = f .0 .0 in
+      let e : numberIn (told r) ≡ number = ap numberIn (f .0 .1) in (
+        r,
+        f .0 .1,
+        record {
+          fault = f .0 .2;
+          first = λ other lt g.
+              f .1 (numberIn (told other)) (valueIn (told other)) (subst (λ (n : ℕ). turn (numberIn (told other)) < turn n) e lt) (other, refl, g);
+        },
+      ),
+)

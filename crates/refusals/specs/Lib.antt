@@ -1,1 +1,2 @@
+pub mod Match
 pub mod Refusals

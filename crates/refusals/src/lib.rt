@@ -1,8 +1,8 @@
 ghost use mathlib.Core.Path.{_≡_};
-ghost use Rattle.refusals.specs.Refusals.{numberOf, valueOf};
+ghost use Rattle.refusals.specs.Refusals.{numberIn, valueIn, examineTold, readTold, writeTold};
 
-// Why a packet is not read, or a text not written; the paper's numbers are in specs/Refusals.antt.
-pub enum Refusal {
+// Why a packet cannot be read, whatever the room for its text. The numbers are in specs/Refusals.antt.
+pub enum ExamineRefusal {
     Short,
     NoHeader,
     OtherType,
@@ -10,51 +10,98 @@ pub enum Refusal {
     CutOff,
     Checksum,
     Malformed(usize),
-    NoRoom(usize),
-    NoCode(usize),
-    Empty,
-    TooLong,
-    OtherFormat,
 }
 
-impl Refusal {
-    // The paper's number.
+// Why it is not read into a buffer: the packet's own reason, or the buffer's.
+pub enum ReadRefusal {
+    Packet(ExamineRefusal),
+    NoRoom(usize),
+}
+
+// Why a text is not written.
+pub enum WriteRefusal {
+    OtherFormat,
+    Empty,
+    NoCode(usize),
+    TooLong,
+    NoRoom(usize),
+}
+
+impl ExamineRefusal {
     pub fn number(self) -> u32
-        ensures { λ r. ⌜ r ≡ numberOf self ⌝ }
+        ensures { λ r. ⌜ r ≡ numberIn (examineTold self) ⌝ }
     {
         match self {
-            Refusal::Short => 1,
-            Refusal::NoHeader => 2,
-            Refusal::OtherType => 3,
-            Refusal::OtherLength => 4,
-            Refusal::CutOff => 5,
-            Refusal::Checksum => 6,
-            Refusal::Malformed(_) => 7,
-            Refusal::NoRoom(_) => 8,
-            Refusal::NoCode(_) => 9,
-            Refusal::Empty => 10,
-            Refusal::TooLong => 11,
-            Refusal::OtherFormat => 12,
+            ExamineRefusal::Short => 1,
+            ExamineRefusal::NoHeader => 2,
+            ExamineRefusal::OtherType => 3,
+            ExamineRefusal::OtherLength => 4,
+            ExamineRefusal::CutOff => 5,
+            ExamineRefusal::Checksum => 6,
+            ExamineRefusal::Malformed(_) => 7,
         }
     }
 
     // The whole number that comes with it.
     pub fn value(self) -> usize
-        ensures { λ r. ⌜ r ≡ valueOf self ⌝ }
+        ensures { λ r. ⌜ r ≡ valueIn (examineTold self) ⌝ }
     {
         match self {
-            Refusal::Malformed(bit) => bit,
-            Refusal::NoRoom(needed) => needed,
-            Refusal::NoCode(index) => index,
-            Refusal::Short => 0,
-            Refusal::NoHeader => 0,
-            Refusal::OtherType => 0,
-            Refusal::OtherLength => 0,
-            Refusal::CutOff => 0,
-            Refusal::Checksum => 0,
-            Refusal::Empty => 0,
-            Refusal::TooLong => 0,
-            Refusal::OtherFormat => 0,
+            ExamineRefusal::Malformed(bit) => bit,
+            ExamineRefusal::Short => 0,
+            ExamineRefusal::NoHeader => 0,
+            ExamineRefusal::OtherType => 0,
+            ExamineRefusal::OtherLength => 0,
+            ExamineRefusal::CutOff => 0,
+            ExamineRefusal::Checksum => 0,
+        }
+    }
+}
+
+impl ReadRefusal {
+    pub fn number(self) -> u32
+        ensures { λ r. ⌜ r ≡ numberIn (readTold self) ⌝ }
+    {
+        match self {
+            ReadRefusal::Packet(refusal) => refusal.number(),
+            ReadRefusal::NoRoom(_) => 8,
+        }
+    }
+
+    // The whole number that comes with it.
+    pub fn value(self) -> usize
+        ensures { λ r. ⌜ r ≡ valueIn (readTold self) ⌝ }
+    {
+        match self {
+            ReadRefusal::Packet(refusal) => refusal.value(),
+            ReadRefusal::NoRoom(needed) => needed,
+        }
+    }
+}
+
+impl WriteRefusal {
+    pub fn number(self) -> u32
+        ensures { λ r. ⌜ r ≡ numberIn (writeTold self) ⌝ }
+    {
+        match self {
+            WriteRefusal::OtherFormat => 12,
+            WriteRefusal::Empty => 10,
+            WriteRefusal::NoCode(_) => 9,
+            WriteRefusal::TooLong => 11,
+            WriteRefusal::NoRoom(_) => 8,
+        }
+    }
+
+    // The whole number that comes with it.
+    pub fn value(self) -> usize
+        ensures { λ r. ⌜ r ≡ valueIn (writeTold self) ⌝ }
+    {
+        match self {
+            WriteRefusal::NoCode(index) => index,
+            WriteRefusal::NoRoom(needed) => needed,
+            WriteRefusal::OtherFormat => 0,
+            WriteRefusal::Empty => 0,
+            WriteRefusal::TooLong => 0,
         }
     }
 }
