@@ -4,7 +4,7 @@ use mathlib.Core.Path.{_≡_, refl, sym, ap, ap₂, _∙_}
 use mathlib.Core.Bool.{Bool, cond}
 use mathlib.Core.Logic.{by-cases}
 use mathlib.Core.List.{List, _++_}
-use Prim.Native.Nat.{ℕ}
+use Prim.Native.Nat.{ℕ, _+_}
 use native.Mathlib.Decide.{decLt}
 use native.Mathlib.Omega.{arith}
 use borrow.Author.Tests.{lt-ltb, le-ltb}
@@ -12,8 +12,10 @@ use lib.Dec.{ltb}
 use lib.ListN.{length, drop}
 use Rattle.codes.specs.Chain as chain
 use Rattle.codes.specs.Chain.{Scheme, Built}
-use Rattle.codes.specs.Steps.Laid.{Fronted}
-use Rattle.codes.specs.Steps.Measure.{TakesApart, ReadsIntoBuffer, TakesApartBy, ReadsIntoBufferBy}
+use Rattle.codes.specs.Steps.Laid.{laid, Placed, Fronted}
+use Rattle.codes.specs.Steps.Measure.{Measures, TakesApart, ReadsIntoBuffer, TakesApartBy, ReadsIntoBufferBy}
+use Rattle.codes.specs.declared.Measured.{Measured}
+use Rattle.codes.specs.declared.Measured.the-variants as Measured
 use Rattle.codes.specs.declared.Outcome.{Outcome}
 use Rattle.codes.specs.declared.Outcome.the-variants as Outcome
 use Rattle.codes.specs.Coded.{CodedBelow, FirstUncoded}
@@ -80,6 +82,20 @@ pub one-reading : {scheme : Scheme} → Laws scheme → (sent entry : List ℕ) 
 one-reading {scheme} laws sent entry =
     one-entry (λ (text : List ℕ). Built scheme text sent) (chain.Malformed scheme sent) (λ t u p q. one-text laws p q) (λ i j p q. one-place laws p q)
     (λ t i p q. never-both laws p q) (length sent) entry
+
+-- ---- what bits come to, and their text in a buffer
+
+pub measured-one : {scheme : Scheme} → Laws scheme → (bs : List ℕ) (a b : Measured) → Measures scheme bs a → Measures scheme bs b → a ≡ b
+measured-one laws bs (Measured.Text m) (Measured.Text n) (t, l, p) (u, l′, q) = ap {B = Measured} Measured.Text (sym l ∙ ap length (one-text laws p q) ∙ l′)
+measured-one laws bs (Measured.Text m) (Measured.Malformed j) (t, l, p) q = absurd (never-both laws p q)
+measured-one laws bs (Measured.Malformed i) (Measured.Text n) p (u, l′, q) = absurd (never-both laws q p)
+measured-one laws bs (Measured.Malformed i) (Measured.Malformed j) p q = ap {B = Measured} Measured.Malformed (one-place laws p q)
+
+pub placed-one : {scheme : Scheme} → Laws scheme → {bs entry x y : List ℕ} {n r q : ℕ} → Placed scheme bs entry x n r → Placed scheme bs entry y n q
+    → (x ≡ y) × (r ≡ q)
+placed-one laws {entry = entry} {n = n} h k =
+    let same = one-text laws (h .reads) (k .reads) in
+    (h .whole ∙ ap (laid entry n) same ∙ sym (k .whole), h .place ∙ ap (λ (t : List ℕ). n + length t) same ∙ sym (k .place))
 
 -- ---- the contracts of what a text asks before it is written
 

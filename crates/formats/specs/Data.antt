@@ -1,14 +1,16 @@
--- What the data of each format is: the text that it carries, where it is malformed, and what our writer makes of a text.
+-- What the data of each format is: the text that it carries, where it is malformed, which characters have codes, what our writer makes of a text, and
+-- what that text comes back as.
 -- Assumes nothing.
 use mathlib.Core.Bool.{Bool, true}
 use mathlib.Core.List.{List}
 use mathlib.Core.Path.{_≡_}
 use Prim.Native.Nat.{ℕ}
+use lib.ListN.{length}
 use Rattle.header.specs.declared.Format.{Format}
 use Rattle.header.specs.declared.Format.the-variants.{Open, PseudoBinary, FullAscii}
 use Rattle.codes.specs.Chain.{Built, Malformed}
+use Rattle.codes.specs.Coded.{alone, CodedBelow, FirstUncoded}
 use Rattle.codes.specs.Pack.{written}
-use Rattle.codes.specs.Coded as Coded
 use Rattle.full_ascii.specs.Table as ascii
 use Rattle.full_ascii.specs.Writer as ascii-writer
 use Rattle.pseudo_binary.specs.Table as pseudo
@@ -26,22 +28,28 @@ Unreadable Open carried i = ⊥
 Unreadable PseudoBinary carried i = Malformed pseudo.scheme carried i
 Unreadable FullAscii carried i = Malformed ascii.scheme carried i
 
--- the character has a code
-abbrev pub coded : Format → ℕ → Bool
-coded Open c = true
-coded PseudoBinary c = pseudo.coded c
-coded FullAscii c = ascii-writer.coded c
+-- whether the character has a code, by what stands before it in the text and by itself: in these formats by itself alone, and in Open each has one
+abbrev pub coded : Format → List ℕ → ℕ → Bool
+coded Open = alone (λ c. true)
+coded PseudoBinary = alone pseudo.coded
+coded FullAscii = alone ascii-writer.coded
 
--- each character below the index has a code
-abbrev pub Coded : Format → List ℕ → ℕ → Type 0
-Coded format = Size.CodedBelow (coded format)
+-- each character of the text has a code
+abbrev pub AllCoded : Format → List ℕ → Type 0
+AllCoded format text = CodedBelow (coded format) text (length text)
 
 -- the index of the first character that has none
 abbrev pub Uncoded : Format → List ℕ → ℕ → Type 0
-Uncoded format = Size.FirstUncoded (coded format)
+Uncoded format = FirstUncoded (coded format)
 
 -- the data that our writer makes of a text that has codes
 abbrev pub dataOf : Format → List ℕ → List ℕ
 dataOf Open text = text
 dataOf PseudoBinary text = written (pseudo-writer.ours text)
 dataOf FullAscii text = written (ascii-writer.ours text)
+
+-- what such a text comes back as when that data is read
+abbrev pub comesBack : Format → List ℕ → List ℕ
+comesBack Open text = text
+comesBack PseudoBinary text = pseudo-writer.comesBack text
+comesBack FullAscii text = ascii-writer.comesBack text
