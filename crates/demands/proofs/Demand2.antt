@@ -1,13 +1,10 @@
--- Demand 2. Text that has codes and fits is written in the named format and sync bit and reads back character for character with both; empty text is
--- refused. A packet is accepted exactly when its header is at most two bits from a valid one, the document and our limits allow the packet with that
--- header in one of our formats, and the buffer holds its text. Writing that text again in its format gives a packet that reads the same in text and
--- format, room given.
+-- Demand 2 holds, under all terms that may be named.
 -- Assumes nothing.
 use mathlib.Core.Bool.{Bool}
 use mathlib.Core.List.{List, [], _++_, append-assoc}
 use mathlib.Core.Logic.{_↔_}
-use mathlib.Core.Path.{_≡_, refl, sym, ap, _∙_, subst}
-use Prim.Native.Nat.{ℕ, _+_, _≤_, _<_}
+use mathlib.Core.Path.{_≡_, refl, sym, ap, _∙_, subst, subst⁻¹}
+use Prim.Native.Nat.{ℕ, _+_, _^_, _≤_, _<_}
 use native.Mathlib.Omega.{arith}
 use lib.ListN.{length, drop}
 use Rattle.bits.specs.Row.{Bytes}
@@ -19,55 +16,36 @@ use Rattle.header.specs.Valid.{lengthIn}
 use Rattle.header.proofs.Typed.{one-number}
 use Rattle.mending.specs.Mends.{distance}
 use Rattle.checksum.specs.Checksum.{checksumBytes}
-use Rattle.codes.specs.Steps.Size.{longest}
+use Rattle.formats.specs.Data.{Carries, AllCoded, comesBack, dataOf}
+use Rattle.formats.proofs.Formats.{carries-coded, carries-kept, carries-some, data-some, no-fewer, writer-carries}
+use Rattle.refusals.specs.declared.WriteRefusal.the-variants.{Empty}
+use Rattle.packet.specs.declared.Terms.{Terms}
 use Rattle.packet.specs.declared.Reading.{Reading}
+use Rattle.packet.specs.declared.ExamineAnswer.{ExamineAnswer}
+use Rattle.packet.specs.declared.ExamineAnswer.the-variants.{Readable}
 use Rattle.packet.specs.declared.ReadAnswer.{ReadAnswer}
 use Rattle.packet.specs.declared.ReadAnswer.the-variants.{Accepted}
 use Rattle.packet.specs.declared.WriteAnswer.{WriteAnswer}
 use Rattle.packet.specs.declared.WriteAnswer.the-variants.{Written, Refused as NotWritten}
-use Rattle.refusals.specs.declared.Refusal.the-variants.{Empty}
-use Rattle.packet.specs.Data.{Coded, dataOf}
+use Rattle.packet.specs.Examine.{Allowed, readingOf, Accepts, Examines}
 use Rattle.packet.specs.Packet.{received, dataIn, packetOf, headerFor}
-use Rattle.packet.specs.Reader.{Accepts, Reads}
+use Rattle.packet.specs.Reader.{Reads}
+use Rattle.packet.specs.Terms.{MayBeNamed}
 use Rattle.packet.specs.Writer.{ourPacket, Writes}
-use Rattle.packet.proofs.Formats.{carries-coded, writer-carries, no-fewer, carries-some, data-some}
+use Rattle.packet.proofs.ExamineOnce.{examines-one}
 use Rattle.packet.proofs.ReadOnce.{reads-one}
 use Rattle.packet.proofs.Sent.{header-valid}
 use Rattle.packet.proofs.WriteOnce.{writes-one}
 use Rattle.packet.proofs.WriteStages.{clear-ten}
-use Rattle.demands.specs.Makers.{Made, Flipped, arriving, readingOf, cleanReading, Allowed}
+use Rattle.demands.specs.Demand2.{Writable, packetLength, cleanReading, Holds, Demand2}
+use Rattle.demands.specs.Makers.{Made, Flipped, arriving, readingWith}
 use Rattle.demands.proofs.Demand3.{packet-header, intact}
 use Rattle.demands.proofs.Parts.{header-is, received-lt, head-and-rest, data-size, behind-header}
 
--- ---- text that has codes and fits is written in the named format and sync bit
-
-pub written : (format : Format) (sync : Bool) (text entry exit : List ℕ) (answer : WriteAnswer)
-    → 0 < length text → Coded format text (length text) → length (dataOf format text) ≤ longest → length (dataOf format text) + 6 ≤ length entry
-    → Writes (formatNumber format) sync text entry answer exit
-    → (answer ≡ Written (length (dataOf format text) + 6)) × (exit ≡ ourPacket format sync text ++ drop (length (dataOf format text) + 6) entry)
-written format sync text entry exit answer some coded few room writes =
-    writes-one (formatNumber format) sync text entry answer (Written (length (dataOf format text) + 6)) exit
-    (ourPacket format sync text ++ drop (length (dataOf format text) + 6) entry) writes
-    (format, record { named = refl; some = some; coded = coded; few = few; fits = refl; held = room }, refl)
-
-pub our-is : (format : Format) (sync : Bool) (text : List ℕ)
+our-is : (format : Format) (sync : Bool) (text : List ℕ)
     → ourPacket format sync text ≡ packetOf (headerFor format sync (length (dataOf format text))) (dataOf format text)
 unfolding ourPacket
 our-is format sync text = refl
-
--- what is written is a packet that a maker could have built
-abbrev pub written-is-made : (format : Format) (sync : Bool) (text : List ℕ) → 0 < length text → Coded format text (length text)
-    → length (dataOf format text) ≤ longest → Made format sync text (ourPacket format sync text)
-written-is-made format sync text some coded few =
-    record {
-      carried = dataOf format text;
-      carries = writer-carries format text coded;
-      some = data-some format text some coded;
-      few = few;
-      is = our-is format sync text;
-    }
-
--- ---- and reads back character for character with both
 
 no-bits : (word : ℕ) → distance word word ≡ 0
 unfolding distance
@@ -78,164 +56,243 @@ in-front : (format : Format) (sync : Bool) (text after : List ℕ)
 unfolding arriving ourPacket packetOf bytesOf
 in-front format sync text after = refl
 
--- the packet of a text, and whatever follows it, read into a buffer with room: the text, the format, the sync bit, and no bit mended
-pub reads-back : (format : Format) (sync : Bool) (text after entry exit : List ℕ) (answer : ReadAnswer)
-    → 0 < length text → Coded format text (length text) → length (dataOf format text) ≤ longest → length text ≤ length entry
-    → Reads (ourPacket format sync text ++ after) entry answer exit
-    → (answer ≡ Accepted (cleanReading format sync text)) × (exit ≡ text ++ drop (length text) entry)
-reads-back format sync text after entry exit answer some coded few held reads =
-    let made = written-is-made format sync text some coded few in
-    let header = headerFor format sync (length (dataOf format text)) in
-    let clean : distance header (received (ourPacket format sync text)) ≡ 0 =
-    ap (distance header) (packet-header format sync text (ourPacket format sync text) made) ∙ no-bits header in
-    let once =
-    intact format sync text (ourPacket format sync text) made header
-    (record { bits = header-valid format sync (length (dataOf format text)) few .bits; few = omega (arith, clean) }) after entry exit answer held
-    (subst (λ (p : List ℕ). Reads p entry answer exit) (in-front format sync text after) reads) in (
-      once .0 ∙ ap (λ (bits : ℕ). Accepted (readingOf format sync bits (length (dataOf format text)) (length text))) clean,
-      once .1,
-    )
+module _ (terms : Terms) (named : MayBeNamed terms) where
+  -- ---- text that has codes and fits is written, and reads back
 
--- the two joined: what the writer left in its buffer, read into another with room
-pub written-reads-back : (format : Format) (sync : Bool) (text lent packet : List ℕ) (n : ℕ) → Writes (formatNumber format) sync text lent (Written n) packet
-    → (entry exit : List ℕ) (answer : ReadAnswer) → length text ≤ length entry → Reads packet entry answer exit
-    → (answer ≡ Accepted (cleanReading format sync text)) × (cleanReading format sync text .used ≡ n) × (exit ≡ text ++ drop (length text) entry)
-written-reads-back format sync text lent packet n (other, w, e) entry exit answer held reads =
-    let same : other ≡ format = one-number other format (w .named) in
-    let is : packet ≡ ourPacket format sync text ++ drop n lent = e ∙ ap (λ (k : Format). ourPacket k sync text ++ drop n lent) same in
-    let back =
-    reads-back format sync text (drop n lent) entry exit answer (w .some) (subst (λ (k : Format). Coded k text (length text)) same (w .coded))
-    (subst (λ (k : Format). length (dataOf k text) ≤ longest) same (w .few)) held (subst (λ (p : List ℕ). Reads p entry answer exit) is reads) in
-    (back .0, sym (w .fits ∙ ap (λ (k : Format). length (dataOf k text) + 6) same), back .1)
+  written : (format : Format) (sync : Bool) (text entry exit : List ℕ) (answer : WriteAnswer) → Writable terms format text
+      → packetLength format text ≤ length entry → Writes terms (formatNumber format) sync text entry answer exit
+      → (answer ≡ Written (packetLength format text)) × (exit ≡ ourPacket format sync text ++ drop (packetLength format text) entry)
+  written format sync text entry exit answer w room writes =
+      writes-one terms (formatNumber format) sync text entry answer (Written (packetLength format text)) exit
+      (ourPacket format sync text ++ drop (packetLength format text) entry) writes
+      (format, record { named = refl; some = w .some; coded = w .coded; few = w .few; fits = refl; held = room }, refl)
 
--- ---- empty text is refused
-
--- in a format of ours for being empty
-pub empty-refused : (format : Format) (sync : Bool) (entry exit : List ℕ) (answer : WriteAnswer)
-    → Writes (formatNumber format) sync [] entry answer exit → (answer ≡ NotWritten Empty) × (exit ≡ entry)
-empty-refused format sync entry exit answer writes =
-    writes-one (formatNumber format) sync [] entry answer (NotWritten Empty) exit entry writes
-    (record { fault = refl; first = clear-ten (formatNumber format) [] (length entry) format refl }, refl)
-
--- and whatever the number, it is not written
-pub empty-never-written : (number : ℕ) (sync : Bool) (entry exit : List ℕ) (n : ℕ) → Writes number sync [] entry (Written n) exit → ⊥
-empty-never-written number sync entry exit n (format, a, e) = omega (arith, a .some)
-
--- ---- a packet is accepted exactly when its header is at most two bits from a valid one, the document and our limits allow the packet with that header in
--- one of our formats, and the buffer holds its text
-
--- what is allowed is accepted: with that format, the header's sync bit, the bits in which the received header differs from it, and the text in the buffer
-pub allowed-accepted : (packet entry exit : List ℕ) (answer : ReadAnswer) → Reads packet entry answer exit → (format : Format) (header : ℕ) (text : List ℕ)
-    → Allowed packet (length entry) format header text
-    → (answer ≡ Accepted (readingOf format (fieldsIn header .sync) (distance (received packet) header) (lengthIn header) (length text)))
-    × (exit ≡ text ++ drop (length text) entry)
-allowed-accepted packet entry exit answer reads format header text a =
-    reads-one packet entry answer (Accepted (readingOf format (fieldsIn header .sync) (distance (received packet) header) (lengthIn header) (length text)))
-    exit (text ++ drop (length text) entry) reads (
-      text,
+  abbrev written-is-made : (format : Format) (sync : Bool) (text : List ℕ) → Writable terms format text → Made terms format sync text (ourPacket format sync text)
+  written-is-made format sync text w =
       record {
-        header = header;
-        framed = a .framed;
-        summed = a .summed;
-        carries = a .carries;
-        held = a .held;
-        sync = refl;
-        mended = refl;
-        data-length = refl;
-        text-length = refl;
-        used = refl;
-      },
-      refl,
-    )
+        carried = dataOf format text;
+        coded = w .coded;
+        carries = writer-carries format text (w .coded);
+        some = data-some format text (w .some) (w .coded);
+        few = w .few;
+        is = our-is format sync text;
+      }
 
--- and nothing else is
-pub accepted-allowed : (packet entry exit : List ℕ) (answer : ReadAnswer) (reading : Reading) → Reads packet entry answer exit → answer ≡ Accepted reading
-    → (header : ℕ) × (text : List ℕ) × Allowed packet (length entry) (reading .format) header text × Accepts packet (length entry) reading text
-    × (exit ≡ text ++ drop (length text) entry)
-accepted-allowed packet entry exit answer reading reads e =
-    let told = subst (λ (a : ReadAnswer). Reads packet entry a exit) e reads in
-    let a = told .1 in (
-      a .header,
-      told .0,
-      record { framed = a .framed; summed = a .summed; carries = a .carries; held = a .held },
-      a,
-      told .2,
-    )
+  reads-back : (format : Format) (sync : Bool) (text after entry exit : List ℕ) (answer : ReadAnswer) → Writable terms format text
+      → length (comesBack format text) ≤ length entry → Reads terms (ourPacket format sync text ++ after) entry answer exit
+      → (answer ≡ Accepted (cleanReading format sync text)) × Holds (comesBack format text) entry exit
+  reads-back format sync text after entry exit answer w held reads =
+      let made = written-is-made format sync text w in
+      let packet = ourPacket format sync text in
+      let header = headerFor format sync (length (dataOf format text)) in
+      let small : length (dataOf format text) < 2 ^ 14 = omega (arith, w .few, named .bytes) in
+      let clean : distance header (received packet) ≡ 0 = ap (distance header) (packet-header terms named format sync text packet made) ∙ no-bits header in
+      let once =
+      intact terms named format sync text packet made header
+      (record { bits = header-valid format sync (length (dataOf format text)) small .bits; few = omega (arith, clean) }) after entry exit answer held
+      (subst (λ (p : List ℕ). Reads terms p entry answer exit) (in-front format sync text after) reads) in (
+        once .0
+            ∙ ap (λ (bits : ℕ). Accepted (readingWith format sync bits (length (dataOf format text)) (length (comesBack format text)))) clean,
+        once .1,
+      )
 
--- both in one
-pub accepted-exactly : (packet entry exit : List ℕ) (answer : ReadAnswer) → Reads packet entry answer exit
-    → ((reading : Reading) × (answer ≡ Accepted reading))
-    ↔ ((format : Format) × (header : ℕ) × (text : List ℕ) × Allowed packet (length entry) format header text)
-accepted-exactly packet entry exit answer reads = (
-  λ a.
-      let told = accepted-allowed packet entry exit answer (a .0) reads (a .1) in (a .0 .format, told .0, told .1, told .2),
-  λ a. (
-    readingOf (a .0) (fieldsIn (a .1) .sync) (distance (received packet) (a .1)) (lengthIn (a .1)) (length (a .2)),
-    allowed-accepted packet entry exit answer reads (a .0) (a .1) (a .2) (a .3) .0,
-  ),
-)
+  written-reads-back : (format : Format) (sync : Bool) (text lent packet : List ℕ) (n : ℕ)
+      → Writes terms (formatNumber format) sync text lent (Written n) packet
+      → (entry exit : List ℕ) (answer : ReadAnswer) → length (comesBack format text) ≤ length entry → Reads terms packet entry answer exit
+      → (answer ≡ Accepted (cleanReading format sync text)) × (cleanReading format sync text .used ≡ n) × Holds (comesBack format text) entry exit
+  written-reads-back format sync text lent packet n (other, w, e) entry exit answer held reads =
+      let same : other ≡ format = one-number other format (w .named) in
+      let is : packet ≡ ourPacket format sync text ++ drop n lent = e ∙ ap (λ (k : Format). ourPacket k sync text ++ drop n lent) same in
+      let writable : Writable terms format text =
+      subst (λ (k : Format). Writable terms k text) same (record { some = w .some; coded = w .coded; few = w .few }) in
+      let back =
+      reads-back format sync text (drop n lent) entry exit answer writable held (subst (λ (p : List ℕ). Reads terms p entry answer exit) is reads) in
+      (back .0, sym (w .fits ∙ ap (λ (k : Format). length (dataOf k text) + 6) same), back .1)
 
--- what is accepted is a packet that a maker could have built, of that text, format and sync bit, with at most two header bits flipped, and whatever
--- follows it. (`intact` is the other way round.)
-pub accepted-is-made : (packet : List ℕ) (room : ℕ) (reading : Reading) (text : List ℕ) → Bytes packet → Accepts packet room reading text
-    → (made after : List ℕ) × Made (reading .format) (reading .sync) text made × Flipped made (received packet)
-    × (packet ≡ arriving (received packet) made after) × (reading .mended ≡ distance (received packet) (received made))
-unfolding arriving packetOf bytesOf
-accepted-is-made packet room reading text bytes a =
-    let h = a .header in
-    let size = data-size packet h (a .framed .whole) in
-    let carried = dataIn h packet in
-    let four : 4 ≤ length packet = omega (arith, a .framed .whole) in
-    let header = headerFor (reading .format) (reading .sync) (length carried) in
-    let made : Made (reading .format) (reading .sync) text (packetOf header carried) =
-    record { carried = carried; carries = a .carries; some = omega (arith, size, a .framed .some); few = omega (arith, size, a .framed .few); is = refl } in
-    let sent-header : received (packetOf header carried) ≡ h =
-    packet-header (reading .format) (reading .sync) text (packetOf header carried) made
-    ∙ ap (headerFor (reading .format) (reading .sync)) size
-    ∙ header-is h (reading .format) (reading .sync) (a .framed .near .valid) (a .framed .typed) (a .sync) in (
-      packetOf header carried,
-      drop (6 + lengthIn h) packet,
-      made,
-      record {
-        bits = received-lt packet four bytes;
-        few = subst (λ (w : ℕ). distance (received packet) w ≤ 2) (sym sent-header) (a .framed .near .near);
-      },
-      head-and-rest packet four bytes
-          ∙ ap (λ (l : List ℕ). bytesOf (received packet) ++ l)
-          (behind-header packet h (a .framed .whole)
-          ∙ ap (λ (sum : List ℕ). carried ++ (sum ++ drop (6 + lengthIn h) packet)) (a .summed)
-          ∙ sym (append-assoc carried (checksumBytes carried) (drop (6 + lengthIn h) packet))),
-      a .mended ∙ ap (distance (received packet)) (sym sent-header),
-    )
+  -- ---- a packet is accepted exactly when it is allowed and the buffer holds its text
 
--- ---- writing that text again in its format gives a packet that reads the same in text and format, room given
+  accepts-of : (packet : List ℕ) (format : Format) (header : ℕ) (text : List ℕ) → Allowed terms packet format header text
+      → Accepts terms packet (readingOf format header (received packet) text) text
+  accepts-of packet format header text a = record { format = format; header = header; allowed = a; is = refl }
 
--- it is written, in no more bytes than the packet had
-pub written-again : (packet : List ℕ) (room : ℕ) (reading : Reading) (text : List ℕ) → Accepts packet room reading text
-    → (sync : Bool) (lent exit : List ℕ) (answer : WriteAnswer) → length (dataOf (reading .format) text) + 6 ≤ length lent
-    → Writes (formatNumber (reading .format)) sync text lent answer exit
-    → (answer ≡ Written (length (dataOf (reading .format) text) + 6))
-    × (exit ≡ ourPacket (reading .format) sync text ++ drop (length (dataOf (reading .format) text) + 6) lent)
-    × (length (dataOf (reading .format) text) + 6 ≤ reading .used)
-written-again packet room reading text a sync lent exit answer held writes =
-    let less = no-fewer (reading .format) text (dataIn (a .header) packet) (a .carries) in
-    let size = data-size packet (a .header) (a .framed .whole) in
-    let done =
-    written (reading .format) sync text lent exit answer
-    (carries-some (reading .format) text (dataIn (a .header) packet) (omega (arith, size, a .framed .some)) (a .carries))
-    (carries-coded (reading .format) text (dataIn (a .header) packet) (a .carries))
-    (omega (arith, less, size, a .framed .few)) held writes in
-    (done .0, done .1, omega (arith, less, size, a .used))
+  allowed-readable : (packet : List ℕ) (answer : ExamineAnswer) → Examines terms packet answer → (format : Format) (header : ℕ) (text : List ℕ)
+      → Allowed terms packet format header text → answer ≡ Readable (readingOf format header (received packet) text)
+  allowed-readable packet answer examines format header text a =
+      examines-one terms named packet answer (Readable (readingOf format header (received packet) text)) examines (text, accepts-of packet format header text a)
 
--- and what was written reads the same
-pub reads-the-same : (packet : List ℕ) (room : ℕ) (reading : Reading) (text : List ℕ) → Accepts packet room reading text
-    → (sync : Bool) (lent again : List ℕ) (wrote : WriteAnswer) → length (dataOf (reading .format) text) + 6 ≤ length lent
-    → Writes (formatNumber (reading .format)) sync text lent wrote again
-    → (entry exit : List ℕ) (answer : ReadAnswer) → length text ≤ length entry → Reads again entry answer exit
-    → (answer ≡ Accepted (cleanReading (reading .format) sync text)) × (exit ≡ text ++ drop (length text) entry)
-reads-the-same packet room reading text a sync lent again wrote given writes entry exit answer held reads =
-    let is = written-again packet room reading text a sync lent again wrote given writes .0 in
-    let back =
-    written-reads-back (reading .format) sync text lent again (length (dataOf (reading .format) text) + 6)
-    (subst (λ (w : WriteAnswer). Writes (formatNumber (reading .format)) sync text lent w again) is writes) entry exit answer held reads in
-    (back .0, back .2)
+  allowed-accepted : (packet entry exit : List ℕ) (answer : ReadAnswer) → Reads terms packet entry answer exit
+      → (format : Format) (header : ℕ) (text : List ℕ) → Allowed terms packet format header text → length text ≤ length entry
+      → (answer ≡ Accepted (readingOf format header (received packet) text)) × Holds text entry exit
+  allowed-accepted packet entry exit answer reads format header text a held =
+      reads-one terms named packet entry answer (Accepted (readingOf format header (received packet) text)) exit (text ++ drop (length text) entry) reads
+      (text, accepts-of packet format header text a, held, refl)
+
+  accepted-exactly : (packet entry exit : List ℕ) (answer : ReadAnswer) → Reads terms packet entry answer exit
+      → ((reading : Reading) × (answer ≡ Accepted reading))
+      ↔ ((format : Format) × (header : ℕ) × (text : List ℕ) × Allowed terms packet format header text × (length text ≤ length entry))
+  accepted-exactly packet entry exit answer reads = (
+    λ a.
+        let told = subst (λ (b : ReadAnswer). Reads terms packet entry b exit) (a .1) reads in
+        (told .1 .format, told .1 .header, told .0, told .1 .allowed, told .2),
+    λ a. (
+      readingOf (a .0) (a .1) (received packet) (a .2),
+      allowed-accepted packet entry exit answer reads (a .0) (a .1) (a .2) (a .3) (a .4) .0,
+    ),
+  )
+
+  readable-exactly : (packet : List ℕ) (answer : ExamineAnswer) → Examines terms packet answer
+      → ((reading : Reading) × (answer ≡ Readable reading)) ↔ ((format : Format) × (header : ℕ) × (text : List ℕ) × Allowed terms packet format header text)
+  readable-exactly packet answer examines = (
+    λ a. let told = subst (Examines terms packet) (a .1) examines in (told .1 .format, told .1 .header, told .0, told .1 .allowed),
+    λ a. (readingOf (a .0) (a .1) (received packet) (a .2), allowed-readable packet answer examines (a .0) (a .1) (a .2) (a .3)),
+  )
+
+  -- ---- and is then a packet that a maker could have built
+
+  module _ (packet : List ℕ) (format : Format) (header : ℕ) (text : List ℕ) (bytes : Bytes packet) (a : Allowed terms packet format header text) where
+    abbrev carried : List ℕ
+    carried = dataIn header packet
+
+    size : length carried ≡ lengthIn header
+    size = data-size packet header (a .framed .whole)
+
+    abbrev sync : Bool
+    sync = fieldsIn header .sync
+
+    abbrev whole : List ℕ
+    whole = packetOf (headerFor format sync (length carried)) carried
+
+    abbrev made-of : Made terms format sync text whole
+    made-of =
+        record {
+          carried = carried;
+          coded = carries-coded format text carried (a .carries);
+          carries = subst (λ (t : List ℕ). Carries format t carried) (sym (carries-kept format text carried (a .carries))) (a .carries);
+          some = omega (arith, size, a .framed .some);
+          few = omega (arith, size, a .framed .few);
+          is = refl;
+        }
+
+    same-header : received whole ≡ header
+    same-header =
+        packet-header terms named format sync text whole made-of
+        ∙ ap (headerFor format sync) size
+        ∙ header-is header format sync (a .framed .near .valid) (a .framed .typed) refl
+
+    four : 4 ≤ length packet
+    four = omega (arith, a .framed .whole)
+
+    flipped : Flipped terms whole (received packet)
+    flipped =
+        record {
+          bits = received-lt packet four bytes;
+          few = subst (λ (w : ℕ). distance (received packet) w ≤ terms .mend) (sym same-header) (a .framed .near .near);
+        }
+
+    arrived-so : packet ≡ arriving (received packet) whole (drop (6 + lengthIn header) packet)
+    unfolding arriving packetOf bytesOf
+    arrived-so =
+        head-and-rest packet four bytes
+        ∙ ap (λ (l : List ℕ). bytesOf (received packet) ++ l)
+        (behind-header packet header (a .framed .whole)
+        ∙ ap (λ (sum : List ℕ). carried ++ (sum ++ drop (6 + lengthIn header) packet)) (a .summed)
+        ∙ sym (append-assoc carried (checksumBytes carried) (drop (6 + lengthIn header) packet)))
+
+  -- of an accepted packet, said of its reading
+  accepted-is-made : (packet : List ℕ) (reading : Reading) (text : List ℕ) → Bytes packet → Accepts terms packet reading text
+      → (made after : List ℕ) × Made terms (reading .format) (reading .sync) text made × Flipped terms made (received packet)
+      × (packet ≡ arriving (received packet) made after) × (reading .mended ≡ distance (received packet) (received made))
+  accepted-is-made packet reading text bytes a =
+      let header = a .header in
+      subst⁻¹
+      (λ (r : Reading).
+      (made after : List ℕ) × Made terms (r .format) (r .sync) text made × Flipped terms made (received packet)
+      × (packet ≡ arriving (received packet) made after) × (r .mended ≡ distance (received packet) (received made)))
+      (a .is) (
+        whole packet (a .format) header text bytes (a .allowed),
+        drop (6 + lengthIn header) packet,
+        made-of packet (a .format) header text bytes (a .allowed),
+        flipped packet (a .format) header text bytes (a .allowed),
+        arrived-so packet (a .format) header text bytes (a .allowed),
+        ap (distance (received packet)) (sym (same-header packet (a .format) header text bytes (a .allowed))),
+      )
+
+  -- ---- writing that text again
+
+  module _ (packet : List ℕ) (format : Format) (header : ℕ) (text : List ℕ) (a : Allowed terms packet format header text) where
+    text-coded : AllCoded format text
+    text-coded = carries-coded format text (dataIn header packet) (a .carries)
+
+    kept : comesBack format text ≡ text
+    kept = carries-kept format text (dataIn header packet) (a .carries)
+
+    less : length (dataOf format text) ≤ lengthIn header
+    less =
+        omega (
+          arith,
+          data-size packet header (a .framed .whole),
+          no-fewer format text (dataIn header packet) text-coded (subst⁻¹ (λ (t : List ℕ). Carries format t (dataIn header packet)) kept (a .carries)),
+        )
+
+    writable : Writable terms format text
+    writable =
+        record {
+          some = carries-some format text (dataIn header packet) (omega (arith, data-size packet header (a .framed .whole), a .framed .some)) (a .carries);
+          coded = text-coded;
+          few = omega (arith, less, a .framed .few);
+        }
+
+  module _ (packet : List ℕ) (reading : Reading) (text : List ℕ) (a : Accepts terms packet reading text) where
+    same-format : a .format ≡ reading .format
+    same-format = ap (λ (r : Reading). r .format) (sym (a .is))
+
+    again-writable : Writable terms (reading .format) text
+    again-writable = subst (λ (k : Format). Writable terms k text) same-format (writable packet (a .format) (a .header) text (a .allowed))
+
+    again-kept : comesBack (reading .format) text ≡ text
+    again-kept = subst (λ (k : Format). comesBack k text ≡ text) same-format (kept packet (a .format) (a .header) text (a .allowed))
+
+    written-again : (sync : Bool) (lent exit : List ℕ) (answer : WriteAnswer) → packetLength (reading .format) text ≤ length lent
+        → Writes terms (formatNumber (reading .format)) sync text lent answer exit
+        → (answer ≡ Written (packetLength (reading .format) text))
+        × (exit ≡ ourPacket (reading .format) sync text ++ drop (packetLength (reading .format) text) lent)
+        × (packetLength (reading .format) text ≤ reading .used)
+    written-again sync lent exit answer held writes =
+        let done = written (reading .format) sync text lent exit answer again-writable held writes in
+        let short : length (dataOf (reading .format) text) ≤ lengthIn (a .header) =
+        subst (λ (k : Format). length (dataOf k text) ≤ lengthIn (a .header)) same-format (less packet (a .format) (a .header) text (a .allowed)) in
+        (done .0, done .1, omega (arith, short, ap (λ (r : Reading). r .used) (a .is)))
+
+    reads-the-same : (sync : Bool) (lent again : List ℕ) (wrote : WriteAnswer) → packetLength (reading .format) text ≤ length lent
+        → Writes terms (formatNumber (reading .format)) sync text lent wrote again
+        → (entry exit : List ℕ) (answer : ReadAnswer) → length text ≤ length entry → Reads terms again entry answer exit
+        → (answer ≡ Accepted (readingWith (reading .format) sync 0 (length (dataOf (reading .format) text)) (length text))) × Holds text entry exit
+    reads-the-same sync lent again wrote given writes entry exit answer held reads =
+        let is = written-again sync lent again wrote given writes .0 in
+        let back =
+        written-reads-back (reading .format) sync text lent again (packetLength (reading .format) text)
+        (subst (λ (w : WriteAnswer). Writes terms (formatNumber (reading .format)) sync text lent w again) is writes) entry exit answer
+        (subst⁻¹ (λ (t : List ℕ). length t ≤ length entry) again-kept held) reads in
+        subst
+        (λ (t : List ℕ).
+        (answer ≡ Accepted (readingWith (reading .format) sync 0 (length (dataOf (reading .format) text)) (length t))) × Holds t entry exit)
+        again-kept (back .0, back .2)
+
+  pub demand-2 : Demand2 terms
+  demand-2 = record {
+    written = written;
+    written-is-made = written-is-made;
+    reads-back = reads-back;
+    written-reads-back = written-reads-back;
+    empty-refused = λ format sync entry exit answer writes.
+        writes-one terms (formatNumber format) sync [] entry answer (NotWritten Empty) exit entry writes
+        (record { fault = refl; first = clear-ten terms (formatNumber format) [] (length entry) format refl }, refl);
+    empty-never-written = λ number sync entry exit n writes. omega (arith, writes .1 .some);
+    accepted-exactly = accepted-exactly;
+    readable-exactly = readable-exactly;
+    allowed-readable = allowed-readable;
+    allowed-accepted = allowed-accepted;
+    accepted-is-made = accepted-is-made;
+    written-again = written-again;
+    reads-the-same = reads-the-same;
+  }

@@ -23,12 +23,11 @@ use Rattle.header.specs.Valid.{Valid, flagIn, lengthIn, checkIn, informationIn}
 use Rattle.header.specs.Fields.{fieldsIn, headerOf, lowFlag, bytesOf}
 use Rattle.header.specs.Typed.{HasFormat, formatNumber}
 use Rattle.mending.specs.declared.Mending.the-variants.{Mended}
-use Rattle.mending.specs.Mends.{distance, ValidWithin, Mends}
+use Rattle.mending.specs.Mends.{distance, ValidWithin, MendsWithin}
 use Rattle.mending.proofs.All.{all, all-at}
 use Rattle.mending.proofs.Search.{none-at, none-around}
 use Rattle.codes.specs.Chain.{Scheme, stateAfter, codes, Builds, Stuck}
 use Rattle.codes.specs.Pack.{low, numbers, value, bytes, packed, gap, filled, written}
-use Rattle.codes.specs.Steps.Size.{longest}
 use Rattle.codes.proofs.Beginning.{begun}
 use Rattle.codes.proofs.EveryElement.{every}
 use Rattle.codes.proofs.Fill.{fills}
@@ -40,13 +39,14 @@ use Rattle.full_ascii.proofs.Table as ascii-table
 use Rattle.pseudo_binary.specs.Table as pseudo
 use Rattle.pseudo_binary.specs.Writer as pseudo-writer
 use Rattle.pseudo_binary.proofs.Table as pseudo-table
-use Rattle.refusals.specs.declared.Refusal.the-variants.{NoHeader, OtherType}
-use Rattle.packet.specs.Data.{Carries, Unreadable, dataOf}
+use Rattle.refusals.specs.declared.ExamineRefusal.the-variants.{NoHeader, OtherType}
+use Rattle.formats.specs.Data.{Carries, Unreadable, dataOf}
 use Rattle.packet.specs.Packet.{received, headerFor}
-use Rattle.packet.specs.Reader.{Refuses}
+use Rattle.packet.specs.Examine.{Refuses}
 use Rattle.packet.proofs.Sent.{header-valid, header-typed, header-length, header-sync}
-use Rattle.packet.proofs.Stages.{clear-two, clear-three}
-use Rattle.demands.specs.Edges.{Edge, checks, heads, reads, hopeless, foreign, writes, carries, stops, Holds, edges, Every}
+use Rattle.packet.proofs.ExamineStages.{clear-two, clear-three}
+use Rattle.packet.proofs.ReadOnce.{refused-packet}
+use Rattle.demands.specs.Edges.{Edge, checks, heads, reads, hopeless, foreign, writes, carries, stops, mending, Holds, edges, Every}
 
 -- ---- that no valid header lies near a word, as one computed test
 
@@ -89,10 +89,10 @@ valid-by-test h lt t =
       parity = eqb→eq (onesIn 8 (flagIn h) % 2) 1 (and-left (eqb (onesIn 8 (flagIn h) % 2) 1) (eqb (checkIn h) (checkOf (informationIn h))) t);
     }
 
-mends-by-test : (h v bits : ℕ) → Valid v → T (_&&_ (leb (distance h v) 2) (eqb bits (distance h v))) → Mends h (Mended v bits)
-mends-by-test h v bits valid t = (
-  record { valid = valid; near = leb→le (distance h v) 2 (and-left (leb (distance h v) 2) (eqb bits (distance h v)) t) },
-  eqb→eq bits (distance h v) (and-right (leb (distance h v) 2) (eqb bits (distance h v)) t),
+mends-by-test : (mend h v bits : ℕ) → Valid v → T (_&&_ (leb (distance h v) mend) (eqb bits (distance h v))) → MendsWithin mend h (Mended v bits)
+mends-by-test mend h v bits valid t = (
+  record { valid = valid; near = leb→le (distance h v) mend (and-left (leb (distance h v) mend) (eqb bits (distance h v)) t) },
+  eqb→eq bits (distance h v) (and-right (leb (distance h v) mend) (eqb bits (distance h v)) t),
 )
 
 -- a header of this format
@@ -122,31 +122,31 @@ other-none f t FullAscii typed =
     T-not (ours f FullAscii) (and-right (not (ours f PseudoBinary)) (not (ours f FullAscii)) two) (ours-test f FullAscii typed)
 
 -- what starts with four bytes has their word
-front-word : (head stateAfter : List ℕ) → length head ≡ 4 → received (head ++ stateAfter) ≡ received head
+front-word : (head after : List ℕ) → length head ≡ 4 → received (head ++ after) ≡ received head
 unfolding received
-front-word (a ∷ b ∷ c ∷ d ∷ []) stateAfter e = refl
-front-word (a ∷ b ∷ c ∷ d ∷ x ∷ l) stateAfter e = absurd (let no′ : ⊥ = omega arith in no′)
-front-word (a ∷ b ∷ c ∷ []) stateAfter e = absurd (let no′ : ⊥ = omega arith in no′)
-front-word (a ∷ b ∷ []) stateAfter e = absurd (let no′ : ⊥ = omega arith in no′)
-front-word (a ∷ []) stateAfter e = absurd (let no′ : ⊥ = omega arith in no′)
-front-word [] stateAfter e = absurd (let no′ : ⊥ = omega arith in no′)
+front-word (a ∷ b ∷ c ∷ d ∷ []) after e = refl
+front-word (a ∷ b ∷ c ∷ d ∷ x ∷ l) after e = absurd (let no′ : ⊥ = omega arith in no′)
+front-word (a ∷ b ∷ c ∷ []) after e = absurd (let no′ : ⊥ = omega arith in no′)
+front-word (a ∷ b ∷ []) after e = absurd (let no′ : ⊥ = omega arith in no′)
+front-word (a ∷ []) after e = absurd (let no′ : ⊥ = omega arith in no′)
+front-word [] after e = absurd (let no′ : ⊥ = omega arith in no′)
 
-module _ (head : List ℕ) (four : length head ≡ 4) (stateAfter : List ℕ) (room : ℕ) where
-  enough : 4 ≤ length (head ++ stateAfter)
-  enough = omega (arith, length-append head stateAfter)
+module _ (mend : ℕ) (head : List ℕ) (four : length head ≡ 4) (after : List ℕ) (room : ℕ) where
+  enough : 4 ≤ length (head ++ after)
+  enough = omega (arith, length-append head after)
 
-  refuses-hopeless : ((header : ℕ) → ValidWithin 2 (received head) header → ⊥) → Refuses (head ++ stateAfter) room NoHeader
+  refuses-hopeless : ((header : ℕ) → ValidWithin mend (received head) header → ⊥) → Refuses (mending mend) (head ++ after) NoHeader
   refuses-hopeless far =
       record {
-        fault = λ header near. far header (subst (λ (w : ℕ). ValidWithin 2 w header) (front-word head stateAfter four) near);
-        first = clear-two (head ++ stateAfter) room enough;
+        fault = λ header near. far header (subst (λ (w : ℕ). ValidWithin mend w header) (front-word head after four) near);
+        first = clear-two (mending mend) (head ++ after) enough;
       }
 
-  refuses-foreign : (header : ℕ) → ValidWithin 2 (received head) header → ((format : Format) → HasFormat (fieldsIn header) format → ⊥)
-      → Refuses (head ++ stateAfter) room OtherType
+  refuses-foreign : (header : ℕ) → ValidWithin mend (received head) header → ((format : Format) → HasFormat (fieldsIn header) format → ⊥)
+      → Refuses (mending mend) (head ++ after) OtherType
   refuses-foreign header near none =
-      let near′ : ValidWithin 2 (received (head ++ stateAfter)) header = subst (λ (w : ℕ). ValidWithin 2 w header) (sym (front-word head stateAfter four)) near in
-      record { fault = (header, near′, none); first = clear-three (head ++ stateAfter) room header near′ enough }
+      let near′ : ValidWithin mend (received (head ++ after)) header = subst (λ (w : ℕ). ValidWithin mend w header) (sym (front-word head after four)) near in
+      record { fault = (header, near′, none); first = clear-three (mending mend) (head ++ after) enough header near′ }
 
 -- ---- data, by a reading that computes
 
@@ -211,13 +211,13 @@ tests (checks flag length check bytes) =
     let h = received (flag ∷ bytes) in
     ltb h (2 ^ 32) ∷ valid h ∷ eqb (flagIn h) flag ∷ eqb (lengthIn h) length ∷ eqb (checkIn h) check ∷ []
 tests (heads format sync length bytes) = same (bytesOf (headerFor format sync length)) bytes ∷ []
-tests (reads head format sync length mended) =
-    let d = distance (received head) (headerFor format sync length) in leb length longest ∷ _&&_ (leb d 2) (eqb mended d) ∷ []
-tests (hopeless head) = eqb (length head) 4 ∷ ltb (received head) (2 ^ 32) ∷ none 2 (received head) ∷ []
-tests (foreign head header mended) =
+tests (reads mend head format sync length mended) =
+    let d = distance (received head) (headerFor format sync length) in ltb length (2 ^ 14) ∷ _&&_ (leb d mend) (eqb mended d) ∷ []
+tests (hopeless mend head) = eqb (length head) 4 ∷ ltb (received head) (2 ^ 32) ∷ none mend (received head) ∷ []
+tests (foreign mend head header mended) =
     let h = received header in
     let d = distance (received head) h in
-    eqb (length head) 4 ∷ ltb h (2 ^ 32) ∷ valid h ∷ _&&_ (leb d 2) (eqb mended d) ∷ other (fieldsIn h) ∷ []
+    eqb (length head) 4 ∷ ltb h (2 ^ 32) ∷ valid h ∷ _&&_ (leb d mend) (eqb mended d) ∷ other (fieldsIn h) ∷ []
 tests (writes format text carried) = same (dataOf format text) carried ∷ comes-to (reading format carried) text ∷ []
 tests (carries format text carried) = comes-to (reading format carried) text ∷ []
 tests (stops format carried bit) = stuck-at (reading format carried) bit ∷ []
@@ -238,20 +238,20 @@ row-holds (checks flag length check bytes) (small, (v, (f, (l, (c, t))))) =
     let h = received (flag ∷ bytes) in
     (valid-by-test h (ltb→lt h (2 ^ 32) small) v, eqb→eq (flagIn h) flag f, eqb→eq (lengthIn h) length l, eqb→eq (checkIn h) check c)
 row-holds (heads format sync length bytes) (p, t) = same-is (bytesOf (headerFor format sync length)) bytes p
-row-holds (reads head format sync length mended) (small, (near, t)) =
-    let few = leb→le length longest small in
+row-holds (reads mend head format sync length mended) (small, (near, t)) =
+    let few = ltb→lt length (2 ^ 14) small in
     let header = headerFor format sync length in (
-      mends-by-test (received head) header mended (header-valid format sync length few) near,
+      mends-by-test mend (received head) header mended (header-valid format sync length few) near,
       header-typed format sync length few,
       header-sync format sync length few,
       header-length format sync length few,
     )
-row-holds (hopeless head) (four, (small, (far, t))) = λ stateAfter room.
-    refuses-hopeless head (eqb→eq (length head) 4 four) stateAfter room (none-near 2 (received head) (ltb→lt (received head) (2 ^ 32) small) far)
-row-holds (foreign head header mended) (four, (small, (v, (near, (none, t))))) =
+row-holds (hopeless mend head) (four, (small, (far, t))) = λ after room.
+    refused-packet (mending mend) (head ++ after) room NoHeader (refuses-hopeless mend head (eqb→eq (length head) 4 four) after room (none-near mend (received head) (ltb→lt (received head) (2 ^ 32) small) far))
+row-holds (foreign mend head header mended) (four, (small, (v, (near, (none, t))))) =
     let h = received header in
-    let mends = mends-by-test (received head) h mended (valid-by-test h (ltb→lt h (2 ^ 32) small) v) near in
-    (mends, λ stateAfter room. refuses-foreign head (eqb→eq (length head) 4 four) stateAfter room h (mends .0) (other-none (fieldsIn h) none))
+    let mends = mends-by-test mend (received head) h mended (valid-by-test h (ltb→lt h (2 ^ 32) small) v) near in
+    (mends, λ after room. refused-packet (mending mend) (head ++ after) room OtherType (refuses-foreign mend head (eqb→eq (length head) 4 four) after room h (mends .0) (other-none (fieldsIn h) none)))
 row-holds (writes format text carried) (made, (read, t)) = (same-is (dataOf format text) carried made, carries-by-test format text carried read)
 row-holds (carries format text carried) (read, t) = carries-by-test format text carried read
 row-holds (stops format carried bit) (read, t) = stops-by-test format carried bit read

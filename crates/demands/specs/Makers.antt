@@ -8,36 +8,34 @@ use lib.ListN.{length, drop}
 use Rattle.header.specs.declared.Format.{Format}
 use Rattle.header.specs.Fields.{bytesOf}
 use Rattle.mending.specs.Mends.{distance}
+use Rattle.formats.specs.Data.{Carries, AllCoded, comesBack}
 use Rattle.packet.specs.declared.Reading.{Reading}
-use Rattle.packet.specs.Data.{Carries, dataOf}
-use Rattle.codes.specs.Steps.Size.{longest}
-use Rattle.packet.specs.Packet.{received, dataIn, sumIn, packetOf, headerFor}
-use Rattle.packet.specs.Reader.{Framed}
-use Rattle.checksum.specs.Checksum.{checksumBytes}
+use Rattle.packet.specs.declared.Terms.{Terms}
+use Rattle.packet.specs.Packet.{received, packetOf, headerFor}
 
--- a packet that a maker could have built: of a text, in a format, with a sync bit. Its data is what a maker may build of the text, runs and line
--- ends cut as that maker liked, 1 to 4,000 bytes; before it the header of its length, behind it its checksum
-pub record Made (format : Format) (sync : Bool) (text packet : List ℕ) : Type 0 where
+-- a packet that a maker could have built: of a text that has codes, in a format, with a sync bit. Its data is what a maker may build of what the text
+-- comes back as, runs and line ends cut as that maker liked, one byte or more and no more than may be; before it the header of its length, behind it its
+-- checksum
+pub record Made (terms : Terms) (format : Format) (sync : Bool) (text packet : List ℕ) : Type 0 where
   pub carried : List ℕ
-  pub carries : Carries format text carried
+  pub coded : AllCoded format text
+  pub carries : Carries format (comesBack format text) carried
   pub some : 1 ≤ length carried
-  pub few : length carried ≤ longest
+  pub few : length carried ≤ terms .most
   pub is : packet ≡ packetOf (headerFor format sync (length carried)) carried
 
--- 32 bits that differ from the packet's header in at most two
-pub record Flipped (packet : List ℕ) (word : ℕ) : Type 0 where
+-- 32 bits that differ from the packet's header in no more than are mended
+pub record Flipped (terms : Terms) (packet : List ℕ) (word : ℕ) : Type 0 where
   pub bits : word < 2 ^ 32
-  pub few : distance word (received packet) ≤ 2
+  pub few : distance word (received packet) ≤ terms .mend
 
 -- the packet with those for its header, and whatever follows it
 unfoldable pub arriving : ℕ → List ℕ → List ℕ → List ℕ
 arriving word packet after = bytesOf word ++ (drop 4 packet ++ after)
 
--- ---- what the reader then answers
-
 -- the reading of a packet of so many data bytes and characters
-abbrev pub readingOf : Format → Bool → (mended carried text : ℕ) → Reading
-readingOf format sync mended carried text =
+abbrev pub readingWith : Format → Bool → (mended carried text : ℕ) → Reading
+readingWith format sync mended carried text =
     record {
       format = format;
       sync = sync;
@@ -46,17 +44,3 @@ readingOf format sync mended carried text =
       «text_length» = text;
       used = carried + 6;
     }
-
--- of a packet as our writer makes it, with no bit mended
-abbrev pub cleanReading : Format → Bool → List ℕ → Reading
-cleanReading format sync text = readingOf format sync 0 (length (dataOf format text)) (length text)
-
--- ---- what demand 2 asks of any packet, whoever built it
-
--- a valid header at most two bits from its own, of this format and of our lengths, with bytes enough; the right checksum; data that a maker may build of
--- the text; and room for it
-pub record Allowed (packet : List ℕ) (room : ℕ) (format : Format) (header : ℕ) (text : List ℕ) : Type 0 where
-  pub framed : Framed packet format header
-  pub summed : sumIn header packet ≡ checksumBytes (dataIn header packet)
-  pub carries : Carries format text (dataIn header packet)
-  pub held : length text ≤ room

@@ -1,10 +1,8 @@
-pub mod Answers
-pub mod Formats
-pub mod InPlace
-pub mod OpenData
+pub mod ExamineOnce
+pub mod ExamineStages
+pub mod Headers
+pub mod ReadAnswers
 pub mod ReadOnce
 pub mod Sent
-pub mod Stages
-pub mod WriteAnswers
 pub mod WriteOnce
 pub mod WriteStages

@@ -1,5 +1,5 @@
-pub mod Data
+pub mod Examine
 pub mod Packet
 pub mod Reader
-pub mod Steps
+pub mod Terms
 pub mod Writer

@@ -1,7 +1,7 @@
 -- A refusal is its number and its value, and the first match is one; over the refusals of any entry point.
 -- Assumes nothing.
 use mathlib.Core.Logic.{⊎-elim, _↔_}
-use mathlib.Core.Path.{_≡_, refl, sym, ap, ap₂, _∙_, subst, subst₂}
+use mathlib.Core.Path.{_≡_, refl, sym, ap, _∙_, subst, subst₂}
 use Prim.Native.Nat.{ℕ, suc, _<_}
 use native.Mathlib.Decide.{decLt}
 use native.Mathlib.Nat.{eq-or-lt-of-le, le-of-suc-le-suc}
@@ -32,16 +32,14 @@ module _ {Refusal : Type 0} {told : Refusal → Told} (known : Known Refusal tol
 
   -- two first matches are of one turn; they are the same where one turn has one number, and one number one value
   pub match-one : ((r s : Refusal) → turn (numberIn (told r)) ≡ turn (numberIn (told s)) → numberIn (told r) ≡ numberIn (told s))
-      → ((k u v : ℕ) → Fault (known .from k u) → Fault (known .from k v) → valueIn (told (known .from k u)) ≡ valueIn (told (known .from k v)))
+      → ((r : Refusal) (v : ℕ) → Fault r → Fault (known .from (numberIn (told r)) v) → valueIn (told r) ≡ valueIn (told (known .from (numberIn (told r)) v)))
       → (r s : Refusal) → FirstMatch Refusal told Fault turn r → FirstMatch Refusal told Fault turn s → r ≡ s
   match-one one-number one-value r s p q =
       let same = one-number r s (pick (decLt (turn (numberIn (told r))) (turn (numberIn (told s)))) (decLt (turn (numberIn (told s))) (turn (numberIn (told r))))) in
-      let k = numberIn (told s) in
-      let value =
-      ap (λ (x : Refusal). valueIn (told x)) (sym (known .back r) ∙ ap (λ (n : ℕ). known .from n (valueIn (told r))) same)
-      ∙ one-value k (valueIn (told r)) (valueIn (told s)) (by-value k r same (p .fault)) (by-value k s refl (q .fault))
-      ∙ ap (λ (x : Refusal). valueIn (told x)) (known .back s) in
-      sym (known .back r) ∙ ap₂ (known .from) same value ∙ known .back s
+      let other = valueIn (told s) in
+      let is : s ≡ known .from (numberIn (told r)) other = sym (known .back s) ∙ ap (λ (n : ℕ). known .from n other) (sym same) in
+      let value = one-value r other (p .fault) (subst Fault is (q .fault)) ∙ ap (λ (x : Refusal). valueIn (told x)) (sym is) in
+      sym (known .back r) ∙ ap (known .from (numberIn (told r))) value ∙ sym is
     where
       pick : Dec (turn (numberIn (told r)) < turn (numberIn (told s))) → Dec (turn (numberIn (told s)) < turn (numberIn (told r)))
           → turn (numberIn (told r)) ≡ turn (numberIn (told s))

@@ -1,0 +1,189 @@
+-- The promises of the entry points leave one answer and one content; what `examine` and the reader say agrees; and bytes after the checksum change nothing.
+-- Assumes nothing.
+use mathlib.Core.List.{List, [], _∷_, _++_}
+use mathlib.Core.Logic.{_⊎_, _↔_}
+use mathlib.Core.Path.{_≡_, refl, sym, ap, ap₂, _∙_, subst}
+use Prim.Native.Nat.{ℕ, _+_, _≤_, _<_}
+use native.Mathlib.Omega.{arith}
+use lib.ListN.{length, getD, take, drop, length-append, length-drop, List·getD-append}
+use lib.Seq.{take-append-le, drop-append-le}
+use Rattle.header.specs.declared.Format.{Format}
+use Rattle.header.specs.Fields.{fieldsIn, wordOf}
+use Rattle.header.specs.Typed.{HasFormat}
+use Rattle.header.specs.Valid.{lengthIn}
+use Rattle.mending.specs.Mends.{ValidWithin}
+use Rattle.checksum.specs.Checksum.{checksumBytes}
+use Rattle.formats.specs.Data.{Carries, Unreadable}
+use Rattle.refusals.specs.declared.ExamineRefusal.{ExamineRefusal}
+use Rattle.refusals.specs.declared.ExamineRefusal.the-variants.{Short, NoHeader, OtherType, OtherLength, CutOff, Checksum, Malformed}
+use Rattle.refusals.specs.declared.ReadRefusal.{ReadRefusal}
+use Rattle.refusals.specs.declared.ReadRefusal.the-variants.{Packet, NoRoom}
+use Rattle.refusals.proofs.Known.{examine-numbers}
+use Rattle.packet.specs.declared.Terms.{Terms}
+use Rattle.packet.specs.declared.Reading.{Reading}
+use Rattle.packet.specs.declared.ExamineAnswer.{ExamineAnswer}
+use Rattle.packet.specs.declared.ExamineAnswer.the-variants.{Readable, Refused as NotReadable}
+use Rattle.packet.specs.declared.ReadAnswer.{ReadAnswer}
+use Rattle.packet.specs.declared.ReadAnswer.the-variants.{Accepted, Refused as NotRead}
+use Rattle.packet.specs.Examine.{Fault, Refuses, Framed, Allowed, readingOf, Accepts, Examines}
+use Rattle.packet.specs.Packet.{received, dataIn, sumIn}
+use Rattle.packet.specs.Reader.{ReadFault, Reads}
+use Rattle.packet.specs.Terms.{MayBeNamed}
+use Rattle.packet.proofs.ExamineOnce.{examines-one}
+use Rattle.packet.proofs.Headers.{one-header, under}
+use Rattle.packet.proofs.ReadAnswers.{no-room, read-into}
+use Rattle.packet.proofs.ReadOnce.{reads-one, refused-packet, packet-refused}
+use Rattle.packet.proofs.WriteOnce.{writes-one}
+use Rattle.demands.specs.OneAnswer.{OneAnswer, Agreement, NothingAfter}
+
+module _ (terms : Terms) (named : MayBeNamed terms) where
+  pub one-answer : OneAnswer terms
+  one-answer = record { examines-one = examines-one terms named; reads-one = reads-one terms named; writes-one = writes-one terms }
+
+  -- ---- examined and read
+
+  both-refuse : (packet entry exit : List ℕ) (examined : ExamineAnswer) (read : ReadAnswer) → Examines terms packet examined → Reads terms packet entry read exit
+      → (refusal : ExamineRefusal) → (examined ≡ NotReadable refusal) ↔ (read ≡ NotRead (Packet refusal))
+  both-refuse packet entry exit examined read examines reads r = (
+    λ e.
+        reads-one terms named packet entry read (NotRead (Packet r)) exit entry reads
+        (refused-packet terms packet (length entry) r (subst (Examines terms packet) e examines), refl)
+        .0,
+    λ e.
+        examines-one terms named packet examined (NotReadable r) examines
+        (packet-refused terms packet (length entry) r (subst (λ (a : ReadAnswer). Reads terms packet entry a exit) e reads .0)),
+  )
+
+  pub agreement : Agreement terms
+  agreement = record {
+    both-refuse = both-refuse;
+    room-decides = λ packet entry exit reading read examines reads. (
+      λ held.
+          reads-one terms named packet entry read (Accepted reading) exit (examines .0 ++ drop (length (examines .0)) entry) reads
+          (read-into terms packet entry reading (examines .0) (examines .1) held)
+          .0,
+      λ short.
+          reads-one terms named packet entry read (NotRead (NoRoom (reading .«text_length»))) exit entry reads
+          (no-room terms packet named entry reading (examines .0) (examines .1) short)
+          .0,
+    );
+  }
+
+-- ---- bytes after the checksum
+
+-- two slices that hold whole packets under one header, with the same data and the same two bytes behind it, meet the same conditions
+module _ (terms : Terms) (named : MayBeNamed terms) (p q : List ℕ) (header : ℕ) (near : ValidWithin (terms .mend) (received p) header)
+    (near′ : ValidWithin (terms .mend) (received q) header) (whole : lengthIn header + 6 ≤ length p) (same-data : dataIn header q ≡ dataIn header p)
+    (same-sum : sumIn header q ≡ sumIn header p) where
+  moves : (r : ExamineRefusal) → Fault terms p r → Fault terms q r
+  moves Short f = absurd (let no′ : ⊥ = omega arith in no′)
+  moves NoHeader f = absurd (f header near)
+  moves OtherType f = (header, near′, under terms named p (λ (h : ℕ). (k : Format) → HasFormat (fieldsIn h) k → ⊥) header near f)
+  moves OtherLength f = (header, near′, under terms named p (λ (h : ℕ). (lengthIn h ≡ 0) ⊎ (terms .most < lengthIn h)) header near f)
+  moves CutOff f =
+      let short = under terms named p (λ (h : ℕ). length p < lengthIn h + 6) header near f in absurd (let no′ : ⊥ = omega arith in no′)
+  moves Checksum f = (
+    header,
+    near′,
+    λ e.
+        under terms named p (λ (h : ℕ). sumIn h p ≡ checksumBytes (dataIn h p) → ⊥) header near f (sym same-sum ∙ e ∙ ap checksumBytes same-data),
+  )
+  moves (Malformed i) f =
+      let u = under terms named p (λ (h : ℕ). (k : Format) × HasFormat (fieldsIn h) k × Unreadable k (dataIn h p) i) header near f in
+      (header, near′, (u .0, u .1, subst (λ (l : List ℕ). Unreadable (u .0) l i) (sym same-data) (u .2)))
+
+  read-moves : (room : ℕ) (r : ReadRefusal) → ReadFault terms p room r → ReadFault terms q room r
+  read-moves room (Packet r) f = moves r f
+  read-moves room (NoRoom n) f =
+      let u =
+      under terms named p
+      (λ (h : ℕ). (k : Format) × HasFormat (fieldsIn h) k × ((t : List ℕ) × Carries k t (dataIn h p) × (length t ≡ n) × (room < n))) header near f in
+      (header, near′, (u .0, u .1, (u .2 .0, subst (Carries (u .0) (u .2 .0)) (sym same-data) (u .2 .1), u .2 .2, u .2 .3)))
+
+module _ (terms : Terms) (named : MayBeNamed terms) (packet after : List ℕ) (header : ℕ) (near : ValidWithin (terms .mend) (received packet) header)
+    (whole : lengthIn header + 6 ≤ length packet) where
+  same-byte : (i : ℕ) → i < length packet → getD (packet ++ after) i 0 ≡ getD packet i 0
+  same-byte i lt = List·getD-append packet after 0 i lt
+
+  same-received : received (packet ++ after) ≡ received packet
+  unfolding received
+  same-received =
+      let first = same-byte 0 (omega arith) in
+      let second = same-byte 1 (omega arith) in
+      let third = same-byte 2 (omega arith) in
+      let fourth = same-byte 3 (omega arith) in
+      λ i. wordOf (first i) (second i) (third i) (fourth i)
+
+  same-data : dataIn header (packet ++ after) ≡ dataIn header packet
+  unfolding dataIn
+  same-data =
+      ap (take (lengthIn header)) (drop-append-le 4 packet after (omega arith))
+      ∙ take-append-le (lengthIn header) (drop 4 packet) after (omega (arith, length-drop 4 packet))
+
+  same-sum : sumIn header (packet ++ after) ≡ sumIn header packet
+  unfolding sumIn
+  same-sum =
+      ap₂ (λ (x y : ℕ). x ∷ y ∷ []) (same-byte (4 + lengthIn header) (omega arith)) (same-byte (5 + lengthIn header) (omega arith))
+
+  near-behind : ValidWithin (terms .mend) (received (packet ++ after)) header
+  near-behind = subst (λ (w : ℕ). ValidWithin (terms .mend) w header) (sym same-received) near
+
+  longer : length packet ≤ length (packet ++ after)
+  longer = omega (arith, length-append packet after)
+
+  there : (r : ExamineRefusal) → Fault terms packet r → Fault terms (packet ++ after) r
+  there = moves terms named packet (packet ++ after) header near near-behind whole same-data same-sum
+
+  back : (r : ExamineRefusal) → Fault terms (packet ++ after) r → Fault terms packet r
+  back = moves terms named (packet ++ after) packet header near-behind near (omega (arith, longer)) (sym same-data) (sym same-sum)
+
+  allowed-behind : (format : Format) (text : List ℕ) → Allowed terms packet format header text → Allowed terms (packet ++ after) format header text
+  allowed-behind format text a =
+      record {
+        framed = record {
+          near = near-behind;
+          typed = a .framed .typed;
+          some = a .framed .some;
+          few = a .framed .few;
+          whole = omega (arith, longer);
+        };
+        summed = same-sum ∙ a .summed ∙ ap checksumBytes (sym same-data);
+        carries = subst (Carries format text) (sym same-data) (a .carries);
+      }
+
+  accepts-behind : (reading : Reading) (text : List ℕ) → Accepts terms packet reading text → Accepts terms (packet ++ after) reading text
+  accepts-behind reading text a =
+      let same : a .header ≡ header = one-header terms named packet (a .header) header (a .allowed .framed .near) near in
+      record {
+        format = a .format;
+        header = header;
+        allowed = allowed-behind (a .format) text (subst (λ (h : ℕ). Allowed terms packet (a .format) h text) same (a .allowed));
+        is = a .is ∙ ap₂ (λ (h w : ℕ). readingOf (a .format) h w text) same (sym same-received);
+      }
+
+  refuses-behind : (r : ExamineRefusal) → Refuses terms packet r → Refuses terms (packet ++ after) r
+  refuses-behind r p = record { fault = there r (p .fault); first = λ other lt f. p .first other lt (back other f) }
+
+  examined-behind : (answer : ExamineAnswer) → Examines terms packet answer → Examines terms (packet ++ after) answer
+  examined-behind (Readable reading) (text, a) = (text, accepts-behind reading text a)
+  examined-behind (NotReadable r) p = refuses-behind r p
+
+  read-behind : (entry exit : List ℕ) (answer : ReadAnswer) → Reads terms packet entry answer exit → Reads terms (packet ++ after) entry answer exit
+  read-behind entry exit (Accepted reading) (text, a, held, e) = (text, accepts-behind reading text a, held, e)
+  read-behind entry exit (NotRead r) (p, e) = (
+    record {
+      fault = read-moves terms named packet (packet ++ after) header near near-behind whole same-data same-sum (length entry) r (p .fault);
+      first = λ other lt f.
+          p .first other lt
+          (read-moves terms named (packet ++ after) packet header near-behind near (omega (arith, longer)) (sym same-data) (sym same-sum) (length entry) other f);
+    },
+    e,
+  )
+
+pub nothing-after : (terms : Terms) → MayBeNamed terms → NothingAfter terms
+nothing-after terms named = record {
+  examined-alone = λ packet after header near whole a b p q.
+      examines-one terms named (packet ++ after) a b (examined-behind terms named packet after header near whole a p) q;
+  read-alone = λ packet after header near whole entry x y a b p q.
+      reads-one terms named (packet ++ after) entry a b x y (read-behind terms named packet after header near whole entry x a p) q;
+}

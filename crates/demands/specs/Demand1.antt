@@ -1,0 +1,84 @@
+-- Demand 1. Every entry point takes what it is handed, at any length, and ends. Each kind of bad input has one refusal number, given under its stated
+-- condition and under no other. A refusal changes no byte of a lent buffer; an accepted call writes only the bytes that it counts.
+-- The first sentence is what a check says of each function that requires nothing, as `packet::examine`, `packet::read` and `packet::write`.
+-- Assumes nothing.
+use mathlib.Core.Bool.{Bool}
+use mathlib.Core.List.{List, [], _∷_}
+use mathlib.Core.Logic.{_↔_}
+use mathlib.Core.Path.{_≡_}
+use Prim.Native.Nat.{ℕ, suc, _<_}
+use lib.ListN.{length, take, drop}
+use Rattle.header.specs.declared.Format.{Format}
+use Rattle.header.specs.declared.Format.the-variants.{Open, PseudoBinary, FullAscii}
+use Rattle.codes.specs.Reading.{DataGives, stuck}
+use Rattle.full_ascii.specs.Table as ascii
+use Rattle.pseudo_binary.specs.Table as pseudo
+use Rattle.formats.specs.Data.{Carries, Unreadable, AllCoded, Uncoded, comesBack, dataOf}
+use Rattle.refusals.specs.declared.ExamineRefusal.{ExamineRefusal}
+use Rattle.refusals.specs.declared.ReadRefusal.{ReadRefusal}
+use Rattle.refusals.specs.declared.WriteRefusal.{WriteRefusal}
+use Rattle.refusals.specs.Match.{ToldAs, byNumber, writerTurn}
+use Rattle.refusals.specs.Refusals.{Told, examineTold, readTold, writeTold}
+use Rattle.packet.specs.declared.Terms.{Terms}
+use Rattle.packet.specs.declared.Reading.{Reading}
+use Rattle.packet.specs.declared.ExamineAnswer.{ExamineAnswer}
+use Rattle.packet.specs.declared.ExamineAnswer.the-variants.{Refused as NotReadable}
+use Rattle.packet.specs.declared.ReadAnswer.{ReadAnswer}
+use Rattle.packet.specs.declared.ReadAnswer.the-variants.{Accepted, Refused as NotRead}
+use Rattle.packet.specs.declared.WriteAnswer.{WriteAnswer}
+use Rattle.packet.specs.declared.WriteAnswer.the-variants.{Written, Refused as NotWritten}
+use Rattle.packet.specs.Examine.{Fault, Examines}
+use Rattle.packet.specs.Reader.{ReadFault, Reads}
+use Rattle.packet.specs.Writer.{WriteFault, Writes}
+
+-- the answer is the refusal of this number and value exactly when the condition of that number holds, with that value, and none that is tested before it
+abbrev pub RefusedExactly : (Refusal : Type 0) → (Refusal → Told) → (Refusal → Type 0) → (ℕ → ℕ) → (Refusal → Type 0) → Type 0
+RefusedExactly Refusal told Fault turn Answered =
+    (number value : ℕ)
+    → ToldAs Refusal told Answered number value
+    ↔ (ToldAs Refusal told Fault number value × ((earlier other : ℕ) → turn earlier < turn number → ToldAs Refusal told Fault earlier other → ⊥))
+
+-- the bit at which reading the data is stuck. Open data never is
+abbrev pub StuckAt : Format → List ℕ → ℕ → Type 0
+StuckAt Open carried bit = ⊥
+StuckAt PseudoBinary carried bit = DataGives pseudo.scheme carried (stuck bit)
+StuckAt FullAscii carried bit = DataGives ascii.scheme carried (stuck bit)
+
+pub record Demand1 (terms : Terms) : Type 0 where
+  -- Each kind of bad input has one refusal number, given under its stated condition and under no other: 1 to 7 in this order,
+  pub examine-refuses : (packet : List ℕ) (answer : ExamineAnswer) → Examines terms packet answer
+      → RefusedExactly ExamineRefusal examineTold (Fault terms packet) byNumber (λ refusal. answer ≡ NotReadable refusal)
+  -- 1 to 8,
+  pub read-refuses : (packet entry exit : List ℕ) (answer : ReadAnswer) → Reads terms packet entry answer exit
+      → RefusedExactly ReadRefusal readTold (ReadFault terms packet (length entry)) byNumber (λ refusal. answer ≡ NotRead refusal)
+  -- 12, 10, 9, 11, 8.
+  pub write-refuses : (number : ℕ) (sync : Bool) (text entry exit : List ℕ) (answer : WriteAnswer) → Writes terms number sync text entry answer exit
+      → RefusedExactly WriteRefusal writeTold (WriteFault terms number text (length entry)) writerTurn (λ refusal. answer ≡ NotWritten refusal)
+
+  -- A refusal changes no byte of a lent buffer;
+  pub read-refusal-changes-nothing : (packet entry exit : List ℕ) (refusal : ReadRefusal) → Reads terms packet entry (NotRead refusal) exit → exit ≡ entry
+  pub write-refusal-changes-nothing : (number : ℕ) (sync : Bool) (text entry exit : List ℕ) (refusal : WriteRefusal)
+      → Writes terms number sync text entry (NotWritten refusal) exit → exit ≡ entry
+
+  -- an accepted call writes only the bytes that it counts: behind them the buffer is as it was.
+  pub read-writes-counted : (packet entry exit : List ℕ) (reading : Reading) → Reads terms packet entry (Accepted reading) exit
+      → drop (reading .«text_length») exit ≡ drop (reading .«text_length») entry
+  pub write-writes-counted : (number : ℕ) (sync : Bool) (text entry exit : List ℕ) (n : ℕ) → Writes terms number sync text entry (Written n) exit
+      → drop n exit ≡ drop n entry
+
+-- what the conditions of 7, 9 and 11 come to
+pub record Conditions (terms : Terms) : Type 0 where
+  -- 7: data that has such a place carries no text, and data that carries no text has such a place
+  pub malformed-means : (format : Format) (carried : List ℕ)
+      → ((bit : ℕ) × Unreadable format carried bit) ↔ ((text : List ℕ) → Carries format text carried → ⊥)
+  -- its bit is where reading the data, as RULES has it read, is stuck
+  pub malformed-bit : (format : Format) (carried : List ℕ) (bit : ℕ) → Unreadable format carried bit ↔ StuckAt format carried bit
+  -- 9: what is carried has codes; and of a text that has codes our data carries what it comes back as
+  pub carried-coded : (format : Format) (text carried : List ℕ) → Carries format text carried → AllCoded format text
+  pub coded-carried : (format : Format) (text : List ℕ) → AllCoded format text → Carries format (comesBack format text) (dataOf format text)
+  -- its index: the characters before it have codes, and with it they do not
+  pub no-code-index : (format : Format) (text : List ℕ) (index : ℕ)
+      → Uncoded format text index ↔ ((index < length text) × AllCoded format (take index text) × (AllCoded format (take (suc index) text) → ⊥))
+  -- 11: the text fits in no single packet of the format
+  pub too-long-means : (format : Format) (text : List ℕ) → AllCoded format text
+      → (terms .most < length (dataOf format text)) ↔ ((carried : List ℕ) → Carries format (comesBack format text) carried → terms .most < length carried)

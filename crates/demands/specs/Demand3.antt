@@ -1,0 +1,50 @@
+-- Demand 3. Take a packet that any maker could have built under our rules, runs and line ends cut as that maker liked, and flip no more of its 32 header
+-- bits than are mended. With data and checksum intact and room for the text, the reader returns exactly the sent text (as what it comes back as: in these
+-- formats itself), format and sync bit, with the true number of mended bits. If instead only one data byte or two neighbouring ones changed, or only one
+-- or both checksum bytes, it refuses by checksum and hands out nothing.
+-- Assumes nothing.
+use mathlib.Core.Bool.{Bool}
+use mathlib.Core.List.{List, [], _∷_, _++_}
+use mathlib.Core.Logic.{_≢_}
+use mathlib.Core.Path.{_≡_}
+use Prim.Native.Nat.{ℕ, _≤_}
+use lib.ListN.{length, drop}
+use Rattle.bits.specs.Row.{Bytes}
+use Rattle.header.specs.declared.Format.{Format}
+use Rattle.header.specs.Fields.{bytesOf}
+use Rattle.mending.specs.Mends.{distance}
+use Rattle.checksum.specs.Alike.{AlikeBut}
+use Rattle.checksum.specs.Checksum.{checksumBytes}
+use Rattle.formats.specs.Data.{comesBack}
+use Rattle.refusals.specs.declared.ExamineRefusal.the-variants.{Checksum}
+use Rattle.refusals.specs.declared.ReadRefusal.the-variants.{Packet}
+use Rattle.packet.specs.declared.Terms.{Terms}
+use Rattle.packet.specs.declared.ReadAnswer.{ReadAnswer}
+use Rattle.packet.specs.declared.ReadAnswer.the-variants.{Accepted, Refused}
+use Rattle.packet.specs.Packet.{received}
+use Rattle.packet.specs.Reader.{Reads}
+use Rattle.demands.specs.Makers.{Made, Flipped, arriving, readingWith}
+
+-- what the reader does with the packet in its slice: it refuses by checksum, and the buffer is as it was
+abbrev pub RefusedByChecksum : List ℕ → ReadAnswer → List ℕ → Type 0
+RefusedByChecksum entry answer exit = (answer ≡ Refused (Packet Checksum)) × (exit ≡ entry)
+
+-- of a packet that was made, and of 32 bits that came for its header, whatever follows it
+pub record Demand3 (terms : Terms) : Type 0 where
+  -- With data and checksum intact and room for the text: exactly the text, format and sync bit, and the number of flipped bits.
+  pub intact : (format : Format) (sync : Bool) (text packet : List ℕ) (made : Made terms format sync text packet) (word : ℕ) → Flipped terms packet word
+      → (after entry exit : List ℕ) (answer : ReadAnswer) → length (comesBack format text) ≤ length entry
+      → Reads terms (arriving word packet after) entry answer exit
+      → (answer ≡ Accepted (readingWith format sync (distance word (received packet)) (length (made .carried)) (length (comesBack format text))))
+      × (exit ≡ comesBack format text ++ drop (length (comesBack format text)) entry)
+  -- If only one data byte or two neighbouring ones changed, and what was sent and what came are bytes: refused by checksum.
+  pub damaged-data : (format : Format) (sync : Bool) (text packet : List ℕ) (made : Made terms format sync text packet) (word : ℕ)
+      → Flipped terms packet word → (after entry exit : List ℕ) (answer : ReadAnswer) (place : ℕ) (other : List ℕ)
+      → Bytes (made .carried) → Bytes other → AlikeBut place other (made .carried) → other ≢ made .carried
+      → Reads terms (bytesOf word ++ (other ++ (checksumBytes (made .carried) ++ after))) entry answer exit
+      → RefusedByChecksum entry answer exit
+  -- If only one or both checksum bytes: refused by checksum.
+  pub damaged-sum : (format : Format) (sync : Bool) (text packet : List ℕ) (made : Made terms format sync text packet) (word : ℕ)
+      → Flipped terms packet word → (after entry exit : List ℕ) (answer : ReadAnswer) (low high : ℕ) → low ∷ high ∷ [] ≢ checksumBytes (made .carried)
+      → Reads terms (bytesOf word ++ (made .carried ++ (low ∷ high ∷ after))) entry answer exit
+      → RefusedByChecksum entry answer exit

@@ -1,0 +1,46 @@
+-- For every input the promises of the entry points leave one answer and one content of the lent buffer (RULES, What a promise says); what `examine` and the
+-- reader say of one packet agrees; and bytes after the checksum are not looked at (RULES, Packet).
+-- Assumes nothing.
+use mathlib.Core.Bool.{Bool}
+use mathlib.Core.List.{List, _++_}
+use mathlib.Core.Logic.{_↔_}
+use mathlib.Core.Path.{_≡_}
+use Prim.Native.Nat.{ℕ, _+_, _≤_, _<_}
+use lib.ListN.{length}
+use Rattle.header.specs.Valid.{lengthIn}
+use Rattle.mending.specs.Mends.{ValidWithin}
+use Rattle.refusals.specs.declared.ExamineRefusal.{ExamineRefusal}
+use Rattle.refusals.specs.declared.ReadRefusal.the-variants.{Packet, NoRoom}
+use Rattle.packet.specs.declared.Terms.{Terms}
+use Rattle.packet.specs.declared.Reading.{Reading}
+use Rattle.packet.specs.declared.ExamineAnswer.{ExamineAnswer}
+use Rattle.packet.specs.declared.ExamineAnswer.the-variants.{Readable, Refused as NotReadable}
+use Rattle.packet.specs.declared.ReadAnswer.{ReadAnswer}
+use Rattle.packet.specs.declared.ReadAnswer.the-variants.{Accepted, Refused as NotRead}
+use Rattle.packet.specs.declared.WriteAnswer.{WriteAnswer}
+use Rattle.packet.specs.Examine.{Examines}
+use Rattle.packet.specs.Packet.{received}
+use Rattle.packet.specs.Reader.{Reads}
+use Rattle.packet.specs.Writer.{Writes}
+
+pub record OneAnswer (terms : Terms) : Type 0 where
+  pub examines-one : (packet : List ℕ) (a b : ExamineAnswer) → Examines terms packet a → Examines terms packet b → a ≡ b
+  pub reads-one : (packet entry : List ℕ) (a b : ReadAnswer) (x y : List ℕ) → Reads terms packet entry a x → Reads terms packet entry b y → (a ≡ b) × (x ≡ y)
+  pub writes-one : (number : ℕ) (sync : Bool) (text entry : List ℕ) (a b : WriteAnswer) (x y : List ℕ)
+      → Writes terms number sync text entry a x → Writes terms number sync text entry b y → (a ≡ b) × (x ≡ y)
+
+-- of one packet, examined and read into a buffer
+pub record Agreement (terms : Terms) : Type 0 where
+  pub both-refuse : (packet entry exit : List ℕ) (examined : ExamineAnswer) (read : ReadAnswer) → Examines terms packet examined
+      → Reads terms packet entry read exit → (refusal : ExamineRefusal) → (examined ≡ NotReadable refusal) ↔ (read ≡ NotRead (Packet refusal))
+  pub room-decides : (packet entry exit : List ℕ) (reading : Reading) (read : ReadAnswer) → Examines terms packet (Readable reading)
+      → Reads terms packet entry read exit
+      → (reading .«text_length» ≤ length entry → read ≡ Accepted reading)
+      × (length entry < reading .«text_length» → read ≡ NotRead (NoRoom (reading .«text_length»)))
+
+-- a slice that holds the whole packet is read as the packet alone, whatever follows
+pub record NothingAfter (terms : Terms) : Type 0 where
+  pub examined-alone : (packet after : List ℕ) (header : ℕ) → ValidWithin (terms .mend) (received packet) header → lengthIn header + 6 ≤ length packet
+      → (a b : ExamineAnswer) → Examines terms packet a → Examines terms (packet ++ after) b → a ≡ b
+  pub read-alone : (packet after : List ℕ) (header : ℕ) → ValidWithin (terms .mend) (received packet) header → lengthIn header + 6 ≤ length packet
+      → (entry x y : List ℕ) (a b : ReadAnswer) → Reads terms packet entry a x → Reads terms (packet ++ after) entry b y → (a ≡ b) × (x ≡ y)
