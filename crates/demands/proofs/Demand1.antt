@@ -18,8 +18,8 @@ use Rattle.header.specs.declared.Format.the-variants.{Open, PseudoBinary, FullA
 use Rattle.header.specs.Fields.{fieldsIn, wordOf, bytesOf}
 use Rattle.header.specs.Typed.{HasFormat}
 use Rattle.header.specs.Valid.{lengthIn}
-use Rattle.mending.specs.Mends.{ValidWithin, distance}
-use Rattle.mending.proofs.Unique.{one-near}
+use Rattle.distance.specs.Distance.{ValidWithin, distance}
+use Rattle.distance.proofs.Unique.{one-near}
 use Rattle.checksum.specs.Checksum.{checksumBytes}
 use Rattle.checksum.proofs.Row.{sent-length}
 use Rattle.packet.specs.declared.Reading.{Reading}

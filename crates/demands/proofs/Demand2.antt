@@ -17,7 +17,7 @@ use Rattle.header.specs.Fields.{fieldsIn, bytesOf}
 use Rattle.header.specs.Typed.{formatNumber}
 use Rattle.header.specs.Valid.{lengthIn}
 use Rattle.header.proofs.Typed.{one-number}
-use Rattle.mending.specs.Mends.{distance}
+use Rattle.distance.specs.Distance.{distance}
 use Rattle.checksum.specs.Checksum.{checksumBytes}
 use Rattle.codes.specs.Steps.Size.{longest}
 use Rattle.packet.specs.declared.Reading.{Reading}

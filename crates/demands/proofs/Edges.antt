@@ -23,9 +23,10 @@ use Rattle.header.specs.Valid.{Valid, flagIn, lengthIn, checkIn, informationIn}
 use Rattle.header.specs.Fields.{fieldsIn, headerOf, lowFlag, bytesOf}
 use Rattle.header.specs.Typed.{HasFormat, formatNumber}
 use Rattle.mending.specs.declared.Mending.the-variants.{Mended}
-use Rattle.mending.specs.Mends.{distance, ValidWithin, Mends}
-use Rattle.mending.proofs.All.{all, all-at}
-use Rattle.mending.proofs.Search.{none-at, none-around}
+use Rattle.distance.specs.Distance.{distance, ValidWithin}
+use Rattle.mending.specs.Mends.{Mends}
+use Rattle.bits.proofs.All.{all, all-at}
+use Rattle.distance.proofs.Search.{none-at, none-around}
 use Rattle.codes.specs.Chain.{Scheme, stateAfter, codes, Builds, Stuck}
 use Rattle.codes.specs.Pack.{low, numbers, value, bytes, packed, gap, filled, written}
 use Rattle.codes.specs.Steps.Size.{longest}

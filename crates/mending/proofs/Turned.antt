@@ -9,18 +9,21 @@ use lib.Bits.{bitXor, xor-lt, xor-mod, xor-self, xor-zero-r}
 use lib.Count.{ones, onesIn}
 use lib.Pow.{pow-pos}
 use Rattle.bits.specs.Word.{differences}
-use Rattle.bits.proofs.Ones.{ones-all, ones-low, ones-top, differences-comm, differences-round}
+use Rattle.bits.proofs.Ones.{ones-all, ones-low, differences-comm, differences-round}
 use Rattle.bits.proofs.Xor.{xor-undo, xor-zero}
 use Rattle.header.specs.Check.{checkOf}
 use Rattle.header.specs.Flag.{Odd}
 use Rattle.header.specs.Steps.Differences.{differenceIn}
 use Rattle.header.specs.Valid.{Valid, flagIn, checkIn, informationIn}
 use Rattle.header.proofs.Division.{remainder-lt}
-use Rattle.mending.specs.declared.Cause.{Cause}
-use Rattle.mending.specs.declared.Cause.the-variants.{Bits, Nothing}
-use Rattle.mending.specs.Mends.{distance, ValidWithin}
-use Rattle.mending.specs.Steps.Repair.{left, Accounts, Repairs}
-use Rattle.mending.proofs.Apart.{left-sum, left-difference, valid-left, low-apart}
+use Rattle.distance.specs.Distance.{distance, ValidWithin}
+use Rattle.distance.specs.Steps.Left.{left}
+use Rattle.distance.proofs.Apart.{low-apart}
+use Rattle.distance.proofs.Left.{left-sum, left-difference, valid-left}
+use Rattle.distance.proofs.Words.{low-near}
+use Rattle.repair.specs.declared.Cause.{Cause}
+use Rattle.repair.specs.declared.Cause.the-variants.{Bits, Nothing}
+use Rattle.repair.specs.Steps.Repair.{Accounts, Repairs}
 
 pub difference-lt : (h : ℕ) → differenceIn h < 2 ^ 10
 unfolding left
@@ -29,10 +32,6 @@ difference-lt h = subst (λ (n : ℕ). n < 2 ^ 10) (left-difference h) (remainde
 pub counted : (a b : ℕ) → a < 2 ^ 32 → b < 2 ^ 32 → ones (bitXor a b) ≡ distance a b
 unfolding distance differences
 counted a b ha hb = ones-all 32 (bitXor a b) (xor-lt 32 a b ha hb)
-
-low-near : (received header : ℕ) → differences 31 received header ≤ distance received header
-unfolding distance differences
-low-near received header = omega (arith, ones-top 31 (bitXor received header))
 
 -- ---- a header with bits turned over
 

@@ -11,8 +11,8 @@ use Rattle.header.specs.Fields.{fieldsIn}
 use Rattle.header.specs.Typed.{HasFormat}
 use Rattle.header.specs.Valid.{lengthIn}
 use Rattle.header.proofs.Typed.{one-format}
-use Rattle.mending.specs.Mends.{ValidWithin, distance}
-use Rattle.mending.proofs.Unique.{one-near}
+use Rattle.distance.specs.Distance.{ValidWithin, distance}
+use Rattle.distance.proofs.Unique.{one-near}
 use Rattle.checksum.specs.Checksum.{checksumBytes}
 use Rattle.refusals.specs.declared.Refusal.{Refusal}
 use Rattle.refusals.specs.declared.Refusal.the-variants.{Short, NoHeader, OtherType, OtherLength, CutOff, Checksum, Malformed, NoRoom, NoCode, Empty, TooLong, OtherFormat}

@@ -10,7 +10,7 @@ use Rattle.header.specs.declared.Format.{Format}
 use Rattle.header.specs.Fields.{fieldsIn}
 use Rattle.header.specs.Typed.{HasFormat}
 use Rattle.header.specs.Valid.{lengthIn}
-use Rattle.mending.specs.Mends.{ValidWithin, distance}
+use Rattle.distance.specs.Distance.{ValidWithin, distance}
 use Rattle.checksum.specs.Checksum.{checksumBytes}
 use Rattle.refusals.specs.declared.Refusal.{Refusal}
 use Rattle.refusals.specs.declared.Refusal.the-variants.{Short, NoHeader, OtherType, OtherLength, CutOff, Checksum, Malformed, NoRoom, NoCode, Empty, TooLong, OtherFormat}

@@ -7,7 +7,7 @@ use lib.ListN.{length, take, drop}
 use Rattle.header.specs.declared.Format.{Format}
 use Rattle.header.specs.Fields.{fieldsIn}
 use Rattle.header.specs.Valid.{lengthIn}
-use Rattle.mending.specs.Mends.{distance}
+use Rattle.distance.specs.Distance.{distance}
 use Rattle.codes.specs.Steps.Measure.{ReadsIntoBuffer}
 use Rattle.codes.specs.Steps.Size.{longest, Needs, PutsData}
 use Rattle.codes.specs.declared.Needed.{Needed}

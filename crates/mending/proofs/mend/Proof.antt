@@ -6,7 +6,7 @@ use native.Mathlib.Omega.{arith}
 use borrow.Author.Needs.{needs}
 use lib.Bits.{bitXor}
 use lib.Count.{ones}
-use Rattle.mending.specs.Mends.{distance}
+use Rattle.distance.specs.Distance.{distance}
 use Rattle.mending.proofs.Turned.{difference-lt, counted, Turned, turned-valid, none-nearer, repaired, unrepaired}
 use Rattle.mending.proofs.mend.Statement.{statement}
 use Rattle.mending.proofs.mend.Tie as tie

@@ -16,7 +16,8 @@ use Rattle.header.specs.Typed.{HasFormat, FormatInHeader}
 use Rattle.header.specs.Valid.{lengthIn}
 use Rattle.mending.specs.declared.Mending.{Mending}
 use Rattle.mending.specs.declared.Mending.the-variants.{Mended, Hopeless}
-use Rattle.mending.specs.Mends.{ValidWithin, Mends, distance}
+use Rattle.distance.specs.Distance.{ValidWithin, distance}
+use Rattle.mending.specs.Mends.{Mends}
 use Rattle.codes.specs.Steps.Size.{longest}
 use Rattle.packet.specs.Packet.{received}
 use Rattle.packet.specs.Reader.{Fault}

@@ -1,10 +1,10 @@
--- `mending::folded` meets its contract: each row of the table is computed.
+-- `repair::folded` meets its contract: each row of the table is computed.
 -- Assumes nothing.
 use mathlib.Core.Path.{refl}
-use Rattle.mending.specs.Steps.Repair.{foldedOf, raised, up, first, second}
-use Rattle.mending.proofs.Rows.{row, last}
-use Rattle.mending.proofs.folded.Statement.{statement}
-use Rattle.mending.proofs.folded.Tie as tie
+use Rattle.repair.specs.Steps.Repair.{foldedOf, raised, up, first, second}
+use Rattle.repair.proofs.Rows.{row, last}
+use Rattle.repair.proofs.folded.Statement.{statement}
+use Rattle.repair.proofs.folded.Tie as tie
 
 pub folded-spec : {M : Type 1} → statement M
 unfolding foldedOf raised up first second

@@ -6,17 +6,16 @@ use mathlib.Core.Logic.{_⊎_, inl, inr}
 use Prim.Native.Nat.{ℕ, suc, _^_, _<_}
 use native.Mathlib.Nat.{eq-zero-or-pos}
 use native.Mathlib.Omega.{arith}
-use Rattle.bits.specs.Word.{differences}
-use Rattle.bits.proofs.Ones.{flip, flip-nearer, differences-same}
+use Rattle.bits.proofs.Ones.{flip}
 use Rattle.header.specs.Valid.{Valid}
-use Rattle.mending.specs.Mends.{distance, ValidWithin}
+use Rattle.distance.specs.Distance.{distance, ValidWithin}
+use Rattle.distance.proofs.Words.{none-apart, nearer}
 
 different : (received header : ℕ) → received < 2 ^ 32 → (Valid received → ⊥) → Valid header → 0 < distance received header
-unfolding distance
-different received header lt bad v = pick (eq-zero-or-pos (differences 32 received header))
+different received header lt bad v = pick (eq-zero-or-pos (distance received header))
   where
-    pick : (differences 32 received header ≡ 0) ⊎ (0 < differences 32 received header) → 0 < differences 32 received header
-    pick (inl e) = absurd (bad (subst Valid (sym (differences-same 32 received header lt (v .bits) e)) v))
+    pick : (distance received header ≡ 0) ⊎ (0 < distance received header) → 0 < distance received header
+    pick (inl e) = absurd (bad (subst Valid (sym (none-apart received header lt (v .bits) e)) v))
     pick (inr p) = p
 
 pub none-at : (received : ℕ) → received < 2 ^ 32 → (Valid received → ⊥) → (header : ℕ) → ValidWithin 0 received header → ⊥
@@ -27,7 +26,6 @@ none-at received lt bad header n =
 pub none-around : (limit received : ℕ) → received < 2 ^ 32 → (Valid received → ⊥)
     → ((place : ℕ) → place < 32 → (header : ℕ) → ValidWithin limit (flip place received) header → ⊥)
     → (header : ℕ) → ValidWithin (suc limit) received header → ⊥
-unfolding distance
 none-around limit received lt bad none header n =
-    let way = flip-nearer 32 received header (different received header lt bad (n .valid)) in
+    let way = nearer received header (different received header lt bad (n .valid)) in
     none (way .0) (way .1) header (record { valid = n .valid; near = omega (arith, n .near, way .2) })

@@ -1,7 +1,7 @@
 -- Two different valid headers differ in at least five bits. The remainder goes through sums, so the bits in which two valid headers differ leave
 -- nothing, and one computed walk over the 31 remainders of single bits shows that no one to four bits do.
 -- Assumes nothing.
-use mathlib.Core.Path.{_≡_, refl, sym, ap, ap₂, _∙_, subst}
+use mathlib.Core.Path.{_≡_, sym, ap, ap₂, _∙_, subst}
 use mathlib.Core.Bool.{Bool, true, not, _&&_}
 use mathlib.Core.List.{List, [], _∷_}
 use mathlib.Core.Logic.{_⊎_, inl, inr}
@@ -11,21 +11,21 @@ use native.Mathlib.Decide.{decLe}
 use native.Mathlib.Numerals.{add-one}
 use native.Mathlib.Omega.{arith}
 use lib.Arith.{lt-one}
-use lib.Bits.{bitXor, xor-shifted, xor-mod, xor-self, xor-comm, xor-lt}
+use lib.Bits.{bitXor, xor-shifted, xor-mod, xor-comm, xor-lt}
 use lib.Count.{onesIn}
-use lib.Dec.{T, T-not, eqb, lit≤}
-use lib.Pow.{pow-pos, split, mod-pow-add, shr-lt}
+use lib.Dec.{T, T-not, eqb}
+use lib.Pow.{pow-pos, split, shr-lt}
 use Rattle.bits.specs.Word.{differences}
 use Rattle.bits.proofs.Said.{and-left, and-right}
 use Rattle.bits.proofs.Xor.{digit, xor-undo, xor-zero}
 use Rattle.bits.proofs.Ones.{ones-top, ones-low, no-ones}
-use Rattle.header.specs.Check.{remainder, checkOf}
-use Rattle.header.specs.Steps.Differences.{differenceIn}
-use Rattle.header.specs.Valid.{Valid, checkIn, informationIn}
-use Rattle.header.proofs.Division.{remainder-sum, longer}
-use Rattle.header.proofs.Made.{valid-low, information-in}
-use Rattle.mending.specs.Mends.{distance}
-use Rattle.mending.specs.Steps.Repair.{left}
+use Rattle.header.specs.Check.{generator, remainder}
+use Rattle.header.specs.Valid.{Valid}
+use Rattle.header.proofs.Made.{valid-low}
+use Rattle.distance.specs.Distance.{distance}
+use Rattle.distance.specs.Steps.Left.{left}
+use Rattle.distance.proofs.Left.{left-nothing, left-sum, valid-left}
+use Rattle.distance.proofs.Words.{low-near}
 
 -- ---- the walk
 
@@ -47,14 +47,10 @@ alone zero (c ∷ cs) = true
 alone (suc w) (c ∷ cs) = alone (suc w) cs && absent w cs c
 
 four-alone : T (alone 4 (columns 31))
-unfolding alone absent columns left remainder checkOf Rattle.header.specs.Check.generator
+unfolding alone absent columns left remainder generator
 four-alone = tt
 
 -- ---- what the walk says of numbers
-
-pub left-nothing : left 0 ≡ 0
-unfolding left remainder Rattle.header.specs.Check.generator
-left-nothing = refl
 
 -- a number of k + 1 bits is one of k bits, or bit k and a number of k bits
 record Lower (k e : ℕ) : Type 0 where
@@ -68,7 +64,6 @@ record Upper (k e : ℕ) : Type 0 where
   ones : onesIn (suc k) e ≡ suc (onesIn k rest)
 
 halves : (k e : ℕ) → e < 2 ^ suc k → Lower k e ⊎ Upper k e
-unfolding left
 halves k e h = pick (digit (e / 2 ^ k) (shr-lt 1 k (subst (λ (n : ℕ). e < 2 ^ n) (sym (add-one k) ∙ add-comm k 1) h)))
   where
     whole : e / 2 ^ k * 2 ^ k + e % 2 ^ k ≡ e
@@ -90,10 +85,10 @@ halves k e h = pick (digit (e / 2 ^ k) (shr-lt 1 k (subst (λ (n : ℕ). e < 2 ^
           rest = e % 2 ^ k;
           small = mod-lt e (pow-pos k);
           leaves =
-              ap (remainder 21)
+              ap left
               (sym whole ∙ ap (λ (n : ℕ). n * 2 ^ k + e % 2 ^ k) o ∙ sym (xor-shifted 1 k (e % 2 ^ k) (mod-lt e (pow-pos k)))
               ∙ ap (λ (n : ℕ). bitXor n (e % 2 ^ k)) (one-mul (2 ^ k)))
-              ∙ remainder-sum 21 (2 ^ k) (e % 2 ^ k);
+              ∙ left-sum (2 ^ k) (e % 2 ^ k);
           ones = omega (arith, ones-top k e, ones-low k e);
         })
 
@@ -138,30 +133,6 @@ alone-law (suc k) w e t h o l = alone-step k (alone-law k) w e t h o l (halves k
 
 -- ---- two valid headers
 
-pub left-sum : (p q : ℕ) → left (bitXor p q) ≡ bitXor (left p) (left q)
-unfolding left
-left-sum = remainder-sum 21
-
-no-steps : (p : ℕ) → remainder 0 p ≡ p
-unfolding remainder
-no-steps p = refl
-
--- the 31 bits below the parity leave the difference between the check bits asked for and those that came
-pub left-difference : (h : ℕ) → left (h % 2 ^ 31) ≡ differenceIn h
-unfolding left differenceIn checkIn checkOf
-left-difference h =
-    ap (remainder 21)
-    (mod-pow-add h 21 10 ∙ sym (xor-shifted (h / 2 ^ 10 % 2 ^ 21) 10 (h % 2 ^ 10) (mod-lt h (pow-pos 10))))
-    ∙ remainder-sum 21 (h / 2 ^ 10 % 2 ^ 21 * 2 ^ 10) (h % 2 ^ 10)
-    ∙ ap₂ bitXor
-    (ap (λ (n : ℕ). remainder 21 (n * 2 ^ 10)) (sym (information-in h)))
-    (longer 0 21 (h % 2 ^ 10) (mod-lt h (pow-pos 10)) (lit≤ tt) ∙ no-steps (h % 2 ^ 10))
-
--- so those of a valid header leave nothing
-pub valid-left : (h : ℕ) → Valid h → left (h % 2 ^ 31) ≡ 0
-unfolding differenceIn
-valid-left h v = left-difference h ∙ ap (bitXor (checkOf (informationIn h))) (v .checked) ∙ xor-self (checkOf (informationIn h))
-
 -- at most four of the 31 bits apart, two valid headers are the same
 pub low-apart : (v w : ℕ) → Valid v → Valid w → onesIn 31 (bitXor v w) ≤ 4 → v ≡ w
 low-apart v w hv hw few = valid-low v w hv hw (xor-zero (v % 2 ^ 31) (w % 2 ^ 31) none)
@@ -178,8 +149,8 @@ low-apart v w hv hw few = valid-low v w hv hw (xor-zero (v % 2 ^ 31) (w % 2 ^ 31
 
 -- at most four bits apart, two valid headers are the same
 pub near-same : (v w : ℕ) → Valid v → Valid w → distance v w ≤ 4 → v ≡ w
-unfolding distance differences
-near-same v w hv hw few = low-apart v w hv hw (omega (arith, few, ones-top 31 (bitXor v w)))
+unfolding differences
+near-same v w hv hw few = low-apart v w hv hw (omega (arith, few, low-near v w))
 
 -- two different valid headers differ in at least five bits
 pub five-apart : (v w : ℕ) → Valid v → Valid w → (v ≡ w → ⊥) → 5 ≤ distance v w

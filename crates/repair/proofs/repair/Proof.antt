@@ -1,4 +1,4 @@
--- `mending::repair` meets its contract.
+-- `repair::repair` meets its contract.
 -- Assumes nothing.
 use mathlib.Core.Path.{sym, subst}
 use native.Mathlib.Nat.{mod-lt}
@@ -7,11 +7,11 @@ use Prim.Native.Nat.{ℕ, _*_, _/_, _%_, _^_, _<_}
 use borrow.Author.Needs.{needs}
 use lib.Bits.{bitXor}
 use lib.Pow.{pow-pos}
-use Rattle.mending.specs.Steps.Repair.{Accounts}
-use Rattle.mending.proofs.Accounts.{no-bits}
-use Rattle.mending.proofs.Parts.{turn-lt, place-lt, parts-small, Worked, worked-accounts, worked-none}
-use Rattle.mending.proofs.repair.Statement.{statement}
-use Rattle.mending.proofs.repair.Tie as tie
+use Rattle.repair.specs.Steps.Repair.{Accounts}
+use Rattle.repair.proofs.Accounts.{no-bits}
+use Rattle.repair.proofs.Parts.{turn-lt, place-lt, parts-small, Worked, worked-accounts, worked-none}
+use Rattle.repair.proofs.repair.Statement.{statement}
+use Rattle.repair.proofs.repair.Tie as tie
 
 returns : tie.Need-returns
 returns c = subst (λ (n : ℕ). Accounts n 0) (sym (c .if1 .taken)) no-bits

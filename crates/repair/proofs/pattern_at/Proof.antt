@@ -1,4 +1,4 @@
--- `mending::pattern_at` meets its contract: each row of the table is computed.
+-- `repair::pattern_at` meets its contract: each row of the table is computed.
 -- Assumes nothing.
 use mathlib.Core.List.{List, [], _∷_}
 use mathlib.Core.Bool.{Bool, cond}
@@ -7,10 +7,10 @@ use mathlib.Core.Path.{_≡_, refl, sym, ap, _∙_}
 use Prim.Native.Nat.{ℕ, _+_}
 use borrow.Author.Tests.{ne-eqb}
 use lib.Dec.{eqb}
-use Rattle.mending.specs.Steps.Repair.{patterns, patternIn, patternAt}
-use Rattle.mending.proofs.Rows.{row}
-use Rattle.mending.proofs.pattern_at.Statement.{statement}
-use Rattle.mending.proofs.pattern_at.Tie as tie
+use Rattle.repair.specs.Steps.Repair.{patterns, patternIn, patternAt}
+use Rattle.repair.proofs.Rows.{row}
+use Rattle.repair.proofs.pattern_at.Statement.{statement}
+use Rattle.repair.proofs.pattern_at.Tie as tie
 
 -- the row of a place and of the place 31 above it
 rows : {place entry : ℕ} (low high : ℕ) → (place ≡ low) ⊎ (place ≡ high) → entry ≡ patternAt low → entry ≡ patternAt high → entry ≡ patternAt place

@@ -1,10 +1,10 @@
--- `mending::turned_down` meets its contract.
+-- `repair::turned_down` meets its contract.
 -- Assumes nothing.
 use mathlib.Core.Path.{refl}
 use borrow.Author.Needs.{needs}
-use Rattle.mending.specs.Steps.Repair.{turnedDown}
-use Rattle.mending.proofs.turned_down.Statement.{statement}
-use Rattle.mending.proofs.turned_down.Tie as tie
+use Rattle.repair.specs.Steps.Repair.{turnedDown}
+use Rattle.repair.proofs.turned_down.Statement.{statement}
+use Rattle.repair.proofs.turned_down.Tie as tie
 
 mul-twice : tie.Need-mul-twice
 mul-twice c = search needs

@@ -1,10 +1,10 @@
--- `mending::place_of` meets its contract: each row of the table is computed.
+-- `repair::place_of` meets its contract: each row of the table is computed.
 -- Assumes nothing.
 use mathlib.Core.Path.{refl}
-use Rattle.mending.specs.Steps.Repair.{placeOf, powerBetween, up, second, nowhere}
-use Rattle.mending.proofs.Rows.{row, last}
-use Rattle.mending.proofs.place_of.Statement.{statement}
-use Rattle.mending.proofs.place_of.Tie as tie
+use Rattle.repair.specs.Steps.Repair.{placeOf, powerBetween, up, second, nowhere}
+use Rattle.repair.proofs.Rows.{row, last}
+use Rattle.repair.proofs.place_of.Statement.{statement}
+use Rattle.repair.proofs.place_of.Tie as tie
 
 pub place-of-spec : {M : Type 1} → statement M
 unfolding placeOf powerBetween up second nowhere

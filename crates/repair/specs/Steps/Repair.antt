@@ -8,13 +8,9 @@ use Prim.Native.Nat.{ℕ, zero, suc, _+_, _*_, _/_, _%_, _^_, _≤_, _<_}
 use lib.Bits.{bitXor}
 use lib.Count.{onesIn}
 use lib.Dec.{eqb}
-use Rattle.header.specs.Check.{remainder}
-use Rattle.mending.specs.declared.Cause.{Cause}
-use Rattle.mending.specs.declared.Cause.the-variants.{Bits, Nothing}
-
--- what 31 bits leave
-unfoldable pub left : ℕ → ℕ
-left = remainder 21
+use Rattle.distance.specs.Steps.Left.{left}
+use Rattle.repair.specs.declared.Cause.{Cause}
+use Rattle.repair.specs.declared.Cause.the-variants.{Bits, Nothing}
 
 -- the ones of a mask are at most two of the 31 bits, and account for a difference
 pub record Accounts (difference mask : ℕ) : Type 0 where

@@ -12,8 +12,9 @@ use lib.Pow.{pow-lt}
 use Rattle.bits.specs.Word.{differences}
 use Rattle.bits.proofs.Xor.{xor-zero}
 use Rattle.bits.proofs.Ones.{flip, flip-nearer, no-ones, differences-self}
-use Rattle.mending.specs.Steps.Repair.{left, Accounts}
-use Rattle.mending.proofs.Apart.{left-nothing, left-sum}
+use Rattle.distance.specs.Steps.Left.{left}
+use Rattle.distance.proofs.Left.{left-nothing, left-sum}
+use Rattle.repair.specs.Steps.Repair.{Accounts}
 
 -- what the bit at a place leaves: its column
 unfoldable pub columnAt : ℕ → ℕ

@@ -14,12 +14,13 @@ use lib.Count.{onesIn}
 use lib.Dec.{T, eqb, leb, ltb, eqb→eq, leb→le, ltb→lt}
 use lib.ListN.{getD}
 use lib.Pow.{pow-pos}
+use Rattle.bits.proofs.All.{all, all-at}
 use Rattle.bits.proofs.Said.{and-left, and-right}
 use Rattle.bits.proofs.Xor.{xor-undo}
 use Rattle.header.specs.Check.{generator, remainder}
-use Rattle.mending.specs.Steps.Repair.{left, Accounts, first, second, up, raised, foldedOf, nowhere, powerBetween, turnFor, placeOf, patternIn, patternAt, turnedDown}
-use Rattle.mending.proofs.All.{all, all-at}
-use Rattle.mending.proofs.Accounts.{columnAt, none-account}
+use Rattle.distance.specs.Steps.Left.{left}
+use Rattle.repair.specs.Steps.Repair.{Accounts, first, second, up, raised, foldedOf, nowhere, powerBetween, turnFor, placeOf, patternIn, patternAt, turnedDown}
+use Rattle.repair.proofs.Accounts.{columnAt, none-account}
 
 -- ---- what is worked out of a difference
 

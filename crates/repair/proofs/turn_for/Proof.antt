@@ -1,9 +1,9 @@
--- `mending::turn_for` meets its contract: each row of the table is computed.
+-- `repair::turn_for` meets its contract: each row of the table is computed.
 -- Assumes nothing.
-use Rattle.mending.specs.Steps.Repair.{turnFor, powerBetween, up, first, nowhere}
-use Rattle.mending.proofs.Rows.{row-tested, last}
-use Rattle.mending.proofs.turn_for.Statement.{statement}
-use Rattle.mending.proofs.turn_for.Tie as tie
+use Rattle.repair.specs.Steps.Repair.{turnFor, powerBetween, up, first, nowhere}
+use Rattle.repair.proofs.Rows.{row-tested, last}
+use Rattle.repair.proofs.turn_for.Statement.{statement}
+use Rattle.repair.proofs.turn_for.Tie as tie
 
 pub turn-for-spec : {M : Type 1} → statement M
 unfolding turnFor powerBetween up first nowhere
