@@ -67,20 +67,20 @@ module _ {received mask header : ℕ} (t : Turned received mask header) where
       omega (arith, ones-low 31 (bitXor received header), ap (onesIn 31) turned, t .account .few)
 
   -- a valid header within two bits is this one
-  near-is : (v : ℕ) → ValidWithin 2 received v → header ≡ v
+  near-is : (limit v : ℕ) → limit ≤ 2 → ValidWithin limit received v → header ≡ v
   unfolding differences
-  near-is v n =
+  near-is limit v le n =
       low-apart header v turned-valid (n .valid)
       (omega (arith, differences-round 31 header received v, differences-comm 31 header received, few, low-near received v, n .near))
 
-  pub none-nearer : 2 < distance received header → (v : ℕ) → ValidWithin 2 received v → ⊥
-  none-nearer far v n = omega (arith, far, n .near, ap (distance received) (near-is v n))
+  pub none-nearer : (limit : ℕ) → limit ≤ 2 → limit < distance received header → (v : ℕ) → ValidWithin limit received v → ⊥
+  none-nearer limit le far v n = omega (arith, far, n .near, ap (distance received) (near-is limit v le n))
 
 -- ---- where no bits account for the difference
 
-pub none-within : (received : ℕ) → ((mask : ℕ) → Accounts (differenceIn received) mask → ⊥) → (v : ℕ) → ValidWithin 2 received v → ⊥
+pub none-within : (limit received : ℕ) → limit ≤ 2 → ((mask : ℕ) → Accounts (differenceIn received) mask → ⊥) → (v : ℕ) → ValidWithin limit received v → ⊥
 unfolding differences
-none-within received none v n =
+none-within limit received le none v n =
     none (bitXor received v % 2 ^ 31)
     (record {
       bits = mod-lt (bitXor received v) (pow-pos 31);
@@ -98,7 +98,7 @@ pub repaired : (received difference mask : ℕ) (cause : Cause) → difference �
     → Accounts (differenceIn received) mask
 repaired received difference mask cause d r e = subst (λ (n : ℕ). Accounts n mask) d (subst (Repairs difference) e r)
 
-pub unrepaired : (received difference : ℕ) (cause : Cause) → difference ≡ differenceIn received → Repairs difference cause → cause ≡ Nothing
-    → (v : ℕ) → ValidWithin 2 received v → ⊥
-unrepaired received difference cause d r e =
-    none-within received (subst (λ (n : ℕ). (mask : ℕ) → Accounts n mask → ⊥) d (subst (Repairs difference) e r))
+pub unrepaired : (limit received difference : ℕ) (cause : Cause) → limit ≤ 2 → difference ≡ differenceIn received → Repairs difference cause → cause ≡ Nothing
+    → (v : ℕ) → ValidWithin limit received v → ⊥
+unrepaired limit received difference cause le d r e =
+    none-within limit received le (subst (λ (n : ℕ). (mask : ℕ) → Accounts n mask → ⊥) d (subst (Repairs difference) e r))

@@ -1,6 +1,6 @@
 // Mending a received header: the valid header at most so many bits away, parity bit included (RULES, Packet).
-ghost use mathlib.Core.Path.{_≡_};
-ghost use Rattle.mending.specs.Mends.{Mends};
+ghost use Prim.Native.Nat.{_≤_};
+ghost use Rattle.mending.specs.Mends.{MendsWithin};
 use repair::Cause;
 
 pub enum Mending {
@@ -11,13 +11,14 @@ pub enum Mending {
 }
 
 impl Mending {
-    // The most bits that are mended.
+    // The most bits that a caller may have mended: within three, more than one valid header may lie.
     pub const MOST: u32 = 2;
 }
 
-// The valid header that a received word is read as.
-pub fn mend(received: u32) -> Mending
-    ensures { λ r. ⌜ Mends received r ⌝ }
+// The valid header that a received word is read as, where at most so many bits are mended.
+pub fn mend(received: u32, limit: u32) -> Mending
+    requires { ⌜ limit ≤ 2 ⌝ }
+    ensures { λ r. ⌜ MendsWithin limit received r ⌝ }
 {
     let Cause::Bits(mask) = repair::repair(header::difference(received)) else {
         return Mending::Hopeless;
@@ -25,7 +26,7 @@ pub fn mend(received: u32) -> Mending
     let turned = received ^ mask;
     let header = header::with_parity(turned);
     let bits = u32::count_ones(received ^ header);
-    if Mending::MOST < bits {
+    if limit < bits {
         return Mending::Hopeless;
     }
     Mending::Mended(header, bits)
