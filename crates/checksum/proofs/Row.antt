@@ -1,23 +1,11 @@
--- The checksum of a row of bytes: it is that of its front and then of the rest, and it is sent as two bytes that tell it.
+-- The checksum of a row of bytes is sent as two bytes that tell it.
 -- Assumes nothing.
-use mathlib.Core.Path.{_≡_, refl, sym, ap, ap₂, _∙_}
+use mathlib.Core.Path.{_≡_, refl, sym, ap₂, _∙_}
 use mathlib.Core.List.{List, [], _∷_}
-use Prim.Native.Nat.{ℕ, _+_, _-_, _*_, _/_, _%_}
-use native.Mathlib.Nat.{div-add-mod', le-of-eq}
-use lib.ListN.{length, take, drop, length-drop}
-use lib.Seq.{take-all}
-use Rattle.register.specs.Register.{start, checksumFrom}
-use Rattle.register.proofs.Row.{checksum-rest}
+use Prim.Native.Nat.{ℕ, _+_, _*_, _/_, _%_}
+use native.Mathlib.Nat.{div-add-mod'}
+use lib.ListN.{length}
 use Rattle.checksum.specs.Checksum.{checksumOf, checksumBytes}
-
--- a row in two parts, the second a slice to the end
-pub checksum-parts : (s : List ℕ) (n m q : ℕ) {r : ℕ} → m ≡ n → q ≡ checksumFrom start (take n s)
-    → r ≡ checksumFrom q (take (length s - m) (drop m s)) → r ≡ checksumOf s
-unfolding checksumOf
-checksum-parts s n m q same first rest =
-    rest
-    ∙ ap₂ checksumFrom first (take-all (length s - m) (drop m s) (le-of-eq (length-drop m s)) ∙ ap (λ (k : ℕ). drop k s) same)
-    ∙ checksum-rest n start s
 
 pub sent-length : (s : List ℕ) → length (checksumBytes s) ≡ 2
 unfolding checksumBytes

@@ -10,9 +10,7 @@ ghost use Rattle.bits.specs.Says.{Says};
 pub fn checksum(data: &[u8]) -> u16
     ensures { λ r. ⌜ r ≡ checksumOf (now («data» .entry)) ⌝ }
 {
-    let reached = register::leaving_out(data);
-    let next = reached.next;
-    register::all_steps(reached.register, &data[next..])
+    register::after(data)
 }
 
 // The byte of the checksum that is sent first.

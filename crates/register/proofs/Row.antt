@@ -2,10 +2,11 @@
 -- Assumes nothing.
 use mathlib.Core.Path.{_≡_, refl, sym, ap, ap₂, _∙_}
 use mathlib.Core.List.{List, [], _∷_, _++_}
-use Prim.Native.Nat.{ℕ, suc, _+_, _*_, _^_, _<_}
+use Prim.Native.Nat.{ℕ, suc, _+_, _-_, _*_, _^_, _<_}
+use native.Mathlib.Nat.{le-of-eq}
 use native.Mathlib.Numerals.{add-one}
-use lib.ListN.{length, getD, take, drop, take-append-drop}
-use lib.Seq.{drop-cons, take-add}
+use lib.ListN.{length, getD, take, drop, take-append-drop, length-drop}
+use lib.Seq.{drop-cons, take-add, take-all}
 use lib.Bits.{bitXor}
 use Rattle.register.specs.Register.{start, bitStep, bitSteps, byteStep, checksumFrom}
 use Rattle.register.proofs.Register.{bit-lt, steps-lt}
@@ -41,6 +42,14 @@ checksum-rest i r s = sym (checksum-append r (take i s) (drop i s)) ∙ ap (chec
 pub checksum-none : 0xFFFF ≡ checksumFrom start []
 unfolding checksumFrom start
 checksum-none = refl
+
+-- a row in two parts, the second a slice to the end
+pub checksum-parts : (s : List ℕ) (n m q : ℕ) {r : ℕ} → m ≡ n → q ≡ checksumFrom start (take n s)
+    → r ≡ checksumFrom q (take (length s - m) (drop m s)) → r ≡ checksumFrom start s
+checksum-parts s n m q same first rest =
+    rest
+    ∙ ap₂ checksumFrom first (take-all (length s - m) (drop m s) (le-of-eq (length-drop m s)) ∙ ap (λ (k : ℕ). drop k s) same)
+    ∙ checksum-rest n start s
 
 pub byte-lt : (r b : ℕ) → byteStep r b < 2 ^ 16
 unfolding byteStep bitSteps

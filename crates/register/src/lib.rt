@@ -64,7 +64,7 @@ fn most_steps(register: u16, data: &[u8]) -> u16
 }
 
 // The register after the data, byte by byte.
-pub fn all_steps(register: u16, data: &[u8]) -> u16
+fn all_steps(register: u16, data: &[u8]) -> u16
     ensures { λ r. ⌜ r ≡ checksumFrom register (now («data» .entry)) ⌝ }
 {
     let mut moved = most_steps(register, data);
@@ -172,13 +172,13 @@ fn last_steps(carry: Carry, data: &[u8], i: usize) -> u16
 }
 
 // The register after the bytes in front of a place.
-pub struct Reached {
-    pub register: u16,
-    pub next: usize,
+struct Reached {
+    register: u16,
+    next: usize,
 }
 
 // The register after most of the data, by words that are left out. Below 48 bytes there is nothing to gain.
-pub fn leaving_out(data: &[u8]) -> Reached
+fn leaving_out(data: &[u8]) -> Reached
     ensures { λ r. ⌜ (r .next ≤ length (now («data» .entry))) × (r .register ≡ checksumFrom start (take (r .next) (now («data» .entry)))) ⌝ }
 {
     if data.len() < 48 {
@@ -201,4 +201,13 @@ pub fn leaving_out(data: &[u8]) -> Reached
         register: last_steps(carry, data, i),
         next: i + 24,
     }
+}
+
+// What the register holds after the data, of any length, from its start.
+pub fn after(data: &[u8]) -> u16
+    ensures { λ r. ⌜ r ≡ checksumFrom start (now («data» .entry)) ⌝ }
+{
+    let reached = leaving_out(data);
+    let next = reached.next;
+    all_steps(reached.register, &data[next..])
 }
