@@ -131,6 +131,10 @@ alone-law : (k : ℕ) → Alone k
 alone-law zero w e t h o l = lt-one h
 alone-law (suc k) w e t h o l = alone-step k (alone-law k) w e t h o l (halves k e h)
 
+-- no one to four of the 31 bits leave nothing
+pub four-leave : (e : ℕ) → e < 2 ^ 31 → onesIn 31 e ≤ 4 → left e ≡ 0 → e ≡ 0
+four-leave e h few l = alone-law 31 4 e four-alone h few l
+
 -- ---- two valid headers
 
 -- at most four of the 31 bits apart, two valid headers are the same
@@ -142,7 +146,7 @@ low-apart v w hv hw few = valid-low v w hv hw (xor-zero (v % 2 ^ 31) (w % 2 ^ 31
 
     none : bitXor (v % 2 ^ 31) (w % 2 ^ 31) ≡ 0
     none =
-        alone-law 31 4 (bitXor (v % 2 ^ 31) (w % 2 ^ 31)) four-alone
+        four-leave (bitXor (v % 2 ^ 31) (w % 2 ^ 31))
         (xor-lt 31 (v % 2 ^ 31) (w % 2 ^ 31) (mod-lt v (pow-pos 31)) (mod-lt w (pow-pos 31)))
         (omega (arith, ap (onesIn 31) parts, ones-low 31 (bitXor v w)))
         (left-sum (v % 2 ^ 31) (w % 2 ^ 31) ∙ ap₂ bitXor (valid-left v hv) (valid-left w hw))
