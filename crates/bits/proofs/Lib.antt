@@ -1,3 +1,4 @@
+pub mod All
 pub mod Ones
 pub mod Said
 pub mod Xor

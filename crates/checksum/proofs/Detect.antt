@@ -10,9 +10,11 @@ use lib.Dec.{lit<}
 use lib.Bits.{bitXor, xor-comm, xor-shifted}
 use Rattle.bits.specs.Row.{Bytes}
 use Rattle.bits.proofs.Xor.{xor-assoc}
-use Rattle.checksum.proofs.Register.{steps-xor, steps-add, steps-low, steps-tell}
-use Rattle.checksum.proofs.Row.{byte-lt, sent-tells}
-use Rattle.checksum.specs.Checksum.{start, bitSteps, byteStep, checksumFrom, checksumOf, checksumBytes}
+use Rattle.register.specs.Register.{start, bitSteps, byteStep, checksumFrom}
+use Rattle.register.proofs.Register.{steps-xor, steps-add, steps-low, steps-tell}
+use Rattle.register.proofs.Row.{byte-lt}
+use Rattle.checksum.proofs.Row.{sent-tells}
+use Rattle.checksum.specs.Checksum.{checksumOf, checksumBytes}
 use Rattle.checksum.specs.Alike.{AlikeBut}
 use Rattle.checksum.proofs.Alike.{head, tail, back}
 

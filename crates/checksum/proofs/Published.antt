@@ -3,7 +3,8 @@
 use mathlib.Core.Path.{_≡_, refl, ap}
 use mathlib.Core.List.{List, [], _∷_}
 use Prim.Native.Nat.{ℕ, zero, suc, _/_, _%_}
-use Rattle.checksum.specs.Checksum.{feedback, start, bitStep, bitSteps, byteStep, checksumFrom, checksumOf, checksumBytes}
+use Rattle.register.specs.Register.{feedback, start, bitStep, bitSteps, byteStep, checksumFrom}
+use Rattle.checksum.specs.Checksum.{checksumOf, checksumBytes}
 
 -- n numbers, from k upward
 unfoldable pub upward : ℕ → ℕ → List ℕ

@@ -14,7 +14,7 @@ use Rattle.header.specs.Fields.{fieldsIn, bytesOf}
 use Rattle.header.specs.Typed.{formatNumber}
 use Rattle.header.specs.Valid.{lengthIn}
 use Rattle.header.proofs.Typed.{one-number}
-use Rattle.mending.specs.Mends.{distance}
+use Rattle.distance.specs.Distance.{distance}
 use Rattle.checksum.specs.Checksum.{checksumBytes}
 use Rattle.formats.specs.Data.{Carries, AllCoded, comesBack, dataOf}
 use Rattle.formats.proofs.Formats.{carries-coded, carries-kept, carries-some, data-some, no-fewer, writer-carries}

@@ -12,6 +12,7 @@ use lib.ListN.{length, length-append}
 use lib.Pow.{pow-lt}
 use Rattle.bits.specs.Row.{bits}
 use Rattle.bits.specs.Word.{bit, differences}
+use Rattle.bits.proofs.All.{all, all-at}
 use Rattle.bits.proofs.Ones.{flip}
 use Rattle.bits.proofs.Said.{and-left, and-right, and-both}
 use Rattle.header.specs.declared.Format.{Format}
@@ -23,9 +24,9 @@ use Rattle.header.specs.Valid.{Valid, flagIn, lengthIn, checkIn, informationIn}
 use Rattle.header.specs.Fields.{fieldsIn, headerOf, lowFlag, bytesOf}
 use Rattle.header.specs.Typed.{HasFormat, formatNumber}
 use Rattle.mending.specs.declared.Mending.the-variants.{Mended}
-use Rattle.mending.specs.Mends.{distance, ValidWithin, MendsWithin}
-use Rattle.mending.proofs.All.{all, all-at}
-use Rattle.mending.proofs.Search.{none-at, none-around}
+use Rattle.distance.specs.Distance.{distance, ValidWithin}
+use Rattle.mending.specs.Mends.{MendsWithin}
+use Rattle.distance.proofs.Search.{none-at, none-around}
 use Rattle.codes.specs.Chain.{Scheme, stateAfter, codes, Builds, Stuck}
 use Rattle.codes.specs.Pack.{low, numbers, value, bytes, packed, gap, filled, written}
 use Rattle.codes.proofs.Beginning.{begun}

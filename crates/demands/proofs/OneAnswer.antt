@@ -11,7 +11,7 @@ use Rattle.header.specs.declared.Format.{Format}
 use Rattle.header.specs.Fields.{fieldsIn, wordOf}
 use Rattle.header.specs.Typed.{HasFormat}
 use Rattle.header.specs.Valid.{lengthIn}
-use Rattle.mending.specs.Mends.{ValidWithin}
+use Rattle.distance.specs.Distance.{ValidWithin}
 use Rattle.checksum.specs.Checksum.{checksumBytes}
 use Rattle.formats.specs.Data.{Carries, Unreadable}
 use Rattle.refusals.specs.declared.ExamineRefusal.{ExamineRefusal}

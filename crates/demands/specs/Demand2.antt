@@ -13,7 +13,7 @@ use lib.ListN.{length, drop}
 use Rattle.bits.specs.Row.{Bytes}
 use Rattle.header.specs.declared.Format.{Format}
 use Rattle.header.specs.Typed.{formatNumber}
-use Rattle.mending.specs.Mends.{distance}
+use Rattle.distance.specs.Distance.{distance}
 use Rattle.formats.specs.Data.{AllCoded, comesBack, dataOf}
 use Rattle.refusals.specs.declared.WriteRefusal.the-variants.{Empty}
 use Rattle.packet.specs.declared.Terms.{Terms}

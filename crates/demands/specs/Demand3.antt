@@ -12,7 +12,7 @@ use lib.ListN.{length, drop}
 use Rattle.bits.specs.Row.{Bytes}
 use Rattle.header.specs.declared.Format.{Format}
 use Rattle.header.specs.Fields.{bytesOf}
-use Rattle.mending.specs.Mends.{distance}
+use Rattle.distance.specs.Distance.{distance}
 use Rattle.checksum.specs.Alike.{AlikeBut}
 use Rattle.checksum.specs.Checksum.{checksumBytes}
 use Rattle.formats.specs.Data.{comesBack}

@@ -7,7 +7,7 @@ use Prim.Native.Nat.{ℕ, _+_, _^_, _≤_, _<_}
 use lib.ListN.{length, drop}
 use Rattle.header.specs.declared.Format.{Format}
 use Rattle.header.specs.Fields.{bytesOf}
-use Rattle.mending.specs.Mends.{distance}
+use Rattle.distance.specs.Distance.{distance}
 use Rattle.formats.specs.Data.{Carries, AllCoded, comesBack}
 use Rattle.packet.specs.declared.Reading.{Reading}
 use Rattle.packet.specs.declared.Terms.{Terms}

@@ -8,7 +8,7 @@ use mathlib.Core.Path.{_≡_}
 use Prim.Native.Nat.{ℕ, _+_, _≤_, _<_}
 use lib.ListN.{length}
 use Rattle.header.specs.Valid.{lengthIn}
-use Rattle.mending.specs.Mends.{ValidWithin}
+use Rattle.distance.specs.Distance.{ValidWithin}
 use Rattle.refusals.specs.declared.ExamineRefusal.{ExamineRefusal}
 use Rattle.refusals.specs.declared.ReadRefusal.the-variants.{Packet, NoRoom}
 use Rattle.packet.specs.declared.Terms.{Terms}

@@ -1,4 +1,4 @@
--- The check bits (001, 3.2; 01, "Check bits"): BCH (31,21). Times 2^10 and divided as a polynomial over two values by
+-- The check bits (001, 3.2; RULES, Packet): BCH (31,21). Times 2^10 and divided as a polynomial over two values by
 -- x^10 + x^9 + x^8 + x^6 + x^5 + x^3 + 1, the 21 information bits leave the 10 check bits as remainder.
 -- A polynomial over two values is a number: its bit k is the coefficient of x^k. Sum and difference are the exclusive or.
 -- Assumes nothing.

@@ -9,18 +9,21 @@ use lib.Bits.{bitXor, xor-lt, xor-mod, xor-self, xor-zero-r}
 use lib.Count.{ones, onesIn}
 use lib.Pow.{pow-pos}
 use Rattle.bits.specs.Word.{differences}
-use Rattle.bits.proofs.Ones.{ones-all, ones-low, ones-top, differences-comm, differences-round}
+use Rattle.bits.proofs.Ones.{ones-all, ones-low, differences-comm, differences-round}
 use Rattle.bits.proofs.Xor.{xor-undo, xor-zero}
 use Rattle.header.specs.Check.{checkOf}
 use Rattle.header.specs.Flag.{Odd}
 use Rattle.header.specs.Steps.Differences.{differenceIn}
 use Rattle.header.specs.Valid.{Valid, flagIn, checkIn, informationIn}
 use Rattle.header.proofs.Division.{remainder-lt}
-use Rattle.mending.specs.declared.Cause.{Cause}
-use Rattle.mending.specs.declared.Cause.the-variants.{Bits, Nothing}
-use Rattle.mending.specs.Mends.{distance, ValidWithin}
-use Rattle.mending.specs.Steps.Repair.{left, Accounts, Repairs}
-use Rattle.mending.proofs.Apart.{left-sum, left-difference, valid-left, low-apart}
+use Rattle.distance.specs.Distance.{distance, ValidWithin}
+use Rattle.distance.specs.Steps.Left.{left}
+use Rattle.distance.proofs.Apart.{low-apart}
+use Rattle.distance.proofs.Left.{left-sum, left-difference, valid-left}
+use Rattle.distance.proofs.Words.{low-near}
+use Rattle.repair.specs.declared.Cause.{Cause}
+use Rattle.repair.specs.declared.Cause.the-variants.{Bits, Nothing}
+use Rattle.repair.specs.Steps.Repair.{Accounts, Repairs}
 
 pub difference-lt : (h : ℕ) → differenceIn h < 2 ^ 10
 unfolding left
@@ -29,10 +32,6 @@ difference-lt h = subst (λ (n : ℕ). n < 2 ^ 10) (left-difference h) (remainde
 pub counted : (a b : ℕ) → a < 2 ^ 32 → b < 2 ^ 32 → ones (bitXor a b) ≡ distance a b
 unfolding distance differences
 counted a b ha hb = ones-all 32 (bitXor a b) (xor-lt 32 a b ha hb)
-
-low-near : (received header : ℕ) → differences 31 received header ≤ distance received header
-unfolding distance differences
-low-near received header = omega (arith, ones-top 31 (bitXor received header))
 
 -- ---- a header with bits turned over
 
@@ -68,20 +67,20 @@ module _ {received mask header : ℕ} (t : Turned received mask header) where
       omega (arith, ones-low 31 (bitXor received header), ap (onesIn 31) turned, t .account .few)
 
   -- a valid header within two bits is this one
-  near-is : (v : ℕ) → ValidWithin 2 received v → header ≡ v
+  near-is : (limit v : ℕ) → limit ≤ 2 → ValidWithin limit received v → header ≡ v
   unfolding differences
-  near-is v n =
+  near-is limit v le n =
       low-apart header v turned-valid (n .valid)
       (omega (arith, differences-round 31 header received v, differences-comm 31 header received, few, low-near received v, n .near))
 
-  pub none-nearer : 2 < distance received header → (v : ℕ) → ValidWithin 2 received v → ⊥
-  none-nearer far v n = omega (arith, far, n .near, ap (distance received) (near-is v n))
+  pub none-nearer : (limit : ℕ) → limit ≤ 2 → limit < distance received header → (v : ℕ) → ValidWithin limit received v → ⊥
+  none-nearer limit le far v n = omega (arith, far, n .near, ap (distance received) (near-is limit v le n))
 
 -- ---- where no bits account for the difference
 
-pub none-within : (received : ℕ) → ((mask : ℕ) → Accounts (differenceIn received) mask → ⊥) → (v : ℕ) → ValidWithin 2 received v → ⊥
+pub none-within : (limit received : ℕ) → limit ≤ 2 → ((mask : ℕ) → Accounts (differenceIn received) mask → ⊥) → (v : ℕ) → ValidWithin limit received v → ⊥
 unfolding differences
-none-within received none v n =
+none-within limit received le none v n =
     none (bitXor received v % 2 ^ 31)
     (record {
       bits = mod-lt (bitXor received v) (pow-pos 31);
@@ -99,7 +98,7 @@ pub repaired : (received difference mask : ℕ) (cause : Cause) → difference �
     → Accounts (differenceIn received) mask
 repaired received difference mask cause d r e = subst (λ (n : ℕ). Accounts n mask) d (subst (Repairs difference) e r)
 
-pub unrepaired : (received difference : ℕ) (cause : Cause) → difference ≡ differenceIn received → Repairs difference cause → cause ≡ Nothing
-    → (v : ℕ) → ValidWithin 2 received v → ⊥
-unrepaired received difference cause d r e =
-    none-within received (subst (λ (n : ℕ). (mask : ℕ) → Accounts n mask → ⊥) d (subst (Repairs difference) e r))
+pub unrepaired : (limit received difference : ℕ) (cause : Cause) → limit ≤ 2 → difference ≡ differenceIn received → Repairs difference cause → cause ≡ Nothing
+    → (v : ℕ) → ValidWithin limit received v → ⊥
+unrepaired limit received difference cause le d r e =
+    none-within limit received le (subst (λ (n : ℕ). (mask : ℕ) → Accounts n mask → ⊥) d (subst (Repairs difference) e r))

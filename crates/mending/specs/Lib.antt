@@ -1,2 +1,1 @@
 pub mod Mends
-pub mod Steps

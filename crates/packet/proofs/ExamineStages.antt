@@ -11,7 +11,7 @@ use Rattle.header.specs.Fields.{fieldsIn}
 use Rattle.header.specs.Typed.{HasFormat}
 use Rattle.header.specs.Valid.{lengthIn}
 use Rattle.header.proofs.Typed.{one-format}
-use Rattle.mending.specs.Mends.{ValidWithin}
+use Rattle.distance.specs.Distance.{ValidWithin}
 use Rattle.checksum.specs.Checksum.{checksumBytes}
 use Rattle.formats.specs.Data.{Carries, Unreadable}
 use Rattle.formats.proofs.Formats.{never-unreadable}

@@ -3,20 +3,16 @@
 use mathlib.Core.List.{List}
 use mathlib.Core.Path.{_≡_, subst}
 use Prim.Native.Nat.{ℕ}
-use native.Mathlib.Omega.{arith}
-use Rattle.mending.specs.Mends.{ValidWithin}
-use Rattle.mending.proofs.Unique.{one-near}
+use Rattle.distance.specs.Distance.{ValidWithin}
+use Rattle.distance.proofs.Unique.{one-near}
 use Rattle.packet.specs.declared.Terms.{Terms}
 use Rattle.packet.specs.Examine.{UnderHeader}
 use Rattle.packet.specs.Packet.{received}
 use Rattle.packet.specs.Terms.{MayBeNamed}
 
 module _ (terms : Terms) (named : MayBeNamed terms) (packet : List ℕ) where
-  wide : (header : ℕ) → ValidWithin (terms .mend) (received packet) header → ValidWithin 2 (received packet) header
-  wide header near = record { valid = near .valid; near = omega (arith, near .near, named .bits) }
-
   pub one-header : (v w : ℕ) → ValidWithin (terms .mend) (received packet) v → ValidWithin (terms .mend) (received packet) w → v ≡ w
-  one-header v w p q = one-near (received packet) v w (wide v p) (wide w q)
+  one-header v w = one-near (terms .mend) (received packet) v w (named .bits)
 
   -- a condition, of a header that the packet is read as
   pub under : (Condition : ℕ → Type 0) (header : ℕ) → ValidWithin (terms .mend) (received packet) header → UnderHeader terms packet Condition

@@ -9,7 +9,7 @@ use Rattle.header.specs.declared.Format.{Format}
 use Rattle.header.specs.Fields.{fieldsIn}
 use Rattle.header.specs.Typed.{HasFormat}
 use Rattle.header.proofs.Typed.{one-format}
-use Rattle.mending.specs.Mends.{ValidWithin}
+use Rattle.distance.specs.Distance.{ValidWithin}
 use Rattle.formats.specs.Data.{Carries}
 use Rattle.formats.proofs.Formats.{carries-one}
 use Rattle.refusals.specs.declared.ExamineRefusal.{ExamineRefusal}

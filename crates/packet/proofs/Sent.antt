@@ -15,7 +15,7 @@ use Rattle.header.specs.Valid.{Valid, lengthIn}
 use Rattle.header.proofs.Bytes.{word-bytes}
 use Rattle.header.proofs.Made.{made-valid, made-reads-back}
 use Rattle.header.proofs.Typed.{number-lt}
-use Rattle.mending.specs.Mends.{ValidWithin, distance}
+use Rattle.distance.specs.Distance.{ValidWithin, distance}
 use Rattle.checksum.specs.Checksum.{checksumBytes}
 use Rattle.formats.specs.Data.{Carries}
 use Rattle.refusals.specs.declared.ExamineRefusal.the-variants.{Checksum}

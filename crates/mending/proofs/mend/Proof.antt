@@ -1,12 +1,12 @@
 -- `mending::mend` meets its contract: with the bits turned over that account for its difference and the parity set, the word is a valid header, and where
--- that is more than two bits away, none is within two.
+-- that is more bits away than the limit, none is within it.
 -- Assumes nothing.
 use mathlib.Core.Path.{_≡_}
 use native.Mathlib.Omega.{arith}
 use borrow.Author.Needs.{needs}
 use lib.Bits.{bitXor}
 use lib.Count.{ones}
-use Rattle.mending.specs.Mends.{distance}
+use Rattle.distance.specs.Distance.{distance}
 use Rattle.mending.proofs.Turned.{difference-lt, counted, Turned, turned-valid, none-nearer, repaired, unrepaired}
 use Rattle.mending.proofs.mend.Statement.{statement}
 use Rattle.mending.proofs.mend.Tie as tie
@@ -26,8 +26,9 @@ enum-told c = search needs
 returns : tie.Need-returns
 returns c =
     let r = c .before .before in
-    unrepaired (r .before .before .args .received) (r .before .difference .result) (r .repair .result) (r .before .difference .ensures) (r .repair .ensures)
-    (c .enum-told .given .1)
+    let entry = r .before .before in
+    unrepaired (entry .args .limit) (entry .args .received) (r .before .difference .result) (r .repair .result) (entry .pre) (r .before .difference .ensures)
+    (r .repair .ensures) (c .enum-told .given .1)
 
 with-parity-requires : tie.Need-with-parity-requires
 with-parity-requires c κs = search needs
@@ -53,7 +54,9 @@ far : (c : tie.After-with-parity)
 far c = counted (c .before .before .before .before .before .before .args .received) (c .with-parity .result) (omega arith) (omega arith)
 
 returns-2 : tie.Need-returns-2
-returns-2 c = none-nearer (turned (c .before)) (omega (arith, c .if1 .taken, far (c .before)))
+returns-2 c =
+    let entry = c .before .before .before .before .before .before .before in
+    none-nearer (turned (c .before)) (entry .args .limit) (entry .pre) (omega (arith, c .if1 .taken, far (c .before)))
 
 returns-3 : tie.Need-returns-3
 returns-3 c = (record { valid = turned-valid (turned (c .before)); near = omega (arith, c .if1 .left, far (c .before)) }, far (c .before))
