@@ -17,7 +17,6 @@ pub mod OneReading
 pub mod PassedEntries
 pub mod PendingBytes
 pub mod PushedBits
-pub mod ReadIntoBuffer
 pub mod ReadSoFar
 pub mod ReadingAgrees
 pub mod SchemeLaws

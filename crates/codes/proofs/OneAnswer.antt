@@ -1,6 +1,6 @@
 -- The contracts of measuring, reading and sizing leave one answer, and one content of the buffer.
 -- Assumes nothing.
-use mathlib.Core.Path.{_≡_, refl, sym, ap, ap₂, _∙_}
+use mathlib.Core.Path.{_≡_, refl, sym, ap, _∙_}
 use mathlib.Core.Bool.{Bool, cond}
 use mathlib.Core.Logic.{by-cases}
 use mathlib.Core.List.{List, _++_}
@@ -10,10 +10,9 @@ use native.Mathlib.Omega.{arith}
 use borrow.Author.Tests.{lt-ltb, le-ltb}
 use lib.Dec.{ltb}
 use lib.ListN.{length, drop}
-use Rattle.codes.specs.Chain as chain
-use Rattle.codes.specs.Chain.{Scheme, Built}
+use Rattle.codes.specs.Chain.{Scheme}
 use Rattle.codes.specs.Steps.Laid.{laid, Placed, Fronted}
-use Rattle.codes.specs.Steps.Measure.{Measures, TakesApart, ReadsIntoBuffer, TakesApartBy, ReadsIntoBufferBy}
+use Rattle.codes.specs.Steps.Measure.{Measures, TakesApart}
 use Rattle.codes.specs.declared.Measured.{Measured}
 use Rattle.codes.specs.declared.Measured.the-variants as Measured
 use Rattle.codes.specs.declared.Outcome.{Outcome}
@@ -24,14 +23,12 @@ use Rattle.codes.specs.declared.Needed.{Needed}
 use Rattle.codes.specs.declared.Needed.the-variants.{NoCode, TooMany, Bytes}
 use Rattle.codes.specs.declared.Stored.{Stored}
 use Rattle.codes.specs.declared.Stored.the-variants as Stored
-use Rattle.codes.specs.declared.Taken.{Taken}
-use Rattle.codes.specs.declared.Taken.the-variants as Taken
 use Rattle.codes.specs.declared.Uncoded.{Uncoded}
 use Rattle.codes.specs.declared.Uncoded.the-variants.{At, Nowhere}
 use Rattle.codes.proofs.SchemeLaws.{Laws}
 use Rattle.codes.proofs.OneReading.{one-text, one-place, never-both}
 
--- ---- taking data apart, and reading it into a buffer, where it carries one text or is malformed at one place, never both
+-- ---- taking data apart, where it carries one text or is malformed at one place, never both
 
 module _ (Carried : List ℕ → Type 0) (Place : ℕ → Type 0) (one : (t u : List ℕ) → Carried t → Carried u → t ≡ u)
     (place : (i j : ℕ) → Place i → Place j → i ≡ j) (never : (t : List ℕ) (i : ℕ) → Carried t → Place i → ⊥) (size : ℕ) where
@@ -45,43 +42,6 @@ module _ (Carried : List ℕ → Type 0) (Place : ℕ → Type 0) (one : (t u : 
   one-coming Outcome.TooLong (Outcome.Text n) h (s′, k) = absurd (let no′ : ⊥ = omega (arith, h, s′) in no′)
   one-coming Outcome.TooLong (Outcome.Malformed j) h (s′, k) = absurd (let no′ : ⊥ = omega (arith, h, s′) in no′)
   one-coming Outcome.TooLong Outcome.TooLong h k = refl
-
-  module _ (entry : List ℕ) where
-    pub one-entry : (a b : Taken) (x y : List ℕ) → ReadsIntoBuffer Carried Place size entry a x → ReadsIntoBuffer Carried Place size entry b y → (a ≡ b) × (x ≡ y)
-    one-entry (Taken.Text m) (Taken.Text n) x y (s, (t, p, l, r, e)) (s′, (u, q, l′, r′, e′)) =
-        let same = one t u p q in
-        let long : m ≡ n = l ∙ ap length same ∙ sym l′ in
-        (ap {B = Taken} Taken.Text long, e ∙ ap₂ (λ (k : List ℕ) (z : ℕ). k ++ drop z entry) same long ∙ sym e′)
-    one-entry (Taken.Text m) (Taken.Malformed j) x y (s, (t, p, l, r, e)) (s′, q, e′) = absurd (never t j p q)
-    one-entry (Taken.Text m) (Taken.NoRoom n) x y (s, (t, p, l, r, e)) (s′, (u, q, l′, r′), e′) =
-        absurd (let no′ : ⊥ = omega (arith, l, ap length (one t u p q), l′, r, r′) in no′)
-    one-entry (Taken.Text m) Taken.TooLong x y (s, h) (s′, e′) = absurd (let no′ : ⊥ = omega (arith, s, s′) in no′)
-    one-entry (Taken.Malformed i) (Taken.Text n) x y (s, p, e) (s′, (u, q, l′, r′, e′)) = absurd (never u i q p)
-    one-entry (Taken.Malformed i) (Taken.Malformed j) x y (s, p, e) (s′, q, e′) = (ap {B = Taken} Taken.Malformed (place i j p q), e ∙ sym e′)
-    one-entry (Taken.Malformed i) (Taken.NoRoom n) x y (s, p, e) (s′, (u, q, l′, r′), e′) = absurd (never u i q p)
-    one-entry (Taken.Malformed i) Taken.TooLong x y (s, p, e) (s′, e′) = absurd (let no′ : ⊥ = omega (arith, s, s′) in no′)
-    one-entry (Taken.NoRoom m) (Taken.Text n) x y (s, (t, p, l, r), e) (s′, (u, q, l′, r′, e′)) =
-        absurd (let no′ : ⊥ = omega (arith, l, ap length (one t u p q), l′, r, r′) in no′)
-    one-entry (Taken.NoRoom m) (Taken.Malformed j) x y (s, (t, p, l, r), e) (s′, q, e′) = absurd (never t j p q)
-    one-entry (Taken.NoRoom m) (Taken.NoRoom n) x y (s, (t, p, l, r), e) (s′, (u, q, l′, r′), e′) =
-        (ap {B = Taken} Taken.NoRoom (l ∙ ap length (one t u p q) ∙ sym l′), e ∙ sym e′)
-    one-entry (Taken.NoRoom m) Taken.TooLong x y (s, h, e) (s′, e′) = absurd (let no′ : ⊥ = omega (arith, s, s′) in no′)
-    one-entry Taken.TooLong (Taken.Text n) x y (s, e) (s′, k) = absurd (let no′ : ⊥ = omega (arith, s, s′) in no′)
-    one-entry Taken.TooLong (Taken.Malformed j) x y (s, e) (s′, q, e′) = absurd (let no′ : ⊥ = omega (arith, s, s′) in no′)
-    one-entry Taken.TooLong (Taken.NoRoom n) x y (s, e) (s′, k, e′) = absurd (let no′ : ⊥ = omega (arith, s, s′) in no′)
-    one-entry Taken.TooLong Taken.TooLong x y (s, e) (s′, e′) = (refl, e ∙ sym e′)
-
--- of a scheme that has the laws
-pub one-outcome : {scheme : Scheme} → Laws scheme → (sent : List ℕ) (a b : Outcome) → TakesApartBy scheme sent a → TakesApartBy scheme sent b → a ≡ b
-one-outcome {scheme} laws sent =
-    one-coming (λ (text : List ℕ). Built scheme text sent) (chain.Malformed scheme sent) (λ t u p q. one-text laws p q) (λ i j p q. one-place laws p q)
-    (λ t i p q. never-both laws p q) (length sent)
-
-pub one-reading : {scheme : Scheme} → Laws scheme → (sent entry : List ℕ) (a b : Taken) (x y : List ℕ)
-    → ReadsIntoBufferBy scheme sent entry a x → ReadsIntoBufferBy scheme sent entry b y → (a ≡ b) × (x ≡ y)
-one-reading {scheme} laws sent entry =
-    one-entry (λ (text : List ℕ). Built scheme text sent) (chain.Malformed scheme sent) (λ t u p q. one-text laws p q) (λ i j p q. one-place laws p q)
-    (λ t i p q. never-both laws p q) (length sent) entry
 
 -- ---- what bits come to, and their text in a buffer
 

@@ -37,6 +37,8 @@ pub record WriterFacts (scheme : Scheme) (has : List ℕ → ℕ → Bool) (give
   pub says : (t : List ℕ) → CodedBelow has t (length t) → texts (ours t) ≡ given t
   pub shortest : (t : List ℕ) → CodedBelow has t (length t) → (es : List Entry) → Row scheme 0 es 0 → Closes scheme es → texts es ≡ given t
       → length (codes (ours t)) ≤ length (codes es)
+  -- a text that is not empty does not come back empty
+  pub nonempty : (t : List ℕ) → 0 < length t → CodedBelow has t (length t) → 0 < length (given t)
   -- what a row that closes says comes back as it is
   pub kept : (es : List Entry) → Row scheme 0 es 0 → Closes scheme es → given (texts es) ≡ texts es
   -- what a row says has codes (`row-coded`, where a test of the tables shows it)
@@ -53,6 +55,8 @@ pub record WriterLaws (scheme : Scheme) (has : List ℕ → ℕ → Bool) (given
   pub ours-binary : (t : List ℕ) → CodedBelow has t (length t) → Binary (codes (ours t))
   pub ours-bytes : (t : List ℕ) → CodedBelow has t (length t) → Bytes (written (ours t))
   pub ours-built : (t : List ℕ) → CodedBelow has t (length t) → Built scheme (given t) (written (ours t))
+  -- and that text is not empty where the text is not
+  pub given-nonempty : (t : List ℕ) → 0 < length t → CodedBelow has t (length t) → 0 < length (given t)
   -- no building of that text has fewer bits before its fill than the writer's, and none fewer bytes
   pub no-shorter : (t sent : List ℕ) → CodedBelow has t (length t) → (b : Built scheme (given t) sent)
       → length (codes (ours t)) ≤ length (codes (b .entries))
@@ -85,6 +89,7 @@ module _ {scheme : Scheme} {has : List ℕ → ℕ → Bool} {given : List ℕ �
     ours-binary = codes-binary;
     ours-bytes = λ t h. written-bytes (ours t) (codes-binary t h);
     ours-built = built;
+    given-nonempty = w .nonempty;
     no-shorter = none-shorter;
     no-fewer-bytes = λ t sent h b. omega (arith, none-shorter t sent h b, length-written (ours t), built-length (w .few) sent b);
     built-coded = text-coded;

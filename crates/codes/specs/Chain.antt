@@ -1,6 +1,5 @@
--- What the compact kinds share (001, 4.2 to 4.5; 01, "The three kinds of data"): codes in a row, then ones for what is unused of the last byte. What a
--- maker may build (01, "Promises that say enough"), and where data is malformed (01, refusal 7). What reading gives has a definition of its own, in
--- Reading.
+-- What the compact formats share (001, 4.2 to 4.5; RULES, Formats): codes in a row, then ones for what is unused of the last byte. What a maker may build
+-- (RULES, What a promise says), and where data is malformed (RULES, Refusals: 7). What reading gives has a definition of its own, in Reading.
 -- Assumes nothing.
 use mathlib.Core.Path.{_≡_}
 use mathlib.Core.List.{List, [], _∷_, _++_, List·Memᴰ}
@@ -47,7 +46,7 @@ unfoldable pub texts : List Entry → List ℕ
 texts [] = []
 texts (e ∷ es) = e .says ++ texts es
 
--- so many bits or fewer that are all ones: seven, where the last byte is filled with ones (001, 4.4 and 4.5; by 01 in Pseudo Binary too)
+-- so many bits or fewer that are all ones: seven, where the last byte is filled with ones (001, 4.4 and 4.5; RULES, Formats: in Pseudo Binary too)
 pub record Fill (unused : ℕ) (f : List ℕ) : Type 0 where
   pub few : length f ≤ unused
   pub ones : f ≡ replicate (length f) 1

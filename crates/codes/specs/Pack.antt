@@ -1,4 +1,4 @@
--- Bits of a number in a row, and bits in bytes, the most significant first (001, 4.2.1 and 4.5; 01, "What a packet is here").
+-- Bits of a number in a row, and bits in bytes, the most significant first (001, 4.2.1 and 4.5; RULES, Packet).
 -- Assumes nothing.
 use mathlib.Core.List.{List, [], _∷_, _++_}
 use Prim.Native.Nat.{ℕ, zero, suc, _+_, _-_, _*_, _/_, _%_, _^_, _<_}
@@ -34,7 +34,7 @@ packed bs = bytes (length bs / 8) bs
 unfoldable pub gap : ℕ → ℕ
 gap n = (8 - n % 8) % 8
 
--- the bits, then ones up to the byte's end (001, 4.5; by 01 in both kinds)
+-- the bits, then ones up to the byte's end (001, 4.5; RULES, Formats: in both compact formats)
 unfoldable pub filled : List ℕ → List ℕ
 filled bs = bs ++ replicate (gap (length bs)) 1
 

@@ -1,5 +1,5 @@
--- What reading gives, in the words and the order of 01 ("The three kinds of data", the paragraph on both compact kinds; 001, 4.2.2.2 and 4.5): the
--- text, or the bit at which the first unreadable indicator, value or code starts. It rests on the scheme alone, and not on what a maker may build.
+-- What reading gives, in the words and the order of RULES, Formats (001, 4.2.2.2 and 4.5): the text, or the bit at which the first unreadable indicator,
+-- value or code starts. It rests on the scheme alone, and not on what a maker may build.
 -- Assumes nothing.
 use mathlib.Core.Path.{_≡_}
 use mathlib.Core.Logic.{_⊎_}

@@ -125,14 +125,6 @@ impl Outcome {
     pub const LIMIT: usize = 0x100_0000_0000_0000;
 }
 
-// What reading data into a buffer comes to: the text's length, with the text in the buffer; or nothing is changed, and why.
-pub enum Taken {
-    Text(usize),
-    Malformed(usize),
-    NoRoom(usize),
-    TooLong,
-}
-
 // The index of the first character that has no code, if there is one.
 pub enum Uncoded {
     At(usize),

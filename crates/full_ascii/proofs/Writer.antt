@@ -112,6 +112,7 @@ writer = record {
   closes = λ t h. gap-few (length (codes (ours t)));
   says = λ t h. ours-says t;
   shortest = λ t h es r x says. cost-shortest ours cost (λ u. refl) t es r says;
+  nonempty = λ t some h. some;
   kept = λ es r x. refl;
   coded = row-coded scheme coded all-spell 0 0;
   all-bits = all-bits;

@@ -1,6 +1,5 @@
 pub mod Laying
 pub mod Nine
-pub mod Once
 pub mod Seven
 pub mod Steps
 pub mod Words

@@ -1,18 +1,16 @@
-// Compact Full ASCII (001, 4.5), read: its data taken apart, and the text of it. The table is in full_ascii.
+// Compact Full ASCII (001, 4.5), read: how long the text of its data is, or where the data is malformed; and the text. The table is in full_ascii.
 
 use codes::Buffer;
 use codes::Measured;
-use codes::Outcome;
-use codes::Taken;
 use full_ascii::Character;
 use full_ascii::Special;
 ghost use mathlib.Core.Bool.{true};
 ghost use mathlib.Core.Path.{_≡_};
-ghost use Prim.Native.Nat.{ℕ, _+_, _-_, _/_, _<_, _≤_, _^_};
+ghost use Prim.Native.Nat.{ℕ, _+_, _-_, _/_, _<_, _≤_};
 ghost use lib.ListN.{length};
 ghost use Rattle.bits.specs.Row.{bits};
 ghost use Rattle.codes.specs.Steps.Laid.{laid, Readable, Placed};
-ghost use Rattle.codes.specs.Steps.Measure.{Measures, TakesApartBy, ReadsIntoBufferBy};
+ghost use Rattle.codes.specs.Steps.Measure.{Measures, countable};
 ghost use Rattle.codes.specs.Pack.{low};
 ghost use Rattle.full_ascii.specs.Table.{scheme};
 ghost use Rattle.full_ascii_reader.specs.Steps.Taken.{FirstCode, charactersOf, oneCharacter};
@@ -151,7 +149,7 @@ struct Place {
 
 // The codes passed, up to fewer than eight bytes before the end.
 fn measure_words(s: &[u8]) -> Place
-    requires { ⌜ length (now s) < 2 ^ 60 ⌝ }
+    requires { ⌜ length (now s) < countable ⌝ }
     ensures { λ r. ⌜ CountedTo (now (s .entry)) r ⌝ }
 {
     let mut next: usize = 0;
@@ -206,8 +204,8 @@ fn measure_last(held: u64, have: u64) -> Measured
 }
 
 // The length of the text, or where the data is malformed.
-fn measure(s: &[u8]) -> Measured
-    requires { ⌜ length (now s) < 2 ^ 60 ⌝ }
+pub fn measure(s: &[u8]) -> Measured
+    requires { ⌜ length (now s) < countable ⌝ }
     ensures { λ r. ⌜ Measures scheme (bits (now (s .entry))) r ⌝ }
 {
     let place = measure_words(s);
@@ -312,42 +310,11 @@ fn read_last(held: u64, have: u64, out: &mut [u8], n: usize) -> usize
 }
 
 // The text of the data, at the front of the buffer; its length.
-fn put_text(s: &[u8], out: &mut [u8]) -> usize
-    requires { ⌜ Readable scheme (bits (now s)) (length (now out)) ⌝ }
+pub fn put_text(s: &[u8], out: &mut [u8]) -> usize
+    requires { ⌜ (length (now s) < countable) × Readable scheme (bits (now s)) (length (now out)) ⌝ }
     ensures { λ r. ⌜ Placed scheme (bits (now (s .entry))) (now (out .entry)) (now (out .exit)) 0 r ⌝ }
 {
     let place = read_words(s, out);
     let b = last_bits(s, place);
     read_last(b.held, b.have, out, place.n)
-}
-
-// The data taken apart, whatever its length.
-pub fn take_apart(s: &[u8]) -> Outcome
-    ensures { λ r. ⌜ TakesApartBy scheme (now (s .entry)) r ⌝ }
-{
-    if Outcome::LIMIT <= s.len() {
-        return Outcome::TooLong;
-    }
-    let measured = measure(s);
-    match measured {
-        Measured::Text(n) => Outcome::Text(n),
-        Measured::Malformed(bit) => Outcome::Malformed(bit),
-    }
-}
-
-// The data taken apart, and then its text at the front of the buffer, where there is room for it; whatever their lengths.
-pub fn read(s: &[u8], out: &mut [u8]) -> Taken
-    ensures { λ r. ⌜ ReadsIntoBufferBy scheme (now (s .entry)) (now (out .entry)) r (now (out .exit)) ⌝ }
-{
-    let outcome = take_apart(s);
-    match outcome {
-        Outcome::TooLong => Taken::TooLong,
-        Outcome::Malformed(bit) => Taken::Malformed(bit),
-        Outcome::Text(needed) => {
-            if out.len() < needed {
-                return Taken::NoRoom(needed);
-            }
-            Taken::Text(put_text(s, out))
-        }
-    }
 }

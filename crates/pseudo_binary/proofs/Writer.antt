@@ -117,6 +117,7 @@ writer = record {
   closes = λ t h. gap-few (length (codes (ours t)));
   says = ours-says;
   shortest = λ t h es r x says. shortest t es r says;
+  nonempty = λ t some h. some;
   kept = λ es r x. refl;
   coded = row-coded scheme coded all-spell 0 0;
   all-bits = all-bits;

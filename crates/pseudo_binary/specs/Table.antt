@@ -39,7 +39,7 @@ AllCoded text = CodedBelow (alone coded) text (length text)
 unfoldable pub valueOf : ℕ → ℕ
 valueOf c = c % 64
 
--- a value reads back as 64 plus it, 63 too (house rule)
+-- a value reads back as 64 plus it, 63 too (RULES, Formats)
 unfoldable pub characterOf : ℕ → ℕ
 characterOf v = 64 + v
 
@@ -67,6 +67,6 @@ unfoldable pub tables : ℕ → List Entry
 tables zero = indicators values ++ (indicators spaces ++ indicators slashes)
 tables (suc m) = map six (numbers 0 64)
 
--- seven bits of the last byte or fewer are unused, and ones (by 01 as in 001, 4.5)
+-- seven bits of the last byte or fewer are unused, and ones (RULES, Formats; as in 001, 4.5)
 abbrev pub scheme : Scheme
 scheme = record { table = tables; unused = 7 }

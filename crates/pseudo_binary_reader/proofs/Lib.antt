@@ -1,5 +1,4 @@
 pub mod First
-pub mod Once
 pub mod Parting
 pub mod Repeated
 pub mod Starts

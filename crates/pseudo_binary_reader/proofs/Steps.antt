@@ -11,10 +11,12 @@ use lib.ListN.{length, drop, replicate, length-append, length-drop, length-repli
 use lib.Seq.{drop-drop}
 use Rattle.bits.specs.Row.{bits}
 use Rattle.codes.specs.Chain.{Fill, stateAfter, Stuck}
-use Rattle.codes.specs.Steps.Laid.{laid, Readable}
+use Rattle.codes.specs.Steps.Laid.{laid, Readable, Placed}
+use Rattle.codes.specs.Steps.Measure.{Measures}
+use Rattle.codes.specs.declared.Measured.the-variants.{Text}
 use Rattle.codes.specs.Pack.{Binary}
 use Rattle.codes.specs.Steps.Passed.{Passed, CountedSoFar, LaidSoFar}
-use Rattle.codes.proofs.ReadSoFar.{counting-more, laying-more, laying-within}
+use Rattle.codes.proofs.ReadSoFar.{counting-more, counting-end, laying-more, laying-within, laying-end}
 use Rattle.codes.proofs.BitsInBytes.{binary-drop, bits-binary, length-bits}
 use Rattle.codes.proofs.PassedEntries.{passed-more, passed-stuck}
 use Rattle.codes.proofs.OneReading.{stuck-here, never-both}
@@ -157,3 +159,11 @@ module _ (s : List ℕ) (at : ℕ) (inside : at ≤ length s * 8) (w : ℕ) (v :
         subst⁻¹ (λ (l : List ℕ). LaidSoFar scheme (bits s) (drop (at + (r .width + r .values * 6)) (bits s)) entry l 0 (n + (r .count + r .values))) e
         laid-whole;
   }
+
+-- the end of the reading, its number with what it must be, so that a wrong one is refused where it stands
+pub counted-end : {bs rest : List ℕ} {n : ℕ} (r : ℕ) → r ≡ n → CountedSoFar scheme bs rest n → Fill 7 rest → Measures scheme bs (Text r)
+counted-end {bs} r e c f = subst⁻¹ (λ (k : ℕ). Measures scheme bs (Text k)) e (counting-end c f)
+
+pub laid-end : {bs rest entry out : List ℕ} {m n : ℕ} (r : ℕ) → r ≡ n → LaidSoFar scheme bs rest entry out m n → Fill 7 rest
+    → Placed scheme bs entry out m r
+laid-end {bs} {entry = entry} {out = out} {m = m} r e y f = subst⁻¹ (Placed scheme bs entry out m) e (laying-end y f)

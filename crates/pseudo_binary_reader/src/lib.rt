@@ -1,9 +1,7 @@
-// Compact Pseudo Binary read: the data taken apart, and its text written.
+// Compact Pseudo Binary read: the data measured, and its text put into a buffer.
 
 use codes::Buffer;
 use codes::Measured;
-use codes::Outcome;
-use codes::Taken;
 ghost use mathlib.Core.Path.{_≡_};
 ghost use mathlib.Core.List.{List};
 ghost use Prim.Native.Nat.{ℕ, _+_, _*_, _/_, _≤_, _<_, _^_};
@@ -11,7 +9,7 @@ ghost use lib.ListN.{length, take, drop, replicate};
 ghost use Rattle.bits.specs.Row.{bits};
 ghost use Rattle.codes.specs.Steps.BitBuffer.{ahead};
 ghost use Rattle.codes.specs.Steps.Laid.{laid, Readable, Placed};
-ghost use Rattle.codes.specs.Steps.Measure.{Measures, TakesApartBy, ReadsIntoBufferBy};
+ghost use Rattle.codes.specs.Steps.Measure.{countable, Measures};
 ghost use Rattle.codes.specs.Pack.{value};
 ghost use Rattle.codes.specs.Steps.Passed.{CountedSoFar, LaidSoFar};
 ghost use Rattle.pseudo_binary.specs.Table.{scheme};
@@ -122,7 +120,7 @@ struct Place {
 
 // The indicators that start in the eighth byte from the end of the data or before it, up to one whose values are not all there.
 fn measure_most(s: &[u8]) -> Place
-    requires { ⌜ length (now s) < 2 ^ 56 ⌝ }
+    requires { ⌜ length (now s) < countable ⌝ }
     ensures { λ r. ⌜ (r .at ≤ length (now (s .entry)) * 8) × (r .n ≤ 3 * r .at) ⌝ }
     ensures { λ r. ⌜ CountedSoFar scheme (bits (now (s .entry))) (drop (r .at) (bits (now (s .entry)))) (r .n) ⌝ }
 {
@@ -151,8 +149,8 @@ fn measure_most(s: &[u8]) -> Place
 }
 
 // The length of the text, or the bit at which the data is malformed. Announced values are not looked at: any six bits are a value.
-fn measure(s: &[u8]) -> Measured
-    requires { ⌜ length (now s) < 2 ^ 56 ⌝ }
+pub fn measure(s: &[u8]) -> Measured
+    requires { ⌜ length (now s) < countable ⌝ }
     ensures { λ r. ⌜ Measures scheme (bits (now (s .entry))) r ⌝ }
 {
     let end = s.len() * 8;
@@ -233,7 +231,7 @@ fn value_at(s: &[u8], at: usize) -> u8
 
 // Values one at a time.
 fn read_last(s: &[u8], at: usize, count: usize, out: &mut [u8], n: usize)
-    requires { ⌜ (length (now s) < 2 ^ 56) × (at + 6 * count ≤ length (now s) * 8) × (n + count ≤ length (now out)) ⌝ }
+    requires { ⌜ (length (now s) < countable) × (at + 6 * count ≤ length (now s) * 8) × (n + count ≤ length (now out)) ⌝ }
     ensures { λ r. ⌜ now (out .exit) ≡ laid (now (out .entry)) n (characters count (drop at (bits (now (s .entry))))) ⌝ }
 {
     let mut done: usize = 0;
@@ -245,7 +243,7 @@ fn read_last(s: &[u8], at: usize, count: usize, out: &mut [u8], n: usize)
 
 // More than eight values, the first eight of which are in `word`: eight at a time, and the last eight where they end, some of them a second time.
 fn read_many(s: &[u8], at: usize, count: usize, word: u64, out: &mut [u8], n: usize)
-    requires { ⌜ (length (now s) < 2 ^ 56) × (8 ≤ at) × (at + 6 * count ≤ length (now s) * 8) × Eight (drop at (bits (now s))) word ⌝ }
+    requires { ⌜ (length (now s) < countable) × (8 ≤ at) × (at + 6 * count ≤ length (now s) * 8) × Eight (drop at (bits (now s))) word ⌝ }
     requires { ⌜ (8 < count) × (n + count ≤ length (now out)) ⌝ }
     ensures { λ r. ⌜ now (out .exit) ≡ laid (now (out .entry)) n (characters count (drop at (bits (now (s .entry))))) ⌝ }
 {
@@ -269,7 +267,7 @@ fn read_many(s: &[u8], at: usize, count: usize, word: u64, out: &mut [u8], n: us
 
 // The values that an indicator at bit `at` announces, each as its character, from place n on. The bits from there on are at the top of `top`.
 fn read_values(s: &[u8], at: usize, count: usize, top: u64, out: &mut [u8], n: usize)
-    requires { ⌜ (length (now s) < 2 ^ 56) × (at + (8 + count * 6) ≤ length (now s) * 8) × Top (drop at (bits (now s))) top ⌝ }
+    requires { ⌜ (length (now s) < countable) × (at + (8 + count * 6) ≤ length (now s) * 8) × Top (drop at (bits (now s))) top ⌝ }
     requires { ⌜ n + count ≤ length (now out) ⌝ }
     ensures { λ r. ⌜ now (out .exit) ≡ laid (now (out .entry)) n (characters count (drop (at + 8) (bits (now (s .entry))))) ⌝ }
 {
@@ -322,7 +320,7 @@ fn repeat(out: &mut [u8], n: usize, count: usize, character: u8)
 
 // What an indicator says, and the values that it announces, which start at bit `at`, from place n on.
 fn read_run(s: &[u8], at: usize, run: Indicator, out: &mut [u8], n: usize)
-    requires { ⌜ (length (now s) < 2 ^ 56) × (at + 6 * run .values ≤ length (now s) * 8) ⌝ }
+    requires { ⌜ (length (now s) < countable) × (at + 6 * run .values ≤ length (now s) * 8) ⌝ }
     requires { ⌜ n + (run .count + run .values) ≤ length (now out) ⌝ }
     ensures { λ r. ⌜ now (out .exit) ≡ laid (now (out .entry)) n (saying run (drop at (bits (now (s .entry))))) ⌝ }
 {
@@ -336,7 +334,7 @@ fn read_run(s: &[u8], at: usize, run: Indicator, out: &mut [u8], n: usize)
 // The indicators that start in the eighth byte from the end of the data or before it, and what they and their values say at the front of the
 // buffer.
 fn read_front(s: &[u8], out: &mut [u8]) -> Place
-    requires { ⌜ (length (now s) < 2 ^ 56) × Readable scheme (bits (now s)) (length (now out)) ⌝ }
+    requires { ⌜ (length (now s) < countable) × Readable scheme (bits (now s)) (length (now out)) ⌝ }
     ensures { λ r. ⌜ (r .at ≤ length (now (s .entry)) * 8) × (r .n ≤ length (now (out .entry))) ⌝ }
     ensures { λ r. ⌜ LaidSoFar scheme (bits (now (s .entry))) (drop (r .at) (bits (now (s .entry)))) (now (out .entry)) (now (out .exit)) 0 (r .n) ⌝ }
 {
@@ -364,7 +362,7 @@ fn read_front(s: &[u8], out: &mut [u8]) -> Place
 
 // The indicators that have nine bits or more before the end of the data, and what they and their values say at the front of the buffer.
 fn read_most(s: &[u8], out: &mut [u8]) -> Place
-    requires { ⌜ (length (now s) < 2 ^ 56) × Readable scheme (bits (now s)) (length (now out)) ⌝ }
+    requires { ⌜ (length (now s) < countable) × Readable scheme (bits (now s)) (length (now out)) ⌝ }
     ensures { λ r. ⌜ (r .at ≤ length (now (s .entry)) * 8) × (length (now (s .entry)) * 8 ≤ r .at + 8) × (r .n ≤ length (now (out .entry))) ⌝ }
     ensures { λ r. ⌜ LaidSoFar scheme (bits (now (s .entry))) (drop (r .at) (bits (now (s .entry)))) (now (out .entry)) (now (out .exit)) 0 (r .n) ⌝ }
 {
@@ -381,8 +379,8 @@ fn read_most(s: &[u8], out: &mut [u8]) -> Place
 }
 
 // The text of the data, at the front of the buffer; its length. In the last eight bits there are no values.
-fn put_text(s: &[u8], out: &mut [u8]) -> usize
-    requires { ⌜ (length (now s) < 2 ^ 56) × Readable scheme (bits (now s)) (length (now out)) ⌝ }
+pub fn put_text(s: &[u8], out: &mut [u8]) -> usize
+    requires { ⌜ (length (now s) < countable) × Readable scheme (bits (now s)) (length (now out)) ⌝ }
     ensures { λ r. ⌜ Placed scheme (bits (now (s .entry))) (now (out .entry)) (now (out .exit)) 0 r ⌝ }
 {
     let most = read_most(s, out);
@@ -397,36 +395,5 @@ fn put_text(s: &[u8], out: &mut [u8]) -> usize
         repeat(out, n, run.count, run.character);
         n += run.count;
         at += run.width;
-    }
-}
-
-// The data taken apart, whatever its length.
-pub fn take_apart(s: &[u8]) -> Outcome
-    ensures { λ r. ⌜ TakesApartBy scheme (now (s .entry)) r ⌝ }
-{
-    if Outcome::LIMIT <= s.len() {
-        return Outcome::TooLong;
-    }
-    let measured = measure(s);
-    match measured {
-        Measured::Text(n) => Outcome::Text(n),
-        Measured::Malformed(bit) => Outcome::Malformed(bit),
-    }
-}
-
-// The data taken apart, and then its text at the front of the buffer, where there is room for it; whatever their lengths.
-pub fn read(s: &[u8], out: &mut [u8]) -> Taken
-    ensures { λ r. ⌜ ReadsIntoBufferBy scheme (now (s .entry)) (now (out .entry)) r (now (out .exit)) ⌝ }
-{
-    let outcome = take_apart(s);
-    match outcome {
-        Outcome::TooLong => Taken::TooLong,
-        Outcome::Malformed(bit) => Taken::Malformed(bit),
-        Outcome::Text(needed) => {
-            if out.len() < needed {
-                return Taken::NoRoom(needed);
-            }
-            Taken::Text(put_text(s, out))
-        }
     }
 }

@@ -1,25 +1,21 @@
-// Compact Pseudo Binary written: the characters that have no code, how many bytes our data has, and the data.
+// Compact Pseudo Binary written: which characters have codes, how many bytes our data has, and the data.
 
 use codes::Needed;
-use codes::Stored;
-use codes::Uncoded;
 ghost use mathlib.Core.Path.{_≡_};
 ghost use mathlib.Core.Logic.{_⊎_};
 ghost use lib.Count.{leadingZeros};
 ghost use lib.Dec.{T};
 ghost use Prim.Native.Nat.{_+_, _*_, _/_, _≤_, _<_, _^_};
 ghost use lib.ListN.{length, take, drop, getD};
-ghost use Rattle.bits.specs.Says.{Says};
 ghost use Rattle.codes.specs.Coded.{alone};
 ghost use Rattle.codes.specs.Pack.{low, written};
-ghost use Rattle.codes.specs.Steps.Size.{longest, FindsUncoded, Needs, PutsData};
+ghost use Rattle.codes.specs.Steps.Size.{Needs};
 ghost use Rattle.pseudo_binary_writer.specs.Steps.Sending.{Between, FirstIndicatorOf, PutsOurs, ExtentOf, NextOf, SendsBits, twoValues, fourValues, eightValues};
 ghost use Rattle.pseudo_binary.specs.Table.{Kind, coded, AllCoded, values};
 ghost use Rattle.pseudo_binary.specs.Writer.{run, ours, Alike};
-ghost use Rattle.codes.specs.declared.Uncoded.the-variants.{Nowhere};
 
 // Whether a character has a code.
-fn is_coded(c: u8) -> bool
+pub fn is_coded(c: u8) -> bool
     ensures { λ r. ⌜ r ≡ coded c ⌝ }
 {
     match c {
@@ -28,36 +24,6 @@ fn is_coded(c: u8) -> bool
         64..=127 => true,
         _ => false,
     }
-}
-
-// Whether each character has a code. All are looked at, whatever is found.
-fn all_coded(text: &[u8]) -> bool
-    ensures { λ r. ⌜ Says r (FindsUncoded (alone coded) (now (text .entry)) Nowhere) ⌝ }
-{
-    let mut all = true;
-    let mut i: usize = 0;
-    while i < text.len() {
-        all = all & is_coded(text[i]);
-        i += 1;
-    }
-    all
-}
-
-// The index of the first character that has no code.
-pub fn first_uncoded(text: &[u8]) -> Uncoded
-    ensures { λ r. ⌜ FindsUncoded (alone coded) (now (text .entry)) r ⌝ }
-{
-    if all_coded(text) {
-        return Uncoded::Nowhere;
-    }
-    let mut i: usize = 0;
-    while i < text.len() {
-        if !is_coded(text[i]) {
-            return Uncoded::At(i);
-        }
-        i += 1;
-    }
-    Uncoded::Nowhere
 }
 
 // Codes to be sent: their bits as a number, how many they are, how many values are announced after them, and how many characters they say.
@@ -221,17 +187,18 @@ fn next_extent(text: &[u8], i: usize) -> Extent
     }
 }
 
-// How many bytes our data of the text has, or that one packet does not hold them: the loop ends where that is certain.
-fn coded_length(text: &[u8]) -> Needed
+// How many bytes our data of the text has, or that they are more than `most`: the loop ends where that is certain.
+pub fn coded_length(text: &[u8], most: u16) -> Needed
     requires { ⌜ AllCoded (now text) ⌝ }
-    ensures { λ r. ⌜ Needs longest (alone coded) (now (text .entry)) (written (ours (now (text .entry)))) r ⌝ }
+    ensures { λ r. ⌜ Needs most (alone coded) (now (text .entry)) (written (ours (now (text .entry)))) r ⌝ }
 {
+    let limit = most as usize * 8;
     let mut i: usize = 0;
     let mut n: usize = 0;
     while i < text.len() {
         let extent = next_extent(text, i);
         n += extent.bits;
-        if Needed::MOST < n {
+        if limit < n {
             return Needed::TooMany;
         }
         i += extent.count;
@@ -336,7 +303,7 @@ fn send_eight(text: &[u8], i: usize, out: &mut [u8], b: Held) -> Held
 }
 
 // What our writer builds of the text, at the front of the buffer; how many bytes it is.
-fn put_data(text: &[u8], out: &mut [u8]) -> usize
+pub fn put_data(text: &[u8], out: &mut [u8]) -> usize
     requires { ⌜ AllCoded (now text) × (length (written (ours (now text))) ≤ length (now out)) ⌝ }
     ensures { λ r. ⌜ PutsOurs (now (text .entry)) (now (out .entry)) (now (out .exit)) r ⌝ }
 {
@@ -360,32 +327,4 @@ fn put_data(text: &[u8], out: &mut [u8]) -> usize
         }
     }
     codes::flush(out, b.n, b.held, b.have)
-}
-
-// How many bytes our data of the text has; or the first character that has no code; or that one packet does not hold the data.
-pub fn data_length(text: &[u8]) -> Needed
-    ensures { λ r. ⌜ Needs longest (alone coded) (now (text .entry)) (written (ours (now (text .entry)))) r ⌝ }
-{
-    let uncoded = first_uncoded(text);
-    match uncoded {
-        Uncoded::At(index) => Needed::NoCode(index),
-        Uncoded::Nowhere => coded_length(text),
-    }
-}
-
-// Our data of the text at the front of the buffer, where the text has it and there is room for it; whatever their lengths.
-pub fn write(text: &[u8], out: &mut [u8]) -> Stored
-    ensures { λ r. ⌜ PutsData longest (alone coded) (now (text .entry)) (written (ours (now (text .entry)))) (now (out .entry)) r (now (out .exit)) ⌝ }
-{
-    let needed = data_length(text);
-    match needed {
-        Needed::NoCode(index) => Stored::NoCode(index),
-        Needed::TooMany => Stored::TooMany,
-        Needed::Bytes(n) => {
-            if out.len() < n {
-                return Stored::NoRoom(n);
-            }
-            Stored::Bytes(put_data(text, out))
-        }
-    }
 }

@@ -16,7 +16,7 @@ use Rattle.full_ascii_reader.proofs.put_text.Statement.{statement}
 use Rattle.full_ascii_reader.proofs.put_text.Tie as tie
 
 read-words-requires : tie.Need-read-words-requires
-read-words-requires c κs = search needs
+read-words-requires c κs = c .before .before .before .pre .1
 
 last-bits-requires : tie.Need-last-bits-requires
 last-bits-requires c κs = search needs
@@ -44,7 +44,7 @@ read-last-requires c κs =
       omega (arith, b .last-bits .ensures .size, w .read-words .ensures .0 .few),
       omega (arith, same, w .read-words .ensures .1),
       subst (Readable scheme last) (let x : 0 + length (e .args .out .now) - n ≡ length out - n = omega (arith, same) in x)
-          (laying-later (laying b) laws (e .pre)),
+          (laying-later (laying b) laws (e .pre .1)),
     )
 
 same-length : tie.Need-same-length

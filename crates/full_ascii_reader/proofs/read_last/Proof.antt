@@ -41,7 +41,8 @@ returns : tie.Need-returns Inv-loop μ-loop
 returns c =
     let a = c .before .before in
     let rest = low (a .loop .left) (a .before .before .args .held) in
-    laying-end (a .loop .inv .2) (subst (λ (b : Bool). Says b (Fill 7 rest)) (c .if1 .taken) (c .before .at-end .ensures))
+    let whole = laying-end (a .loop .inv .2) (subst (λ (b : Bool). Says b (Fill 7 rest)) (c .if1 .taken) (c .before .at-end .ensures)) in
+    record { text = whole .text; reads = whole .reads; place = omega (arith, whole .place); whole = whole .whole }
 
 window-requires : tie.Need-window-requires Inv-loop μ-loop
 window-requires c κs = omega arith

@@ -10,11 +10,10 @@ use Rattle.bits.specs.Says.{Says}
 use Rattle.codes.specs.Chain.{Fill}
 use Rattle.codes.specs.Pack.{low}
 use Rattle.codes.specs.Steps.Passed.{CountedSoFar}
-use Rattle.codes.proofs.ReadSoFar.{counting-end}
 use Rattle.pseudo_binary.specs.Table.{scheme}
 use Rattle.pseudo_binary_reader.specs.Steps.Taken.{Nine}
 use Rattle.pseudo_binary_reader.proofs.Starts.{starts-fill, starts-no-fill, starts-nine}
-use Rattle.pseudo_binary_reader.proofs.Steps.{counting-run, stuck-indicator, stuck-value}
+use Rattle.pseudo_binary_reader.proofs.Steps.{counting-run, counted-end, stuck-indicator, stuck-value}
 use Rattle.pseudo_binary_reader.proofs.measure.Statement.{statement}
 use Rattle.pseudo_binary_reader.proofs.measure.Tie as tie
 
@@ -44,7 +43,7 @@ returns c =
     let b = c .before .before in
     let a = b .before in
     let s = a .before .before .before .args .s .now in
-    counting-end (a .loop .inv .2)
+    counted-end _ (omega arith) (a .loop .inv .2)
     (starts-fill s (a .loop .at) (b .buffer-at .result) (b .buffer-at .ensures) (omega (arith, a .loop .inv))
     (subst (λ (t : Bool). Says t (Fill 7 (low (b .buffer-at .result .have) (b .buffer-at .result .held)))) (c .if1 .taken) (c .before .at-end .ensures)))
 

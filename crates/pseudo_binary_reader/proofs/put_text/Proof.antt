@@ -11,10 +11,10 @@ use Rattle.bits.specs.Says.{Says}
 use Rattle.codes.specs.Chain.{Fill}
 use Rattle.codes.specs.Steps.Laid.{Readable}
 use Rattle.codes.specs.Pack.{low}
-use Rattle.codes.proofs.ReadSoFar.{laying-length, laying-end}
+use Rattle.codes.proofs.ReadSoFar.{laying-length}
 use Rattle.pseudo_binary.specs.Table.{scheme}
 use Rattle.pseudo_binary_reader.proofs.Starts.{starts-fill, starts-no-fill, starts-nine}
-use Rattle.pseudo_binary_reader.proofs.Steps.{Stands, Whole, whole, whole-plain}
+use Rattle.pseudo_binary_reader.proofs.Steps.{Stands, Whole, whole, whole-plain, laid-end}
 use Rattle.pseudo_binary_reader.proofs.put_text.Statement.{statement}
 use Rattle.pseudo_binary_reader.proofs.put_text.Tie as tie
 
@@ -60,7 +60,7 @@ returns c =
     let b = c .before .before in
     let a = b .before in
     let s = a .before .before .before .before .before .before .before .args .s .now in
-    laying-end (stands a .1)
+    laid-end _ (omega arith) (stands a .1)
     (starts-fill s (a .loop .at) (b .buffer-at .result) (b .buffer-at .ensures) (a .loop .inv .0)
     (subst (λ (t : Bool). Says t (Fill 7 (low (b .buffer-at .result .have) (b .buffer-at .result .held)))) (c .if1 .taken) (c .before .at-end .ensures)))
 

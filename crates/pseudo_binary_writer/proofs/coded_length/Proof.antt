@@ -16,11 +16,14 @@ use Rattle.pseudo_binary_writer.proofs.coded_length.Statement.{statemen
 use Rattle.pseudo_binary_writer.proofs.coded_length.Tie as tie
 
 abbrev Inv-loop : tie.InvT-loop
-Inv-loop text i₀ n₀ i n =
-    (i ≤ length text) × (n ≤ 32000) × (n + length (codes (ours (drop i text))) ≡ length (codes (ours text)))
+Inv-loop text most limit i₀ n₀ i n =
+    (i ≤ length text) × (n ≤ limit) × (n + length (codes (ours (drop i text))) ≡ length (codes (ours text)))
 
 abbrev μ-loop : tie.MeasureT-loop
-μ-loop text i₀ n₀ i n = length text - i
+μ-loop text most limit i₀ n₀ i n = length text - i
+
+mul-limit : tie.Need-mul-limit Inv-loop μ-loop
+mul-limit c = omega arith
 
 loop-holds : tie.Need-loop-holds Inv-loop μ-loop
 loop-holds c = (omega arith, omega arith, zero-add (length (codes (ours (c .before .args .text .now)))))
@@ -100,6 +103,7 @@ coded-length-spec =
     (tie.spec
     Inv-loop
     μ-loop
+    mul-limit
     loop-holds
     next-extent-requires
     add-n

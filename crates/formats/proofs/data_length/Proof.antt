@@ -1,16 +1,13 @@
--- `pseudo_binary_writer::data_length` meets its contract.
+-- `formats::data_length` meets its contract.
 -- Assumes nothing.
 use mathlib.Core.Path.{subst}
 use native.Mathlib.Omega.{arith}
 use borrow.Author.Needs.{needs}
-use Rattle.codes.specs.Coded.{alone}
-use Rattle.codes.specs.Pack.{written}
-use Rattle.codes.specs.Steps.Size.{longest, FindsUncoded}
+use Rattle.codes.specs.Steps.Size.{FindsUncoded}
 use Rattle.codes.proofs.DataInBuffer.{need-code}
-use Rattle.pseudo_binary.specs.Table.{coded}
-use Rattle.pseudo_binary.specs.Writer.{ours}
-use Rattle.pseudo_binary_writer.proofs.data_length.Statement.{statement}
-use Rattle.pseudo_binary_writer.proofs.data_length.Tie as tie
+use Rattle.formats.specs.Data.{coded, dataOf}
+use Rattle.formats.proofs.data_length.Statement.{statement}
+use Rattle.formats.proofs.data_length.Tie as tie
 
 first-uncoded-requires : tie.Need-first-uncoded-requires
 first-uncoded-requires c κs = search needs
@@ -24,14 +21,16 @@ enum-told c = search needs
 coded-length-requires : tie.Need-coded-length-requires
 coded-length-requires c κs =
     let u = c .before .before in
-    subst (FindsUncoded (alone coded) (u .before .before .args .text .now)) (c .enum-told .given .1) (u .first-uncoded .ensures)
+    let a = u .before .before .args in
+    subst (FindsUncoded (coded (a .format)) (a .text .now)) (c .enum-told .given .1) (u .first-uncoded .ensures)
 
 returns : tie.Need-returns
 returns c =
     let u = c .before .before .before in
-    let t = u .before .before .args .text .now in
+    let a = u .before .before .args in
     let k = c .before .uncoded .given in
-    need-code longest (alone coded) t (written (ours t)) _ (k .0 .0) (subst (FindsUncoded (alone coded) t) (k .1) (u .first-uncoded .ensures)) (omega arith)
+    need-code (a .most) (coded (a .format)) (a .text .now) (dataOf (a .format) (a .text .now)) _ (k .0 .0)
+    (subst (FindsUncoded (coded (a .format)) (a .text .now)) (k .1) (u .first-uncoded .ensures)) (omega arith)
 
 returns-2 : tie.Need-returns-2
 returns-2 c = search needs

@@ -1,13 +1,12 @@
--- `pseudo_binary_reader::take_apart` meets its contract.
+-- `formats::take_apart` meets its contract.
 -- Assumes nothing.
 use mathlib.Core.Path.{subst}
 use native.Mathlib.Omega.{arith}
 use borrow.Author.Needs.{needs}
-use Rattle.bits.specs.Row.{bits}
-use Rattle.codes.specs.Steps.Measure.{Measures}
-use Rattle.pseudo_binary.specs.Table.{scheme}
-use Rattle.pseudo_binary_reader.proofs.take_apart.Statement.{statement}
-use Rattle.pseudo_binary_reader.proofs.take_apart.Tie as tie
+use Rattle.formats.specs.Steps.Text.{MeasuresData}
+use Rattle.formats.proofs.TakenApart.{apart-text, apart-place}
+use Rattle.formats.proofs.take_apart.Statement.{statement}
+use Rattle.formats.proofs.take_apart.Tie as tie
 
 returns : tie.Need-returns
 returns c = search needs
@@ -24,12 +23,16 @@ enum-known-measured-2 c = search needs
 returns-2 : tie.Need-returns-2
 returns-2 c =
     let m = c .before .before .before in
-    (omega arith, subst (Measures scheme (bits (m .before .before .before .args .s .now))) (c .before .measured .given .1) (m .measure .ensures))
+    let a = m .before .before .before .args in
+    let k = c .before .measured .given in
+    apart-text (a .format) (a .«data» .now) (omega arith) _ (k .0 .0) (omega arith) (subst (MeasuresData (a .format) (a .«data» .now)) (k .1) (m .measure .ensures))
 
 returns-3 : tie.Need-returns-3
 returns-3 c =
     let m = c .before .before .before in
-    (omega arith, subst (Measures scheme (bits (m .before .before .before .args .s .now))) (c .before .measured2 .given .1) (m .measure .ensures))
+    let a = m .before .before .before .args in
+    let k = c .before .measured2 .given in
+    apart-place (a .format) (a .«data» .now) (omega arith) _ (k .0 .0) (omega arith) (subst (MeasuresData (a .format) (a .«data» .now)) (k .1) (m .measure .ensures))
 
 pub take-apart-spec : {M : Type 1} → statement M
 take-apart-spec =

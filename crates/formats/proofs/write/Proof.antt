@@ -1,4 +1,4 @@
--- `pseudo_binary_writer::write` meets its contract.
+-- `formats::write` meets its contract.
 -- Assumes nothing.
 use mathlib.Core.List.{List}
 use mathlib.Core.Path.{_≡_, refl, subst}
@@ -6,25 +6,30 @@ use Prim.Native.Nat.{ℕ, _≤_}
 use native.Mathlib.Omega.{arith}
 use borrow.Author.Needs.{needs}
 use lib.ListN.{length}
-use Rattle.codes.specs.Coded.{alone}
-use Rattle.codes.specs.Pack.{written}
-use Rattle.codes.specs.Steps.Size.{longest, Needs}
+use Rattle.header.specs.declared.Format.{Format}
+use Rattle.codes.specs.Steps.Size.{Needs}
 use Rattle.codes.specs.declared.Needed.{Needed}
 use Rattle.codes.specs.declared.Needed.the-variants.{NoCode, TooMany, Bytes}
 use Rattle.codes.proofs.DataInBuffer.{store-no-code, store-no-room, store-bytes}
-use Rattle.pseudo_binary.specs.Table.{coded}
-use Rattle.pseudo_binary.specs.Writer.{ours}
-use Rattle.pseudo_binary_writer.proofs.write.Statement.{statement}
-use Rattle.pseudo_binary_writer.proofs.write.Tie as tie
+use Rattle.formats.specs.Data.{coded, dataOf}
+use Rattle.formats.proofs.write.Statement.{statement}
+use Rattle.formats.proofs.write.Tie as tie
 
-abbrev text : tie.After-data-length → List ℕ
-text d = d .before .before .before .args .text .now
+module _ (d : tie.After-data-length) where
+  abbrev format : Format
+  format = d .before .before .before .args .format
 
-abbrev entry : tie.After-data-length → List ℕ
-entry d = d .before .before .before .args .out .now
+  abbrev most : ℕ
+  most = d .before .before .before .args .most
 
-need : (d : tie.After-data-length) (r : Needed) → d .data-length .result ≡ r → Needs longest (alone coded) (text d) (written (ours (text d))) r
-need d r e = subst (Needs longest (alone coded) (text d) (written (ours (text d)))) e (d .data-length .ensures)
+  abbrev text : List ℕ
+  text = d .before .before .before .args .text .now
+
+  abbrev entry : List ℕ
+  entry = d .before .before .before .args .out .now
+
+  need : (r : Needed) → d .data-length .result ≡ r → Needs most (coded format) text (dataOf format text) r
+  need r e = subst (Needs most (coded format) text (dataOf format text)) e (d .data-length .ensures)
 
 data-length-requires : tie.Need-data-length-requires
 data-length-requires c κs = search needs
@@ -43,7 +48,7 @@ returns c =
     let k = c .before .before in
     let d = k .before .before in
     let n = k .needed2 .given .0 .0 in
-    store-no-room longest (alone coded) (text d) (written (ours (text d))) (entry d) n (need d (Bytes n) (k .needed2 .given .1)) _ (omega arith) (omega (arith, c .if1 .taken))
+    store-no-room (most d) (coded (format d)) (text d) (dataOf (format d) (text d)) (entry d) n (need d (Bytes n) (k .needed2 .given .1)) _ (omega arith) (omega (arith, c .if1 .taken))
 
 put-data-requires : tie.Need-put-data-requires
 put-data-requires c κs =
@@ -57,7 +62,7 @@ returns-2 : tie.Need-returns-2
 returns-2 c =
     let d = c .before .before .before in
     let i = c .before .needed .given .0 .0 in
-    store-no-code longest (alone coded) (text d) (written (ours (text d))) (entry d) _ i (need d (NoCode i) (c .before .needed .given .1)) (omega arith)
+    store-no-code (most d) (coded (format d)) (text d) (dataOf (format d) (text d)) (entry d) _ i (need d (NoCode i) (c .before .needed .given .1)) (omega arith)
 
 returns-3 : tie.Need-returns-3
 returns-3 c = let d = c .before .before in (need d TooMany (c .enum-told .given .1), refl)
@@ -72,7 +77,7 @@ returns-4 c =
     let d = k .before .before in
     let n = k .needed2 .given .0 .0 in
     let held : n ≤ length (entry d) = omega (arith, p .before .before .if1 .left) in
-    store-bytes longest (alone coded) (text d) (written (ours (text d))) (entry d) n (need d (Bytes n) (k .needed2 .given .1)) (p .put-data .last .1 .0)
+    store-bytes (most d) (coded (format d)) (text d) (dataOf (format d) (text d)) (entry d) n (need d (Bytes n) (k .needed2 .given .1)) (p .put-data .last .1 .1 .0)
     (p .put-data .result) _ held (p .put-data .ensures) (omega arith)
 
 pub write-spec : {M : Type 1} → statement M

@@ -1,0 +1,5 @@
+pub mod Formats
+pub mod OfScheme
+pub mod Once
+pub mod OpenData
+pub mod TakenApart
