@@ -13,7 +13,7 @@
 enum { MOST_ROUNDS = 101, IMPLEMENTATIONS = 3, LONG_TEXT = 12000 };
 
 typedef rosopyat_read_answer reader(const uint8_t *, size_t, uint8_t *, size_t);
-typedef rosopyat_write_answer writer(uint8_t, bool, const uint8_t *, size_t, uint8_t *, size_t);
+typedef rosopyat_write_answer writer(uint32_t, bool, const uint8_t *, size_t, uint8_t *, size_t);
 
 static reader *const readers[IMPLEMENTATIONS] = {rosopyat_read, independent_read, tuned_read};
 static writer *const writers[IMPLEMENTATIONS] = {rosopyat_write, independent_write, tuned_write};

@@ -469,7 +469,7 @@ static void data_of_full_ascii(const uint8_t *text, size_t length, uint8_t *data
     finish(&out);
 }
 
-rosopyat_write_answer tuned_write(uint8_t format, bool sync, const uint8_t *text, size_t text_length, uint8_t *packet, size_t packet_room)
+rosopyat_write_answer tuned_write(uint32_t format, bool sync, const uint8_t *text, size_t text_length, uint8_t *packet, size_t packet_room)
 {
     if (format > 7 || (0x13 >> format & 1) == 0)
         return refuse_writing(12, 0);
@@ -491,7 +491,7 @@ rosopyat_write_answer tuned_write(uint8_t format, bool sync, const uint8_t *text
         data_of_pseudo_binary(text, text_length, data);
     else
         data_of_full_ascii(text, text_length, data);
-    uint32_t flag = 0x40u | (uint32_t)format << 2 | (uint32_t)sync << 1;
+    uint32_t flag = 0x40u | format << 2 | (uint32_t)sync << 1;
     flag |= (uint32_t)!__builtin_parity(flag) << 7;
     uint32_t header = flag << 24 | (uint32_t)length << 10;
     store_32(packet, header | check_bits(header));

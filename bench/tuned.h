@@ -6,6 +6,6 @@
 
 void tuned_prepare(void); /* fills the tables; once, first */
 rosopyat_read_answer tuned_read(const uint8_t *packet, size_t packet_length, uint8_t *text, size_t text_room);
-rosopyat_write_answer tuned_write(uint8_t format, bool sync, const uint8_t *text, size_t text_length, uint8_t *packet, size_t packet_room);
+rosopyat_write_answer tuned_write(uint32_t format, bool sync, const uint8_t *text, size_t text_length, uint8_t *packet, size_t packet_room);
 
 #endif

@@ -1,12 +1,25 @@
-/* Rosopyat: reads and writes single-packet messages of the GOES DCS binary protocol.
+/* Rosopyat: reads and writes single-packet messages of the GOES DCS binary protocol. This file is the manual.
  *
- * A packet is a flag byte, three bytes of length and check, 1 to 4,000 data bytes and two checksum bytes. The data is one of three formats
- * (rosopyat_format). Both functions answer a struct: `refusal` is 0 when the call succeeded, and else one of rosopyat_refusal, with `number` saying
- * more where the refusal says so. Every other member of a refused answer is 0, and no byte of the lent buffer has changed.
+ * A packet is a flag byte, three bytes of length and check, 1 to 4,000 data bytes and two checksum bytes: 7 to 4,006 bytes. The data is a text in one of
+ * three formats (rosopyat_format). Both functions answer a struct: `refusal` is 0 when the call succeeded, and else one of rosopyat_refusal, with
+ * `number` saying more where the refusal says so. Every other member of a refused answer is 0, and no byte of the lent buffer has changed.
+ *
+ *     uint8_t packet[ROSOPYAT_MOST_PACKET];
+ *     static uint8_t text[ROSOPYAT_MOST_TEXT];
+ *     rosopyat_write_answer written = rosopyat_write(ROSOPYAT_FULL_ASCII, false, (const uint8_t *)"1.23 m", 6, packet, sizeof packet);
+ *     if (written.refusal == ROSOPYAT_ACCEPTED) {
+ *         rosopyat_read_answer read = rosopyat_read(packet, written.length, text, sizeof text);
+ *         if (read.refusal == ROSOPYAT_ACCEPTED)
+ *             fwrite(text, 1, read.text_length, stdout);
+ *     }
+ *
+ * examples/read_file.c and examples/write_file.c are whole programs. A text is bytes with a length: no zero ends it, and a zero byte is a character like
+ * any other, which Open alone can carry.
  *
  * What a caller keeps to:
  *   - a pointer leads to as many bytes as the length beside it says; where that length is 0 any pointer will do, NULL too;
  *   - the two buffers of one call do not overlap.
+ * Whatever else is handed over gets an answer: any bytes, any lengths, any number for a format.
  *
  * Nothing is allocated, kept or shared between calls: any number of threads may call at once, on buffers of their own.
  * Link with librosopyat_c.a (x86-64), which needs memset and nothing else of the C library.
@@ -33,9 +46,9 @@ enum {
 
 /* The formats, by their number in the flag byte. */
 enum rosopyat_format {
-    ROSOPYAT_OPEN = 0,          /* the data bytes are the text: any bytes */
-    ROSOPYAT_PSEUDO_BINARY = 1, /* compacted: characters 64 to 127, space and slash */
-    ROSOPYAT_FULL_ASCII = 4     /* compacted: characters 32 to 126, HT, CR and LF */
+    ROSOPYAT_OPEN = 0,          /* the data bytes are the text: any bytes, 8 bits each */
+    ROSOPYAT_PSEUDO_BINARY = 1, /* compacted: characters 64 to 127 (6 bits each, and 8 for a run of up to 128), space and slash (6 for a run of up to 16) */
+    ROSOPYAT_FULL_ASCII = 4     /* compacted: characters 32 to 63 (6 bits), 64 to 126 (7), HT, CR, LF, and CR with LF after it (9) */
 };
 
 /* Why a call was refused. The tests are made in the order given here for the reader, and in the order 12, 10, 9, 11, 8 for the writer; the first that
@@ -81,9 +94,9 @@ typedef struct rosopyat_write_answer {
 rosopyat_read_answer rosopyat_read(const uint8_t *packet, size_t packet_length, uint8_t *text, size_t text_room);
 
 /* Writes `text` as one packet to packet[0..length], in the fullest runs and the shortest codes. Bytes of `packet` behind it stay as they were.
- * A `packet_room` of 0 asks for the packet's length (refusal 8). `format` is a number of eight bits: C cuts a greater one to its low byte before the
- * call. */
-rosopyat_write_answer rosopyat_write(uint8_t format, bool sync, const uint8_t *text, size_t text_length, uint8_t *packet, size_t packet_room);
+ * A `packet_room` of 0 asks for the packet's length (refusal 8). `format` is one of rosopyat_format: all its 32 bits count, so any other number is
+ * refused (12). */
+rosopyat_write_answer rosopyat_write(uint32_t format, bool sync, const uint8_t *text, size_t text_length, uint8_t *packet, size_t packet_room);
 
 #ifdef __cplusplus
 }

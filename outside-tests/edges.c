@@ -1,5 +1,5 @@
-/* The published packets and messages (file given), the table of edges P1 to P15 and every unreadable ending, through rosopyat.h: linked once with the
- * independent implementation under the library's names, and once with the library. */
+/* The published packets and messages (file given), the table of edges P1 to P15, every unreadable ending and the numbers of formats, through rosopyat.h:
+ * linked once with the independent implementation under the library's names, and once with the library. */
 #include "maker.h"
 #include "rosopyat.h"
 
@@ -21,6 +21,10 @@ _Static_assert(ROSOPYAT_SHORT == 1 && ROSOPYAT_NO_HEADER == 2 && ROSOPYAT_OTHER_
                "numbers of the refusals");
 _Static_assert(ROSOPYAT_ACCEPTED == 0 && ROSOPYAT_OPEN == 0 && ROSOPYAT_PSEUDO_BINARY == 1 && ROSOPYAT_FULL_ASCII == 4, "numbers of the formats");
 _Static_assert(ROSOPYAT_MOST_DATA == 4000 && ROSOPYAT_OVERHEAD == 6 && ROSOPYAT_MOST_PACKET == 4006 && ROSOPYAT_MOST_TEXT == 85328, "limits");
+
+/* What a caller names: a narrower type would cut a format to one of ours before the call. */
+_Static_assert(_Generic(&rosopyat_write, rosopyat_write_answer(*)(uint32_t, bool, const uint8_t *, size_t, uint8_t *, size_t): 1, default: 0),
+               "parameters of the writer");
 
 static unsigned checked, failed;
 
@@ -62,7 +66,7 @@ static void expect_refused(const char *what, const uint8_t *packet, size_t packe
     expect_bytes(what, text, before, sizeof text);
 }
 
-static void expect_not_written(const char *what, unsigned format, const uint8_t *text, size_t text_length, unsigned refusal, size_t number)
+static void expect_not_written(const char *what, uint32_t format, const uint8_t *text, size_t text_length, unsigned refusal, size_t number)
 {
     uint8_t packet[16] = "as it was before", before[16] = "as it was before";
     rosopyat_write_answer answer = rosopyat_write(format, false, text, text_length, packet, sizeof packet);
@@ -71,7 +75,7 @@ static void expect_not_written(const char *what, unsigned format, const uint8_t 
     expect_bytes(what, packet, before, sizeof packet);
 }
 
-static void expect_writing(const char *what, unsigned format, const uint8_t *text, size_t text_length, const uint8_t *packet, size_t packet_length)
+static void expect_writing(const char *what, uint32_t format, const uint8_t *text, size_t text_length, const uint8_t *packet, size_t packet_length)
 {
     uint8_t got[ROSOPYAT_MOST_PACKET];
     rosopyat_write_answer answer = rosopyat_write(format, false, text, text_length, got, sizeof got);
@@ -223,6 +227,23 @@ static void endings(void)
     expect("endings", "within values", within_values, 2 * 21);
 }
 
+/* Formats. All but three are refused, whatever their low bits say. */
+static void formats(void)
+{
+    static const uint32_t above[] = {256, 257, 260, 65540, 0xffffffff};
+    const uint8_t slash[] = "/";
+    expect_data("format 0", 0, "/", "\x2f", 1);
+    expect_data("format 1", 1, "/", "\x43", 1);
+    expect_data("format 4", 4, "/", "\x3f", 1);
+    for (uint32_t format = 0; format < 16 + sizeof above / sizeof *above; format++) {
+        uint32_t named = format < 16 ? format : above[format - 16];
+        char what[32];
+        sprintf(what, "format %u", (unsigned)named);
+        if (named != 0 && named != 1 && named != 4)
+            expect_not_written(what, named, slash, 1, 12, 0);
+    }
+}
+
 /* The published packets and messages. */
 
 static size_t hexadecimal(const char *from, uint8_t *to)
@@ -335,6 +356,7 @@ int main(int count, char **words)
     }
     edges();
     endings();
+    formats();
     expect("published", "packets", published(words[1]), 6);
     printf("%u facts checked, %u wrong\n", checked, failed);
     return failed != 0;

@@ -3,6 +3,7 @@
 //! Use this folder as a crate (`rosopyat = { path = "rust" }`), from a program of any edition; or, in a program of an edition up to 2021, put this file
 //! beside your source, say `mod rosopyat;` and link with `-L FOLDER`, the folder of the library. Nothing is allocated, kept or shared between calls.
 
+use std::convert::TryFrom;
 use std::error::Error;
 use std::fmt;
 
@@ -13,7 +14,9 @@ pub const MOST_PACKET: usize = 4006;
 /// A text buffer of this size is never too short.
 pub const MOST_TEXT: usize = 85_328;
 
+/// The formats, by their number in the flag byte.
 #[derive(Clone, Copy, Debug, PartialEq, Eq)]
+#[repr(u32)]
 pub enum Format {
     /// The data bytes are the text: any bytes.
     Open = 0,
@@ -21,6 +24,26 @@ pub enum Format {
     PseudoBinary = 1,
     /// Compacted: characters 32 to 126, HT, CR and LF.
     FullAscii = 4,
+}
+
+impl From<Format> for u32 {
+    fn from(format: Format) -> u32 {
+        format as u32
+    }
+}
+
+/// The format of a number: 0, 1 or 4.
+impl TryFrom<u32> for Format {
+    type Error = WriteRefusal;
+
+    fn try_from(number: u32) -> Result<Format, WriteRefusal> {
+        match number {
+            0 => Ok(Format::Open),
+            1 => Ok(Format::PseudoBinary),
+            4 => Ok(Format::FullAscii),
+            _ => Err(WriteRefusal::OtherFormat),
+        }
+    }
 }
 
 /// What a packet says. The text is borrowed from the buffer that was lent for it.
@@ -57,7 +80,7 @@ pub enum ReadRefusal {
     NoRoom(usize),
 }
 
-/// Why a packet was not written. The packet buffer has not changed. (12, another format, cannot occur: a `Format` is one of the three.)
+/// Why a packet was not written. The packet buffer has not changed.
 #[derive(Clone, Copy, Debug, PartialEq, Eq)]
 pub enum WriteRefusal {
     /// 8: with the packet's length
@@ -68,6 +91,8 @@ pub enum WriteRefusal {
     Empty,
     /// 11: the data would have more than 4,000 bytes
     TooLong,
+    /// 12: the format is not 0, 1 or 4; answered where a `Format` is made of its number
+    OtherFormat,
 }
 
 impl ReadRefusal {
@@ -87,13 +112,14 @@ impl ReadRefusal {
 }
 
 impl WriteRefusal {
-    /// The number of the refusal, 8 to 11.
+    /// The number of the refusal, 8 to 12.
     pub fn number(self) -> u32 {
         match self {
             WriteRefusal::NoRoom(_) => 8,
             WriteRefusal::NoCode(_) => 9,
             WriteRefusal::Empty => 10,
             WriteRefusal::TooLong => 11,
+            WriteRefusal::OtherFormat => 12,
         }
     }
 }
@@ -122,6 +148,7 @@ impl fmt::Display for WriteRefusal {
             WriteRefusal::NoCode(index) => write!(to, "the character at index {} has no code in the format", index),
             WriteRefusal::Empty => write!(to, "the text is empty"),
             WriteRefusal::TooLong => write!(to, "the data would have more than 4,000 bytes"),
+            WriteRefusal::OtherFormat => write!(to, "the format is not 0, 1 or 4"),
         }
     }
 }
@@ -135,12 +162,7 @@ pub fn read<'a>(packet: &[u8], text: &'a mut [u8]) -> Result<Reading<'a>, ReadRe
     let answer = unsafe { library::rosopyat_read(packet.as_ptr(), packet.len(), text.as_mut_ptr(), text.len()) };
     match answer.refusal {
         0 => Ok(Reading {
-            format: match answer.format {
-                0 => Format::Open,
-                1 => Format::PseudoBinary,
-                4 => Format::FullAscii,
-                other => unknown("format", other),
-            },
+            format: Format::try_from(answer.format).unwrap_or_else(|_| unknown("format", answer.format)),
             sync: answer.sync == 1,
             mended: answer.mended,
             data_length: answer.data_length,
@@ -161,13 +183,14 @@ pub fn read<'a>(packet: &[u8], text: &'a mut [u8]) -> Result<Reading<'a>, ReadRe
 
 /// Writes `text` as one packet to the start of `packet`, and answers that part of it.
 pub fn write<'a>(format: Format, sync: bool, text: &[u8], packet: &'a mut [u8]) -> Result<&'a [u8], WriteRefusal> {
-    let answer = unsafe { library::rosopyat_write(format as u8, sync, text.as_ptr(), text.len(), packet.as_mut_ptr(), packet.len()) };
+    let answer = unsafe { library::rosopyat_write(format.into(), sync, text.as_ptr(), text.len(), packet.as_mut_ptr(), packet.len()) };
     match answer.refusal {
         0 => Ok(&packet[..answer.length]),
         8 => Err(WriteRefusal::NoRoom(answer.number)),
         9 => Err(WriteRefusal::NoCode(answer.number)),
         10 => Err(WriteRefusal::Empty),
         11 => Err(WriteRefusal::TooLong),
+        12 => Err(WriteRefusal::OtherFormat),
         other => unknown("the writer's refusal", other),
     }
 }
@@ -201,6 +224,6 @@ mod library {
     #[link(name = "rosopyat_c", kind = "static")]
     extern "C" {
         pub fn rosopyat_read(packet: *const u8, packet_length: usize, text: *mut u8, text_room: usize) -> ReadAnswer;
-        pub fn rosopyat_write(format: u8, sync: bool, text: *const u8, text_length: usize, packet: *mut u8, packet_room: usize) -> WriteAnswer;
+        pub fn rosopyat_write(format: u32, sync: bool, text: *const u8, text_length: usize, packet: *mut u8, packet_room: usize) -> WriteAnswer;
     }
 }

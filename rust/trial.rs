@@ -56,12 +56,24 @@ fn write_refusals() {
     assert_eq!(packet, [0; 64]);
 }
 
+/// Every number is a format's or refused, whatever its low bits say.
+fn formats() {
+    let mut packet = [0; 64];
+    for number in (0..16).chain([256, 257, 260, 65_540, u32::MAX]) {
+        let written = Format::try_from(number).and_then(|format| write(format, false, b"/", &mut packet).map(<[u8]>::to_vec));
+        match number {
+            0 | 1 | 4 => assert_eq!(written.map(|packet| u32::from(packet[0] >> 2 & 7)), Ok(number)),
+            _ => assert_eq!(written, Err(WriteRefusal::OtherFormat)),
+        }
+    }
+}
+
 fn numbers_and_words() {
     use ReadRefusal::*;
     let read = [Short, NoHeader, OtherType, OtherLength, CutOff, Checksum, Malformed(70), NoRoom(80)];
     assert_eq!(read.map(ReadRefusal::number), [1, 2, 3, 4, 5, 6, 7, 8]);
-    let write = [WriteRefusal::NoRoom(80), WriteRefusal::NoCode(90), WriteRefusal::Empty, WriteRefusal::TooLong];
-    assert_eq!(write.map(WriteRefusal::number), [8, 9, 10, 11]);
+    let write = [WriteRefusal::NoRoom(80), WriteRefusal::NoCode(90), WriteRefusal::Empty, WriteRefusal::TooLong, WriteRefusal::OtherFormat];
+    assert_eq!(write.map(WriteRefusal::number), [8, 9, 10, 11, 12]);
     for refusal in read {
         assert!(refusal.to_string().starts_with(&format!("refused {}: ", refusal.number())));
     }
@@ -87,6 +99,7 @@ fn main() {
     assert_eq!(there_and_back(Format::FullAscii, false, b"Stage 1.23 m\r\n\t~"), 19);
     read_refusals();
     write_refusals();
+    formats();
     numbers_and_words();
     assert_eq!(first_byte(&[0x40]).unwrap_err().to_string(), "refused 1: fewer than 4 bytes");
 

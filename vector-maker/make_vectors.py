@@ -1,9 +1,9 @@
 #!/usr/bin/env python3
 """Writes the cases of crates/vectors (stdin) and what the program must print for them (stdout).
 
-Written from the documents alone: 01 (what is to be made) and source document 001. For the published packets of 001's section 5
-(outside-tests/vectors/section5.txt) the expectation is the published packet and the message beside it; for the edges P1 to P15 it is the line of 01's table; for
-all others it is worked out here, in the plainest way: bits are strings of 0 and 1, a header is mended by trying every pattern of at most two bits.
+Written from docs/RULES.md and document 001 alone. For the published packets of 001's section 5 (outside-tests/vectors/section5.txt) the expectation is
+the published packet and the message beside it; for the edges P1 to P15 it is the line of RULES, Edges; for all others it is worked out here, in the
+plainest way: bits are strings of 0 and 1, a header is mended by trying every pattern of at most two bits.
 
     python3 vector-maker/make_vectors.py            writes both files
     python3 vector-maker/make_vectors.py --check    writes nothing: are they what would be written?

@@ -83,7 +83,9 @@ enum outcome {
     FLIPPED_3,
     FLIPPED_4,
     WRITE_REFUSED, /* and its number, 8 to 12 */
-    WRITE_OPEN = WRITE_REFUSED + 13,
+    WRITE_LOW_8_OURS = WRITE_REFUSED + 13,
+    WRITE_LOW_16_OURS,
+    WRITE_OPEN,
     WRITE_PSEUDO_BINARY,
     WRITE_FULL_ASCII,
     WRITE_SYNC_1,
@@ -136,6 +138,8 @@ static const char *const outcome_name[OUTCOMES] = {
     [WRITE_REFUSED + 10] = "writer refused 10, empty",
     [WRITE_REFUSED + 11] = "writer refused 11, too long",
     [WRITE_REFUSED + 12] = "writer refused 12, format",
+    [WRITE_LOW_8_OURS] = "  whose low 8 bits are a format's number",
+    [WRITE_LOW_16_OURS] = "  whose low 16 bits are a format's number",
     [WRITE_OPEN] = "writer accepted Open",
     [WRITE_PSEUDO_BINARY] = "writer accepted Compact Pseudo Binary",
     [WRITE_FULL_ASCII] = "writer accepted Compact Full ASCII",
@@ -690,7 +694,7 @@ static size_t longest_part(unsigned format, const uint8_t *text, size_t length)
     return fits;
 }
 
-static size_t make_text(unsigned format, uint8_t *text)
+static size_t make_text(uint32_t format, uint8_t *text)
 {
     unsigned dice = below(100), coded = format == 1 || format == 4 ? format : 0;
     if (dice < 3)
@@ -712,10 +716,17 @@ static bool same_write_answer(rosopyat_write_answer a, rosopyat_write_answer b)
     return a.refusal == b.refusal && a.number == b.number && a.length == b.length;
 }
 
-static void count_writing(rosopyat_write_answer answer, size_t room, unsigned format, bool sync)
+static bool is_ours(uint32_t format)
+{
+    return format == 0 || format == 1 || format == 4;
+}
+
+static void count_writing(rosopyat_write_answer answer, size_t room, uint32_t format, bool sync)
 {
     if (answer.refusal != 0) {
         outcomes[WRITE_REFUSED + answer.refusal]++;
+        outcomes[WRITE_LOW_8_OURS] += answer.refusal == 12 && is_ours(format & 0xff);
+        outcomes[WRITE_LOW_16_OURS] += answer.refusal == 12 && is_ours(format & 0xffff);
         outcomes[WRITE_ONE_SHORT] += answer.refusal == 8 && room + 1 == answer.number;
         return;
     }
@@ -726,7 +737,7 @@ static void count_writing(rosopyat_write_answer answer, size_t room, unsigned fo
 }
 
 /* Reads the library's packet back into the other output, which is put back by the caller. */
-static bool reads_back(struct place packet, size_t length, unsigned format, bool sync, const uint8_t *text, size_t text_length)
+static bool reads_back(struct place packet, size_t length, uint32_t format, bool sync, const uint8_t *text, size_t text_length)
 {
     uint8_t *back = independent_output;
     rosopyat_read_answer answer = rosopyat_read(library_output + packet.start, length, back, REGION);
@@ -743,10 +754,29 @@ static void damage_text(size_t length)
         made_text[chance(20) ? length - 1 : below(length)] = chance(30) ? between(31, 33) : chance(30) ? between(126, 128) : random_64() >> 56;
 }
 
+/* Mostly one of ours; or near them; or one that only its upper bits tell from ours; or any. */
+static uint32_t some_format(void)
+{
+    static const uint32_t ours[] = {0, 1, 1, 1, 4, 4, 4};
+    static const uint32_t others[] = {256, 257, 260, 65540, 0xffffffff};
+    uint32_t format = ours[below(7)];
+    switch (below(40)) {
+    case 0:
+        return below(16);
+    case 1:
+        return others[below(5)];
+    case 2:
+        return format | random_64() << (chance(50) ? 8 : 16);
+    case 3:
+        return random_64();
+    default:
+        return format;
+    }
+}
+
 static bool writer_case(void)
 {
-    static const uint8_t formats[] = {0, 1, 1, 1, 4, 4, 4};
-    uint8_t format = chance(3) ? random_64() >> 56 : chance(3) ? below(8) : formats[below(7)];
+    uint32_t format = some_format();
     bool sync = below(2);
     size_t length = make_text(format, made_text);
     if (length > 0 && chance(10))

@@ -340,7 +340,7 @@ static rosopyat_write_answer refuse_writing(uint32_t refusal, size_t number)
     return answer;
 }
 
-rosopyat_write_answer independent_write(uint8_t format, bool sync, const uint8_t *text, size_t text_length, uint8_t *packet, size_t packet_room)
+rosopyat_write_answer independent_write(uint32_t format, bool sync, const uint8_t *text, size_t text_length, uint8_t *packet, size_t packet_room)
 {
     if (format != 0 && format != 1 && format != 4)
         return refuse_writing(12, 0);
@@ -360,7 +360,7 @@ rosopyat_write_answer independent_write(uint8_t format, bool sync, const uint8_t
     row.data = packet + 4;
     row.bits = 0;
     write_data(format, &row, text, text_length);
-    uint32_t flag = 0x40u | (uint32_t)format << 2 | (uint32_t)sync << 1;
+    uint32_t flag = 0x40u | format << 2 | (uint32_t)sync << 1;
     if (ones(flag) % 2 == 0)
         flag |= 0x80;
     uint32_t header = flag << 24 | (uint32_t)length << 10;

@@ -5,6 +5,6 @@
 #include "rosopyat.h"
 
 rosopyat_read_answer independent_read(const uint8_t *packet, size_t packet_length, uint8_t *text, size_t text_room);
-rosopyat_write_answer independent_write(uint8_t format, bool sync, const uint8_t *text, size_t text_length, uint8_t *packet, size_t packet_room);
+rosopyat_write_answer independent_write(uint32_t format, bool sync, const uint8_t *text, size_t text_length, uint8_t *packet, size_t packet_room);
 
 #endif
