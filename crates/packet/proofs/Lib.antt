@@ -1,8 +1,12 @@
+pub mod ExamineAnswers
 pub mod ExamineOnce
 pub mod ExamineStages
 pub mod Headers
+pub mod InPlace
 pub mod ReadAnswers
 pub mod ReadOnce
 pub mod Sent
+pub mod Usual
+pub mod WriteAnswers
 pub mod WriteOnce
 pub mod WriteStages

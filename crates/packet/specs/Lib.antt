@@ -1,5 +1,6 @@
 pub mod Examine
 pub mod Packet
 pub mod Reader
+pub mod Steps
 pub mod Terms
 pub mod Writer

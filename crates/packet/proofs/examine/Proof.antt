@@ -1,0 +1,23 @@
+-- `packet::examine` meets its contract.
+-- Assumes nothing.
+use mathlib.Core.Path.{subst}
+use borrow.Author.Needs.{needs}
+use Rattle.packet.specs.declared.Terms.{Terms}
+use Rattle.packet.specs.Examine.{Examines}
+use Rattle.packet.proofs.Usual.{named-so}
+use Rattle.packet.proofs.examine.Statement.{statement}
+use Rattle.packet.proofs.examine.Tie as tie
+
+usual-requires : tie.Need-usual-requires
+usual-requires c κs = search needs
+
+examine-under-requires : tie.Need-examine-under-requires
+examine-under-requires c κs = named-so (c .usual .result) (c .usual .ensures)
+
+returns : tie.Need-returns
+returns c =
+    subst (λ (terms : Terms). Examines terms (c .before .before .before .args .packet .now) (c .examine-under .result)) (c .before .usual .ensures)
+    (c .examine-under .ensures)
+
+pub examine-spec : {M : Type 1} → statement M
+examine-spec = tie.close (tie.spec usual-requires examine-under-requires returns)
