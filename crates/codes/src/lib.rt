@@ -131,16 +131,11 @@ pub enum Uncoded {
     Nowhere,
 }
 
-// How many data bytes a text takes, if each character has a code and one packet holds so many.
+// How many data bytes a text takes, if each character has a code and they are no more than a caller allows.
 pub enum Needed {
     NoCode(usize),
     TooMany,
     Bytes(usize),
-}
-
-impl Needed {
-    // The most bits that one packet holds.
-    pub const MOST: usize = 32000;
 }
 
 // What writing the data of a text into a buffer comes to: how many bytes, with the data in the buffer; or nothing is changed, and why.

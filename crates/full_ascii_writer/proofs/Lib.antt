@@ -1,5 +1,3 @@
-pub mod Adding
 pub mod Counting
-pub mod Eight
-pub mod Pushing
+pub mod Joining
 pub mod Sending

@@ -2,10 +2,8 @@
 -- Assumes nothing.
 use mathlib.Core.Path.{_≡_, refl, sym, ap, ap₂, subst, subst⁻¹, subst₂, _∙_}
 use mathlib.Core.Bool.{Bool, true, false, cond, _&&_}
-use mathlib.Core.Logic.{by-cases}
 use mathlib.Core.List.{List, [], _∷_, _++_}
-use Prim.Native.Nat.{ℕ, suc, _+_, _-_, _*_, _/_, _^_, _≤_, _<_}
-use native.Mathlib.Decide.{decLt}
+use Prim.Native.Nat.{ℕ, suc, _+_, _-_, _^_, _≤_, _<_}
 use native.Mathlib.Nat.{add-zero}
 use native.Mathlib.Numerals.{add-one}
 use native.Mathlib.Omega.{arith}
@@ -17,7 +15,8 @@ use Rattle.codes.specs.Chain.{Entry, codes}
 use Rattle.codes.specs.Pack.{low}
 use Rattle.full_ascii.specs.Table.{HT, LF, CR, six, seven, special, pair}
 use Rattle.full_ascii.specs.Writer.{coded, AllCoded, own, ours, LineEnd}
-use Rattle.full_ascii_writer.specs.Steps.Sending.{OwnOf, FirstCodeOf}
+use Rattle.codes.proofs.LowBits.{length-low}
+use Rattle.full_ascii_writer.specs.Steps.Sending.{OwnOf, FirstCodesOf}
 use Rattle.full_ascii_writer.specs.declared.Sent.{Sent}
 use Rattle.full_ascii.proofs.Entries.{Kind, kind, tab, feed, return, lower, upper, own-lower, own-upper}
 use Rattle.full_ascii.proofs.Writer.{line-end}
@@ -25,44 +24,36 @@ use Rattle.full_ascii.proofs.Writer.{line-end}
 abbrev sent : ℕ → ℕ → Sent
 sent bits width = record { bits = bits; width = width; count = 1 }
 
--- a character's own code
-sends-own : (c bits width : ℕ) → own c .code ≡ low width bits → bits < 2 ^ width → width ≤ 9 → OwnOf c (sent bits width)
-sends-own c bits width e f k = (record { code = e; fits = f; long = k }, refl)
+-- a character's own code: the number and the width that it must have
+sends-own : (c number long : ℕ) {bits width : ℕ} → own c .code ≡ low long number → number < 2 ^ long → long ≤ 9 → bits ≡ number → width ≡ long
+    → OwnOf c (sent bits width)
+sends-own c number long e f k x y =
+    subst₂ (λ (bits width : ℕ). OwnOf c (sent bits width)) (sym x) (sym y) (record { code = e; fits = f; long = k; count = refl })
 
--- that of a control character: the number it must be
-sends-nine : (c d bits code : ℕ) → OwnOf d (sent code 9) → c ≡ d → bits ≡ code → OwnOf c (sent bits 9)
-sends-nine c d bits code o e f = subst₂ (λ (x y : ℕ). OwnOf x (sent y 9)) (sym e) (sym f) o
+-- that of a control character
+sends-nine : (c d number : ℕ) {bits width : ℕ} → own d .code ≡ low 9 number → number < 512 → c ≡ d → bits ≡ number → width ≡ 9 → OwnOf c (sent bits width)
+sends-nine c d number e f x = sends-own c number 9 (ap (λ (z : ℕ). own z .code) x ∙ e) f (lit≤ tt)
 
-pub sends-tab : (c : ℕ) {bits : ℕ} → c ≡ HT → bits ≡ 508 → OwnOf c (sent bits 9)
-unfolding own special low bit
-sends-tab c {bits} e f = sends-nine c HT bits 508 (sends-own HT 508 9 refl (lit< tt) (lit≤ tt)) e f
+module _ (c : ℕ) {bits width : ℕ} where
+  pub sends-tab : c ≡ HT → bits ≡ 508 → width ≡ 9 → OwnOf c (sent bits width)
+  unfolding own special low bit
+  sends-tab = sends-nine c HT 508 refl (lit< tt)
 
-pub sends-return : (c : ℕ) {bits : ℕ} → c ≡ CR → bits ≡ 509 → OwnOf c (sent bits 9)
-unfolding own special low bit
-sends-return c {bits} e f = sends-nine c CR bits 509 (sends-own CR 509 9 refl (lit< tt) (lit≤ tt)) e f
+  pub sends-return : c ≡ CR → bits ≡ 509 → width ≡ 9 → OwnOf c (sent bits width)
+  unfolding own special low bit
+  sends-return = sends-nine c CR 509 refl (lit< tt)
 
-pub sends-feed : (c : ℕ) {bits : ℕ} → c ≡ LF → bits ≡ 510 → OwnOf c (sent bits 9)
-unfolding own special low bit
-sends-feed c {bits} e f = sends-nine c LF bits 510 (sends-own LF 510 9 refl (lit< tt) (lit≤ tt)) e f
+  pub sends-feed : c ≡ LF → bits ≡ 510 → width ≡ 9 → OwnOf c (sent bits width)
+  unfolding own special low bit
+  sends-feed = sends-nine c LF 510 refl (lit< tt)
 
-pub sends-lower : (c : ℕ) → 32 ≤ c → c < 64 → OwnOf c (sent (c - 32) 6)
-unfolding six
-sends-lower c h k = sends-own c (c - 32) 6 (ap (λ (e : Entry). e .code) (own-lower c h k)) (omega arith) (lit≤ tt)
+  pub sends-lower : 32 ≤ c → c < 64 → bits ≡ c - 32 → width ≡ 6 → OwnOf c (sent bits width)
+  unfolding six
+  sends-lower h k = sends-own c (c - 32) 6 (ap (λ (e : Entry). e .code) (own-lower c h k)) (omega arith) (lit≤ tt)
 
-pub sends-upper : (c : ℕ) → 64 ≤ c → c < 127 → OwnOf c (sent c 7)
-unfolding seven
-sends-upper c h k = sends-own c c 7 (ap (λ (e : Entry). e .code) (own-upper c h)) (omega arith) (lit≤ tt)
-
--- both in one
-pub sends-plain : (c : ℕ) → 32 ≤ c → c ≤ 126 → OwnOf c (sent (c - 32 + c / 64 * 32) (6 + c / 64))
-sends-plain c h k =
-    by-cases (decLt c 64)
-    (λ l.
-    subst₂ (λ (bits width : ℕ). OwnOf c (sent bits width)) (let e : c - 32 ≡ c - 32 + c / 64 * 32 = omega arith in e)
-    (let e : 6 ≡ 6 + c / 64 = omega arith in e) (sends-lower c h l))
-    (λ l.
-    subst₂ (λ (bits width : ℕ). OwnOf c (sent bits width)) (let e : c ≡ c - 32 + c / 64 * 32 = omega arith in e)
-    (let e : 7 ≡ 6 + c / 64 = omega arith in e) (sends-upper c (omega arith) (omega arith)))
+  pub sends-upper : 64 ≤ c → c < 127 → bits ≡ c → width ≡ 7 → OwnOf c (sent bits width)
+  unfolding seven
+  sends-upper h k = sends-own c c 7 (ap (λ (e : Entry). e .code) (own-upper c h)) (omega arith) (lit≤ tt)
 
 -- no other control character has a code, and how high the others go
 pub no-other : (c : ℕ) → T (coded c) → c < 32 → (c ≡ HT → ⊥) → (c ≡ CR → ⊥) → (c ≡ LF → ⊥) → ⊥
@@ -84,6 +75,20 @@ coded-most c t = most (kind c t)
     most (return e) = omega (arith, e)
     most (lower j k) = omega arith
     most (upper j k) = omega arith
+
+pub plain-short : (c : ℕ) (r : Sent) → T (coded c) → 32 ≤ c → OwnOf c r → r .width ≤ 7
+unfolding six seven low bit
+plain-short c r t h o = short (kind c t)
+  where
+    wide : length (own c .code) ≡ r .width
+    wide = ap length (o .code) ∙ length-low (r .width) (r .bits)
+
+    short : Kind c → r .width ≤ 7
+    short (tab e) = omega (arith, e)
+    short (feed e) = omega (arith, e)
+    short (return e) = omega (arith, e)
+    short (lower j k) = omega (arith, wide, ap (λ (e : Entry). length (e .code)) (own-lower c j k))
+    short (upper j k) = omega (arith, wide, ap (λ (e : Entry). length (e .code)) (own-upper c j))
 
 -- a line end at place i of the text
 module _ (t : List ℕ) (i : ℕ) where
@@ -107,17 +112,25 @@ module _ (t : List ℕ) (i : ℕ) where
   )
 
 -- the first code of ours
-pub first-pair : (t : List ℕ) {bits count : ℕ} → LineEnd t → bits ≡ 511 → count ≡ 2 → FirstCodeOf t (record { bits = bits; width = 9; count = count })
-unfolding ours pair special low bit coded
-first-pair t e f g =
-    subst₂ (λ (b n : ℕ). FirstCodeOf t (record { bits = b; width = 9; count = n })) (sym f) (sym g)
-    (subst⁻¹ (λ (l : List ℕ). FirstCodeOf l (record { bits = 511; width = 9; count = 2 })) (e .1) (record {
-      entry = pair;
-      first = refl;
-      sends = record { code = refl; fits = lit< tt; long = lit≤ tt };
-      some = lit≤ tt;
-      few = omega arith;
-    }))
+pair-codes : (t : List ℕ) → LineEnd t → codes (ours t) ≡ low 9 511 ++ codes (ours (drop 2 t))
+unfolding ours codes pair special low bit
+pair-codes t e =
+    subst⁻¹ (λ (l : List ℕ). codes (ours l) ≡ low 9 511 ++ codes (ours (drop 2 l))) (e .1) refl
+
+pair-first : (t : List ℕ) (i : ℕ) → LineEnd (drop i t) → FirstCodesOf t i 9 (record { bits = 511; width = 9; count = 2 })
+pair-first t i e = record {
+  same = pair-codes (drop i t) e ∙ ap (λ (l : List ℕ). low 9 511 ++ codes (ours l)) (drop-drop 2 i t);
+  fits = lit< tt;
+  long = lit≤ tt;
+  some = lit≤ tt;
+  within = omega (arith, end-size t i e);
+}
+
+pub first-pair : (t : List ℕ) (i : ℕ) {bits width count : ℕ} → LineEnd (drop i t) → bits ≡ 511 → width ≡ 9 → count ≡ 2
+    → FirstCodesOf t i 9 (record { bits = bits; width = width; count = count })
+first-pair t i {bits} {width} e f g h =
+    subst⁻¹ (λ (n : ℕ). FirstCodesOf t i 9 (record { bits = bits; width = width; count = n })) h
+    (subst₂ (λ (b w : ℕ). FirstCodesOf t i 9 (record { bits = b; width = w; count = 2 })) (sym f) (sym g) (pair-first t i e))
 
 ours-own : (c : ℕ) (t : List ℕ) → (LineEnd (c ∷ t) → ⊥) → ours (c ∷ t) ≡ own c ∷ ours t
 unfolding ours
@@ -128,38 +141,31 @@ ours-own c (d ∷ t) h = pick (eqb c CR && eqb d LF) refl
     pick true x = let l = line-end c d x in absurd (h (t, ap₂ (λ (y z : ℕ). y ∷ z ∷ t) (l .0) (l .1)))
     pick false x = refl
 
-own-next : (c : ℕ) (t : List ℕ) (r : Sent) → (LineEnd (c ∷ t) → ⊥) → OwnOf c r → FirstCodeOf (c ∷ t) r
-own-next c t r h o = record {
-  entry = own c;
-  first = ours-own c t h ∙ ap (λ (n : ℕ). own c ∷ ours (drop n (c ∷ t))) (sym (o .1));
-  sends = o .0;
-  some = omega (arith, o .1);
-  few = omega (arith, o .1);
-}
+own-codes : (c : ℕ) (t : List ℕ) (r : Sent) → (LineEnd (c ∷ t) → ⊥) → OwnOf c r → codes (ours (c ∷ t)) ≡ low (r .width) (r .bits) ++ codes (ours t)
+unfolding codes
+own-codes c t r h o = ap codes (ours-own c t h) ∙ ap (λ (l : List ℕ). l ++ codes (ours t)) (o .code)
 
-pub first-own : (t : List ℕ) (i : ℕ) (r : Sent) → i < length t → (LineEnd (drop i t) → ⊥) → OwnOf (getD t i 0) r → FirstCodeOf (drop i t) r
-first-own t i r h e o =
-    subst⁻¹ (λ (l : List ℕ). FirstCodeOf l r) (drop-cons t i 0 h)
-    (own-next (getD t i 0) (drop (suc i) t) r (subst (λ (l : List ℕ). LineEnd l → ⊥) (drop-cons t i 0 h) e) o)
+module _ (t : List ℕ) (i : ℕ) (r : Sent) (h : i < length t) (o : OwnOf (getD t i 0) r) where
+  pub first-own : (LineEnd (drop i t) → ⊥) → FirstCodesOf t i 9 r
+  first-own e = record {
+    same = ap (λ (l : List ℕ). codes (ours l)) (drop-cons t i 0 h)
+        ∙ own-codes (getD t i 0) (drop (suc i) t) r (subst (λ (l : List ℕ). LineEnd l → ⊥) (drop-cons t i 0 h) e) o
+        ∙ ap (λ (k : ℕ). low (r .width) (r .bits) ++ codes (ours (drop k t))) (sym (ap (λ (n : ℕ). i + n) (o .count) ∙ add-one i));
+    fits = o .fits;
+    long = o .long;
+    some = omega (arith, o .count);
+    within = omega (arith, o .count);
+  }
 
--- a code more, and at the end no more
-module _ (t : List ℕ) (i : ℕ) (r : Sent) (f : FirstCodeOf (drop i t) r) where
-  pub ours-rest : ours (drop i t) ≡ f .entry ∷ ours (drop (i + r .count) t)
-  ours-rest = f .first ∙ ap (λ (l : List ℕ). f .entry ∷ ours l) (drop-drop (r .count) i t)
-
-  pub count-rest : i ≤ length t → i + r .count ≤ length t
-  count-rest h = omega (arith, f .few, length-drop i t)
+  -- no line end begins with a plain character, and its code has seven bits at most
+  pub first-plain : T (coded (getD t i 0)) → 32 ≤ getD t i 0 → FirstCodesOf t i 7 r
+  first-plain c p =
+      let first = first-own (λ e. omega (arith, end-first t i e)) in
+      record { same = first .same; fits = first .fits; long = plain-short (getD t i 0) r c p o; some = first .some; within = first .within }
 
 pub ours-end : (t : List ℕ) (i : ℕ) → length t ≤ i → ours (drop i t) ≡ []
 unfolding ours
 ours-end t i h = ap ours (drop-of-length-le t h)
-
--- the first code's bits, then those of the rest
-pub codes-rest : (t : List ℕ) (i : ℕ) (r : Sent) → FirstCodeOf (drop i t) r
-    → codes (ours (drop i t)) ≡ low (r .width) (r .bits) ++ codes (ours (drop (i + r .count) t))
-unfolding codes
-codes-rest t i r f =
-    ap codes (ours-rest t i r f) ∙ ap (λ (l : List ℕ). l ++ codes (ours (drop (i + r .count) t))) (f .sends .code)
 
 pub coded-at : (t : List ℕ) (i : ℕ) → AllCoded t → i < length t → T (coded (getD t i 0))
 coded-at t i c h = c i h

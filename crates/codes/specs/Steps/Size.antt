@@ -1,4 +1,4 @@
--- What a text asks before it is written, as functions answer it: a code for each character, and data that one packet holds.
+-- What a text asks before it is written, as functions answer it: a code for each character, and data of no more bytes than a caller allows.
 -- Assumes nothing.
 use mathlib.Core.Bool.{Bool}
 use mathlib.Core.List.{List, _++_}

@@ -1,6 +1,5 @@
 -- `formats::put_text` meets its contract.
 -- Assumes nothing.
-use native.Mathlib.Omega.{arith}
 use lib.ListN.{length}
 use borrow.Author.Needs.{needs}
 use Rattle.formats.proofs.OfScheme.{of-pseudo-binary, of-full-ascii, scheme-room, scheme-text}

@@ -7,6 +7,9 @@ use Rattle.full_ascii_writer.proofs.Counting.{least-bits}
 use Rattle.full_ascii_writer.proofs.coded_length.Statement.{statement}
 use Rattle.full_ascii_writer.proofs.coded_length.Tie as tie
 
+mul-room : tie.Need-mul-room
+mul-room c = search needs
+
 mul-if1 : tie.Need-mul-if1
 mul-if1 c = search needs
 
@@ -28,8 +31,8 @@ returns-2 c =
     let t = e .args .text .now in
     (e .pre, omega (arith, c .if2 .taken, c .before .code-bits .ensures, length-written (ours t)))
 
-add-t3 : tie.Need-add-t3
-add-t3 c = search needs
+add-t5 : tie.Need-add-t5
+add-t5 c = search needs
 
 returns-3 : tie.Need-returns-3
 returns-3 c =
@@ -39,4 +42,5 @@ returns-3 c =
 
 pub coded-length-spec : {M : Type 1} → statement M
 coded-length-spec =
-    tie.close (tie.spec mul-if1 returns code-bits-requires cast-n returns-2 add-t3 returns-3)
+    tie.close
+    (tie.spec mul-room mul-if1 returns code-bits-requires cast-n returns-2 add-t5 returns-3)

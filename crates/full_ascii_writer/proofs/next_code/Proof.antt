@@ -1,6 +1,5 @@
 -- `full_ascii_writer::next_code` meets its contract. Assumes nothing.
 use native.Mathlib.Omega.{arith}
-use lib.ListN.{drop}
 use Rattle.bits.proofs.Said.{said-yes, said-no}
 use Rattle.full_ascii_writer.proofs.Sending.{first-pair, first-own}
 use borrow.Author.Needs.{needs}
@@ -14,7 +13,8 @@ returns : tie.Need-returns
 returns c =
     let p = c .before in
     let e = p .before .before in
-    first-pair (drop (e .args .i) (e .args .text .now)) (said-yes (p .pair-at .result) (p .pair-at .ensures) (c .if1 .taken)) (omega arith) (omega arith)
+    first-pair (e .args .text .now) (e .args .i) (said-yes (p .pair-at .result) (p .pair-at .ensures) (c .if1 .taken)) (omega arith) (omega arith)
+    (omega arith)
 
 shared-slice-read-own-code : tie.Need-shared-slice-read-own-code
 shared-slice-read-own-code c = search needs
@@ -29,8 +29,8 @@ returns-2 c =
     let l = c .before .before in
     let p = l .before in
     let e = p .before .before in
-    first-own (e .args .text .now) (e .args .i) (c .own-code .result) (e .pre .1)
-    (said-no (p .pair-at .result) (p .pair-at .ensures) (l .if1 .left)) (c .own-code .ensures)
+    first-own (e .args .text .now) (e .args .i) (c .own-code .result) (e .pre .1) (c .own-code .ensures)
+    (said-no (p .pair-at .result) (p .pair-at .ensures) (l .if1 .left))
 
 pub next-code-spec : {M : Type 1} → statement M
 next-code-spec =

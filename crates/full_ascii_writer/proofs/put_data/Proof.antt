@@ -1,21 +1,20 @@
 -- `full_ascii_writer::put_data` meets its contract. The loop's invariant: the bytes so far are laid, and what is held, our codes of the rest of the text and
 -- the fill are pending. Assumes nothing.
 use mathlib.Core.Path.{_≡_, sym, ap, subst, subst⁻¹, _∙_}
-use mathlib.Core.List.{List, _++_}
+use mathlib.Core.List.{List, _++_, append-assoc}
 use Prim.Native.Nat.{ℕ, _+_, _-_, _*_, _≤_, _<_}
 use native.Mathlib.Nat.{zero-add}
 use native.Mathlib.Omega.{arith}
 use lib.ListN.{length, drop, replicate}
 use Rattle.codes.specs.Chain.{Entry, codes}
 use Rattle.codes.specs.Steps.Laid.{laid}
-use Rattle.codes.specs.Pack.{written, gap}
+use Rattle.codes.specs.Pack.{low, written, gap}
 use Rattle.full_ascii.specs.Writer.{ours}
 use Rattle.codes.specs.Steps.Pending.{Pending}
-use Rattle.codes.proofs.PendingBytes.{pending-none, pending-length, pending-room-bytes, pending-bytes}
+use Rattle.codes.proofs.PendingBytes.{pending-none, pending-push, pending-length, pending-room-bytes, pending-bytes}
 use Rattle.codes.proofs.LastBytes.{flush-room, flushed}
 use Rattle.codes.proofs.BitsInBytes.{bits-written, length-written, gap-few}
 use Rattle.full_ascii.proofs.Writer.{writer-laws}
-use Rattle.full_ascii_writer.proofs.Pushing.{pushed-pending}
 use Rattle.full_ascii_writer.proofs.Sending.{ours-end}
 use Rattle.full_ascii_writer.proofs.put_data.Statement.{statement}
 use Rattle.full_ascii_writer.proofs.put_data.Tie as tie
@@ -90,24 +89,42 @@ loop-again c =
           (a .loop .have) (rest t (a .loop .i)) (l .if1 .taken) (a .loop .inv .2))) (omega arith),
     )
 
-push-codes-requires : tie.Need-push-codes-requires Inv-loop μ-loop
-push-codes-requires c κs = (c .before .before .before .before .before .pre .0, c .before .loop-test .taken, c .if1 .left)
+next-codes-requires : tie.Need-next-codes-requires Inv-loop μ-loop
+next-codes-requires c κs = (c .before .before .before .before .before .pre .0, c .before .loop-test .taken)
+
+push-requires : tie.Need-push-requires Inv-loop μ-loop
+push-requires c κs = (omega (arith, c .next-codes .ensures .long), c .next-codes .ensures .fits)
+
+add-have : tie.Need-add-have Inv-loop μ-loop
+add-have c = let f = c .before .before in omega (arith, f .next-codes .ensures .long, f .before .if1 .left)
+
+add-i : tie.Need-add-i Inv-loop μ-loop
+add-i c =
+    let f = c .before .before .before in
+    omega (arith, f .next-codes .ensures .within, f .before .before .before .before .before .before .good)
 
 loop-less-2 : tie.Need-loop-less-2 Inv-loop μ-loop
 loop-less-2 c =
-    let p = c .push-codes .ensures in
-    omega (arith, p .later, p .within, p .few)
+    let next = c .before .before .before .next-codes .ensures in
+    omega (arith, next .some, next .within, next .long)
 
 loop-again-2 : tie.Need-loop-again-2 Inv-loop μ-loop
 loop-again-2 c =
-    let a = c .before .before .before in
+    let f = c .before .before .before in
+    let a = f .before .before .before in
     let e = a .before .before .before in
     let t = e .args .text .now in
-    let p = c .push-codes .ensures in (
-      p .within,
-      omega (arith, p .few, c .before .if1 .left),
-      pushed-pending t 28 (record { held = a .loop .held; have = a .loop .have; next = a .loop .i }) (c .push-codes .result) (written (ours t))
-          (e .args .out .now) (a .loop .out) 0 (a .loop .n) (replicate (gap (length (codes (ours t)))) 1) p (a .loop .inv .2),
+    let r = f .next-codes .result in
+    let next = f .next-codes .ensures in
+    let push = c .before .before .push in (
+      next .within,
+      omega (arith, next .long, f .before .if1 .left),
+      pending-push (written (ours t)) (e .args .out .now) (a .loop .out) 0 (a .loop .n) (a .loop .held) (a .loop .have) (push .result) (r .width) (r .bits)
+          (rest t (a .loop .i + r .count)) (omega (arith, next .long, f .before .if1 .left)) (push .ensures)
+          (subst (Pending (written (ours t)) (e .args .out .now) (a .loop .out) 0 (a .loop .n) (a .loop .held) (a .loop .have))
+          (ap (λ (l : List ℕ). l ++ replicate (gap (length (codes (ours t)))) 1) (next .same)
+          ∙ append-assoc (low (r .width) (r .bits)) (codes (ours (drop (a .loop .i + r .count) t))) (replicate (gap (length (codes (ours t)))) 1))
+          (a .loop .inv .2)),
     )
 
 -- after the loop: what is held and the fill are pending
@@ -168,7 +185,10 @@ put-data-spec =
     add-n
     loop-less
     loop-again
-    push-codes-requires
+    next-codes-requires
+    push-requires
+    add-have
+    add-i
     loop-less-2
     loop-again-2
     flush-requires
