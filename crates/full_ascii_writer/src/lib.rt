@@ -1,4 +1,5 @@
-// Compact Full ASCII (001, 4.5), written: whether a text has codes, how long its data is, and the data. What our writer builds is in full_ascii.
+// Compact Full ASCII (001, 4.5), written: whether a character has a code, how long the data of a text is, and the data. What our writer builds is in
+// full_ascii.
 
 use codes::Needed;
 use full_ascii::Character;
@@ -13,7 +14,7 @@ ghost use Rattle.codes.specs.Chain.{codes};
 ghost use Rattle.codes.specs.Pack.{written};
 ghost use Rattle.codes.specs.Steps.Size.{Needs};
 ghost use Rattle.full_ascii.specs.Writer.{coded, AllCoded, ours, LineEnd};
-ghost use Rattle.full_ascii_writer.specs.Steps.Sending.{OwnOf, FirstCodesOf, bitsFor, BitsUpTo, FourPlain, Few, Joined, PutsOurs};
+ghost use Rattle.full_ascii_writer.specs.Steps.Sending.{OwnOf, FirstCodesOf, bitsFor, BitsUpTo, FourPlain, Joinable, Joined, PutsOurs};
 
 // A code to be sent, or some in a row: the bits as a number, how many they are, and the characters that they take.
 struct Sent {
@@ -22,7 +23,7 @@ struct Sent {
     pub count: usize,
 }
 
-// The code of a character by itself.
+// The code of a character by itself: a match over its ranges and the control codes picks number and width (RULES, Forms of the code).
 fn own_code(c: u8) -> Sent
     requires { ⌜ T (coded c) ⌝ }
     ensures { λ r. ⌜ OwnOf c r ⌝ }
@@ -184,7 +185,7 @@ fn four_plain(text: &[u8], i: usize) -> bool
 
 // Codes and those that come next, as one number.
 fn joined(first: Sent, next: Sent) -> Sent
-    requires { ⌜ Few first × Few next ⌝ }
+    requires { ⌜ Joinable first × Joinable next ⌝ }
     ensures { λ r. ⌜ Joined first next r ⌝ }
 {
     Sent {

@@ -1,4 +1,4 @@
--- A code as the writer sends it.
+-- Codes as the writer sends them, and how many bits they have.
 -- Assumes nothing.
 use mathlib.Core.Path.{_≡_}
 use mathlib.Core.Bool.{cond, _&&_}
@@ -28,8 +28,8 @@ pub record FirstCodesOf (text : List ℕ) (i most : ℕ) (r : Sent) : Type 0 whe
   pub some : 1 ≤ r .count
   pub within : i + r .count ≤ length text
 
--- the codes of two plain characters at most
-pub record Few (r : Sent) : Type 0 where
+-- so few bits and characters that two such may be joined: those of two plain characters at most
+pub record Joinable (r : Sent) : Type 0 where
   pub fits : r .bits < 2 ^ r .width
   pub long : r .width ≤ 14
   pub count : r .count ≤ 2
