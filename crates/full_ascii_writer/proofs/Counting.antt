@@ -3,7 +3,7 @@
 use mathlib.Core.Path.{_≡_, refl, sym, ap, subst⁻¹, _∙_}
 use mathlib.Core.Bool.{Bool, true, false, cond, _&&_}
 use mathlib.Core.List.{List, [], _∷_}
-use Prim.Native.Nat.{ℕ, _+_, _*_, _≤_, _<_}
+use Prim.Native.Nat.{ℕ, _+_, _-_, _*_, _≤_, _<_}
 use native.Mathlib.Numerals.{add-one}
 use native.Mathlib.Omega.{arith}
 use mir.Val.{boolByte}
@@ -15,7 +15,7 @@ use Rattle.codes.specs.Chain.{Entry, codes}
 use Rattle.codes.specs.Pack.{low}
 use Rattle.full_ascii.specs.Table.{HT, LF, CR, six, seven, special, pair}
 use Rattle.full_ascii.specs.Writer.{own, ours}
-use Rattle.full_ascii_writer.specs.Steps.Sending.{bitsFor, bitsAfter}
+use Rattle.full_ascii_writer.specs.Steps.Sending.{bitsFor, bitsAfter, BitsUpTo}
 use Rattle.full_ascii.proofs.Writer.{line-end, ours-has, size, size-feed}
 
 -- ---- the bits of one character
@@ -86,6 +86,12 @@ module _ (t : List ℕ) where
   pub bits-end : (before i : ℕ) → length t ≤ i → bitsAfter before (drop i t) ≡ 0
   unfolding bitsAfter
   bits-end before i h = ap (bitsAfter before) (drop-of-length-le t h)
+
+  -- a character more
+  pub bits-more : (from i n k : ℕ) → 1 ≤ i → i < length t → BitsUpTo t from i n → k ≡ bitsFor (getD t (i - 1) 0) (getD t i 0) → BitsUpTo t from (i + 1) (n + k)
+  bits-more from i n k o h b e =
+      let here : i + 1 - 1 ≡ i = omega arith in
+      omega (arith, b, e, bits-next (getD t (i - 1) 0) i h, ap (λ (j : ℕ). bitsAfter (getD t j 0) (drop (i + 1) t)) here)
 
 -- ---- a text has four and a half bits a character or more
 

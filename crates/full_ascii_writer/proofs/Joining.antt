@@ -16,7 +16,7 @@ use Rattle.codes.specs.Chain.{codes}
 use Rattle.codes.specs.Pack.{low}
 use Rattle.codes.proofs.PushedBits.{pushed}
 use Rattle.full_ascii.specs.Writer.{AllCoded, ours}
-use Rattle.full_ascii_writer.specs.Steps.Sending.{OwnOf, FirstCodesOf, FourPlain, Few, Joined}
+use Rattle.full_ascii_writer.specs.Steps.Sending.{OwnOf, FirstCodesOf, FourPlain, Joinable, Joined}
 use Rattle.full_ascii_writer.specs.declared.Sent.{Sent}
 use Rattle.full_ascii_writer.proofs.Sending.{first-plain}
 
@@ -57,7 +57,7 @@ join-fits a b m n r h k l e =
     (subst⁻¹ (λ (x : ℕ). a * 2 ^ n + b < x) (pow-add 2 m n) (digits-lt h k))
 
 module _ (first next : Sent) where
-  pub join : {bits width count : ℕ} → Few first → Few next → bits ≡ bitOr (first .bits * 2 ^ next .width % 2 ^ 64) (next .bits)
+  pub join : {bits width count : ℕ} → Joinable first → Joinable next → bits ≡ bitOr (first .bits * 2 ^ next .width % 2 ^ 64) (next .bits)
       → width ≡ first .width + next .width → count ≡ first .count + next .count → Joined first next (record { bits = bits; width = width; count = count })
   join {bits} {width} f n b w c = record {
     same = ap (λ (k : ℕ). low k bits) w

@@ -14,7 +14,7 @@ use Rattle.bits.specs.Word.{bit}
 use Rattle.codes.specs.Chain.{Entry, codes}
 use Rattle.codes.specs.Pack.{low}
 use Rattle.full_ascii.specs.Table.{HT, LF, CR, six, seven, special, pair}
-use Rattle.full_ascii.specs.Writer.{coded, AllCoded, own, ours, LineEnd}
+use Rattle.full_ascii.specs.Writer.{coded, own, ours, LineEnd}
 use Rattle.codes.proofs.LowBits.{length-low}
 use Rattle.full_ascii_writer.specs.Steps.Sending.{OwnOf, FirstCodesOf}
 use Rattle.full_ascii_writer.specs.declared.Sent.{Sent}
@@ -166,6 +166,3 @@ module _ (t : List ℕ) (i : ℕ) (r : Sent) (h : i < length t) (o : OwnOf (getD
 pub ours-end : (t : List ℕ) (i : ℕ) → length t ≤ i → ours (drop i t) ≡ []
 unfolding ours
 ours-end t i h = ap ours (drop-of-length-le t h)
-
-pub coded-at : (t : List ℕ) (i : ℕ) → AllCoded t → i < length t → T (coded (getD t i 0))
-coded-at t i c h = c i h

@@ -1,10 +1,11 @@
-// Compact Full ASCII (001, 4.5), written: whether a text has codes, how long its data is, and the data. What our writer builds is in full_ascii.
+// Compact Full ASCII (001, 4.5), written: whether a character has a code, how long the data of a text is, and the data. What our writer builds is in
+// full_ascii.
 
 use codes::Needed;
 use full_ascii::Character;
 use full_ascii::Special;
 ghost use mathlib.Core.Path.{_≡_};
-ghost use Prim.Native.Nat.{_+_, _*_, _^_, _<_, _≤_};
+ghost use Prim.Native.Nat.{_+_, _-_, _*_, _^_, _<_, _≤_};
 ghost use lib.Dec.{T};
 ghost use lib.ListN.{length, drop};
 ghost use Rattle.bits.specs.Says.{Says};
@@ -13,7 +14,7 @@ ghost use Rattle.codes.specs.Chain.{codes};
 ghost use Rattle.codes.specs.Pack.{written};
 ghost use Rattle.codes.specs.Steps.Size.{Needs};
 ghost use Rattle.full_ascii.specs.Writer.{coded, AllCoded, ours, LineEnd};
-ghost use Rattle.full_ascii_writer.specs.Steps.Sending.{OwnOf, FirstCodesOf, bitsFor, FourPlain, Few, Joined, PutsOurs};
+ghost use Rattle.full_ascii_writer.specs.Steps.Sending.{OwnOf, FirstCodesOf, bitsFor, BitsUpTo, FourPlain, Joinable, Joined, PutsOurs};
 
 // A code to be sent, or some in a row: the bits as a number, how many they are, and the characters that they take.
 struct Sent {
@@ -22,7 +23,7 @@ struct Sent {
     pub count: usize,
 }
 
-// The code of a character by itself.
+// The code of a character by itself: a match over its ranges and the control codes picks number and width (RULES, Forms of the code).
 fn own_code(c: u8) -> Sent
     requires { ⌜ T (coded c) ⌝ }
     ensures { λ r. ⌜ OwnOf c r ⌝ }
@@ -99,7 +100,7 @@ pub fn is_coded(c: u8) -> bool
 
 // How many bits our data has for a character that comes after `before`: those of its own code. The code of a line end is counted at its CR, whose own has as
 // many, and nothing at its LF.
-fn bits_for(before: u8, c: u8) -> u32
+fn bits_for(before: u8, c: u8) -> u16
     requires { ⌜ T (coded c) ⌝ }
     ensures { λ r. ⌜ (r ≡ bitsFor before c) × (r ≤ 9) ⌝ }
 {
@@ -107,10 +108,36 @@ fn bits_for(before: u8, c: u8) -> u32
         return 0;
     }
     let code = own_code(c);
-    code.width as u32
+    code.width as u16
 }
 
-// How many bits our codes of the text have together.
+// Where the next characters end that are counted together: 7,000 have fewer than 2^16 bits, and numbers of 16 bits are added twice as many at once as
+// those of 32.
+fn block_end(from: usize, length: usize) -> usize
+    requires { ⌜ from < length ⌝ }
+    ensures { λ r. ⌜ (from < r) × (r ≤ length) × (r ≤ from + 7000) ⌝ }
+{
+    if length - from < 7000 {
+        return length;
+    }
+    from + 7000
+}
+
+// How many bits our data has for the characters from one place up to another.
+fn block_bits(text: &[u8], from: usize, to: usize) -> u16
+    requires { ⌜ AllCoded (now text) × (1 ≤ from) × (from ≤ to) × (to ≤ length (now text)) × (to ≤ from + 7000) ⌝ }
+    ensures { λ r. ⌜ (r ≤ 9 * (to - from)) × BitsUpTo (now (text .entry)) from to r ⌝ }
+{
+    let mut n: u16 = 0;
+    let mut i = from;
+    while i < to {
+        n += bits_for(text[i - 1], text[i]);
+        i += 1;
+    }
+    n
+}
+
+// How many bits our codes of the text have together. No character comes before the first: 0 stands for it.
 fn code_bits(text: &[u8]) -> u32
     requires { ⌜ AllCoded (now text) × (9 * length (now text) < 2 ^ 32) ⌝ }
     ensures { λ r. ⌜ r ≡ length (codes (ours (now (text .entry)))) ⌝ }
@@ -118,11 +145,12 @@ fn code_bits(text: &[u8]) -> u32
     if text.len() == 0 {
         return 0;
     }
-    let mut n = bits_for(0, text[0]);
+    let mut n = bits_for(0, text[0]) as u32;
     let mut i: usize = 1;
     while i < text.len() {
-        n += bits_for(text[i - 1], text[i]);
-        i += 1;
+        let to = block_end(i, text.len());
+        n += block_bits(text, i, to) as u32;
+        i = to;
     }
     n
 }
@@ -157,7 +185,7 @@ fn four_plain(text: &[u8], i: usize) -> bool
 
 // Codes and those that come next, as one number.
 fn joined(first: Sent, next: Sent) -> Sent
-    requires { ⌜ Few first × Few next ⌝ }
+    requires { ⌜ Joinable first × Joinable next ⌝ }
     ensures { λ r. ⌜ Joined first next r ⌝ }
 {
     Sent {
@@ -198,15 +226,14 @@ pub fn put_data(text: &[u8], out: &mut [u8]) -> usize
     let mut i: usize = 0;
     let mut n: usize = 0;
     while i < text.len() {
+        let next = next_codes(text, i);
+        held = codes::push(held, next.bits, next.width);
+        have += next.width;
+        i += next.count;
         if 32 <= have {
             codes::spill(out, n, held, have);
             have -= 32;
             n += 4;
-        } else {
-            let next = next_codes(text, i);
-            held = codes::push(held, next.bits, next.width);
-            have += next.width;
-            i += next.count;
         }
     }
     codes::flush(out, n, held, have)

@@ -2,7 +2,7 @@
 -- the fill are pending. Assumes nothing.
 use mathlib.Core.Path.{_≡_, sym, ap, subst, subst⁻¹, _∙_}
 use mathlib.Core.List.{List, _++_, append-assoc}
-use Prim.Native.Nat.{ℕ, _+_, _-_, _*_, _≤_, _<_}
+use Prim.Native.Nat.{ℕ, _+_, _-_, _≤_, _<_}
 use native.Mathlib.Nat.{zero-add}
 use native.Mathlib.Omega.{arith}
 use lib.ListN.{length, drop, replicate}
@@ -21,11 +21,11 @@ use Rattle.full_ascii_writer.proofs.put_data.Tie as tie
 
 abbrev Inv-loop : tie.InvT-loop
 Inv-loop text out₀ held₀ have₀ i₀ n₀ out held have i n =
-    (i ≤ length text) × (have < 64) × Pending (written (ours text)) out₀ out 0 n held have
+    (i ≤ length text) × (have < 32) × Pending (written (ours text)) out₀ out 0 n held have
     (codes (ours (drop i text)) ++ replicate (gap (length (codes (ours text)))) 1)
 
 abbrev μ-loop : tie.MeasureT-loop
-μ-loop text out₀ held₀ have₀ i₀ n₀ out held have i n = 29 * (length text - i) + have
+μ-loop text out₀ held₀ have₀ i₀ n₀ out held have i n = length text - i
 
 loop-holds : tie.Need-loop-holds Inv-loop μ-loop
 loop-holds c =
@@ -52,24 +52,69 @@ same a =
     pending-length (written (ours t)) (e .args .out .now) 0 (writer-laws .ours-bytes t (e .pre .0)) (room a) (a .loop .out) (a .loop .n) (a .loop .held)
     (a .loop .have) (rest t (a .loop .i)) (a .loop .inv .2)
 
-four-room : (c : tie.Then1 Inv-loop μ-loop) → c .before .before .loop .n + 4 ≤ length (c .before .before .before .before .before .args .out .now)
-four-room c =
-    let a = c .before .before in
+next-codes-requires : tie.Need-next-codes-requires Inv-loop μ-loop
+next-codes-requires c κs = (c .before .before .before .before .pre .0, c .loop-test .taken)
+
+push-requires : tie.Need-push-requires Inv-loop μ-loop
+push-requires c κs = (omega (arith, c .next-codes .ensures .long), c .next-codes .ensures .fits)
+
+add-have : tie.Need-add-have Inv-loop μ-loop
+add-have c = omega (arith, c .before .before .next-codes .ensures .long)
+
+add-i : tie.Need-add-i Inv-loop μ-loop
+add-i c =
+    let f = c .before .before .before in
+    omega (arith, f .next-codes .ensures .within, f .before .before .before .before .before .good)
+
+-- what is pending after the next codes
+pushed : (p : tie.After-push Inv-loop μ-loop)
+    → Pending (written (ours (p .before .before .before .before .before .before .args .text .now)))
+    (p .before .before .before .before .before .before .args .out .now) (p .before .before .before .loop .out) 0 (p .before .before .before .loop .n)
+    (p .push .result) (p .before .before .before .loop .have + p .before .next-codes .result .width)
+    (rest (p .before .before .before .before .before .before .args .text .now)
+    (p .before .before .before .loop .i + p .before .next-codes .result .count))
+pushed p =
+    let f = p .before in
+    let a = f .before .before in
     let e = a .before .before .before in
     let t = e .args .text .now in
-    pending-room-bytes (written (ours t)) (e .args .out .now) 0 (writer-laws .ours-bytes t (e .pre .0)) (room a) 4 (a .loop .out) (a .loop .n) (a .loop .held)
-    (a .loop .have) (rest t (a .loop .i)) (c .if1 .taken) (a .loop .inv .2)
+    let r = f .next-codes .result in
+    let next = f .next-codes .ensures in
+    pending-push (written (ours t)) (e .args .out .now) (a .loop .out) 0 (a .loop .n) (a .loop .held) (a .loop .have) (p .push .result) (r .width) (r .bits)
+    (rest t (a .loop .i + r .count)) (omega (arith, next .long)) (p .push .ensures)
+    (subst (Pending (written (ours t)) (e .args .out .now) (a .loop .out) 0 (a .loop .n) (a .loop .held) (a .loop .have))
+    (ap (λ (l : List ℕ). l ++ replicate (gap (length (codes (ours t)))) 1) (next .same)
+    ∙ append-assoc (low (r .width) (r .bits)) (codes (ours (drop (a .loop .i + r .count) t))) (replicate (gap (length (codes (ours t)))) 1))
+    (a .loop .inv .2))
+
+-- there is room for four bytes of it
+four-room : (l : tie.Then1 Inv-loop μ-loop)
+    → l .before .before .before .before .before .before .loop .n + 4
+    ≤ length (l .before .before .before .before .before .before .before .before .before .args .out .now)
+four-room l =
+    let p = l .before .before .before in
+    let f = p .before in
+    let a = f .before .before in
+    let e = a .before .before .before in
+    let t = e .args .text .now in
+    pending-room-bytes (written (ours t)) (e .args .out .now) 0 (writer-laws .ours-bytes t (e .pre .0)) (room a) 4 (a .loop .out) (a .loop .n) (p .push .result)
+    (a .loop .have + f .next-codes .result .width) (rest t (a .loop .i + f .next-codes .result .count)) (l .if1 .taken) (pushed p)
 
 spill-requires : tie.Need-spill-requires Inv-loop μ-loop
-spill-requires c κs = (c .before .if1 .taken, omega arith, omega (arith, four-room (c .before), same (c .before .before .before)))
+spill-requires c κs =
+    let l = c .before in
+    let f = l .before .before .before .before in
+    (l .if1 .taken, omega (arith, f .next-codes .ensures .long), omega (arith, four-room l, same (f .before .before)))
 
 add-n : tie.Need-add-n Inv-loop μ-loop
 add-n c =
     let l = c .before .before .before .before in
-    omega (arith, four-room l, l .before .before .before .before .before .good)
+    omega (arith, four-room l, l .before .before .before .before .before .before .before .before .before .good)
 
 loop-less : tie.Need-loop-less Inv-loop μ-loop
-loop-less c = omega (arith, c .before .before .before .before .if1 .taken)
+loop-less c =
+    let next = c .before .before .before .before .before .before .before .before .next-codes .ensures in
+    omega (arith, next .some, next .within)
 
 -- what is pending at a place is pending where the code says it is
 moved : {w entry out rest : List ℕ} {m k n held have : ℕ} → Pending w entry out m k held have rest → k ≡ n → Pending w entry out m n held have rest
@@ -78,54 +123,30 @@ moved {w} {entry} {out} {rest} {m} {k} {n} {held} {have} p e = subst (λ (i : �
 loop-again : tie.Need-loop-again Inv-loop μ-loop
 loop-again c =
     let l = c .before .before .before .before in
-    let a = l .before .before in
+    let p = l .before .before .before in
+    let f = p .before in
+    let a = f .before .before in
     let e = a .before .before .before in
-    let t = e .args .text .now in (
-      a .loop .inv .0,
-      omega arith,
-      moved (subst⁻¹ (λ (o : List ℕ). Pending (written (ours t)) (e .args .out .now) o 0 (a .loop .n + 4) (a .loop .held) (a .loop .have - 32) (rest t (a .loop .i)))
+    let t = e .args .text .now in
+    let have = a .loop .have + f .next-codes .result .width in
+    let later = rest t (a .loop .i + f .next-codes .result .count) in (
+      f .next-codes .ensures .within,
+      omega (arith, f .next-codes .ensures .long),
+      moved (subst⁻¹ (λ (o : List ℕ). Pending (written (ours t)) (e .args .out .now) o 0 (a .loop .n + 4) (p .push .result) (have - 32) later)
           (c .before .before .spill .ensures)
-          (pending-bytes (written (ours t)) (e .args .out .now) 0 (writer-laws .ours-bytes t (e .pre .0)) (room a) 4 (a .loop .out) (a .loop .n) (a .loop .held)
-          (a .loop .have) (rest t (a .loop .i)) (l .if1 .taken) (a .loop .inv .2))) (omega arith),
+          (pending-bytes (written (ours t)) (e .args .out .now) 0 (writer-laws .ours-bytes t (e .pre .0)) (room a) 4 (a .loop .out) (a .loop .n) (p .push .result)
+          have later (l .if1 .taken) (pushed p))) (omega arith),
     )
-
-next-codes-requires : tie.Need-next-codes-requires Inv-loop μ-loop
-next-codes-requires c κs = (c .before .before .before .before .before .pre .0, c .before .loop-test .taken)
-
-push-requires : tie.Need-push-requires Inv-loop μ-loop
-push-requires c κs = (omega (arith, c .next-codes .ensures .long), c .next-codes .ensures .fits)
-
-add-have : tie.Need-add-have Inv-loop μ-loop
-add-have c = let f = c .before .before in omega (arith, f .next-codes .ensures .long, f .before .if1 .left)
-
-add-i : tie.Need-add-i Inv-loop μ-loop
-add-i c =
-    let f = c .before .before .before in
-    omega (arith, f .next-codes .ensures .within, f .before .before .before .before .before .before .good)
 
 loop-less-2 : tie.Need-loop-less-2 Inv-loop μ-loop
 loop-less-2 c =
-    let next = c .before .before .before .next-codes .ensures in
-    omega (arith, next .some, next .within, next .long)
+    let next = c .before .before .before .before .next-codes .ensures in
+    omega (arith, next .some, next .within)
 
 loop-again-2 : tie.Need-loop-again-2 Inv-loop μ-loop
 loop-again-2 c =
-    let f = c .before .before .before in
-    let a = f .before .before .before in
-    let e = a .before .before .before in
-    let t = e .args .text .now in
-    let r = f .next-codes .result in
-    let next = f .next-codes .ensures in
-    let push = c .before .before .push in (
-      next .within,
-      omega (arith, next .long, f .before .if1 .left),
-      pending-push (written (ours t)) (e .args .out .now) (a .loop .out) 0 (a .loop .n) (a .loop .held) (a .loop .have) (push .result) (r .width) (r .bits)
-          (rest t (a .loop .i + r .count)) (omega (arith, next .long, f .before .if1 .left)) (push .ensures)
-          (subst (Pending (written (ours t)) (e .args .out .now) (a .loop .out) 0 (a .loop .n) (a .loop .held) (a .loop .have))
-          (ap (λ (l : List ℕ). l ++ replicate (gap (length (codes (ours t)))) 1) (next .same)
-          ∙ append-assoc (low (r .width) (r .bits)) (codes (ours (drop (a .loop .i + r .count) t))) (replicate (gap (length (codes (ours t)))) 1))
-          (a .loop .inv .2)),
-    )
+    let p = c .before .before .before in
+    (p .before .next-codes .ensures .within, c .if1 .left, pushed p)
 
 -- after the loop: what is held and the fill are pending
 held : (l : tie.After-loop Inv-loop μ-loop)
@@ -181,14 +202,14 @@ put-data-spec =
     Inv-loop
     μ-loop
     loop-holds
-    spill-requires
-    add-n
-    loop-less
-    loop-again
     next-codes-requires
     push-requires
     add-have
     add-i
+    spill-requires
+    add-n
+    loop-less
+    loop-again
     loop-less-2
     loop-again-2
     flush-requires

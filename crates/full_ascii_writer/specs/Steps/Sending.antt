@@ -1,9 +1,9 @@
--- A code as the writer sends it.
+-- Codes as the writer sends them, and how many bits they have.
 -- Assumes nothing.
 use mathlib.Core.Path.{_≡_}
 use mathlib.Core.Bool.{cond, _&&_}
 use mathlib.Core.List.{List, [], _∷_, _++_}
-use Prim.Native.Nat.{ℕ, _+_, _^_, _≤_, _<_}
+use Prim.Native.Nat.{ℕ, _+_, _-_, _^_, _≤_, _<_}
 use lib.Dec.{eqb}
 use lib.ListN.{length, drop, getD}
 use Rattle.codes.specs.Chain.{codes}
@@ -28,8 +28,8 @@ pub record FirstCodesOf (text : List ℕ) (i most : ℕ) (r : Sent) : Type 0 whe
   pub some : 1 ≤ r .count
   pub within : i + r .count ≤ length text
 
--- the codes of two plain characters at most
-pub record Few (r : Sent) : Type 0 where
+-- so few bits and characters that two such may be joined: those of two plain characters at most
+pub record Joinable (r : Sent) : Type 0 where
   pub fits : r .bits < 2 ^ r .width
   pub long : r .width ≤ 14
   pub count : r .count ≤ 2
@@ -50,6 +50,11 @@ bitsFor before c = cond (eqb before CR && eqb c LF) 0 (length (own c .code))
 unfoldable pub bitsAfter : ℕ → List ℕ → ℕ
 bitsAfter before [] = 0
 bitsAfter before (c ∷ text) = bitsFor before c + bitsAfter c text
+
+-- n bits for the characters of a text from one place up to another, both behind its first character
+abbrev pub BitsUpTo : List ℕ → ℕ → ℕ → ℕ → Type 0
+BitsUpTo text from to n =
+    bitsAfter (getD text (from - 1) 0) (drop from text) ≡ n + bitsAfter (getD text (to - 1) 0) (drop to text)
 
 -- four characters are there from place i on, and none is a control character
 pub record FourPlain (text : List ℕ) (i : ℕ) : Type 0 where
