@@ -450,7 +450,7 @@ def longest():
 
 
 def writer_refusals():
-    for format in range(10):
+    for format in range(16):
         for text in b"", b"/", b"\x80":
             for room in 0, 16:
                 writes(format, text, room)
