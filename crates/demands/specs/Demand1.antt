@@ -54,12 +54,10 @@ pub record Demand1 (terms : Terms) : Type 0 where
   -- 12, 10, 9, 11, 8.
   pub write-refuses : (number : ℕ) (sync : Bool) (text entry exit : List ℕ) (answer : WriteAnswer) → Writes terms number sync text entry answer exit
       → RefusedExactly WriteRefusal writeTold (WriteFault terms number text (length entry)) writerTurn (λ refusal. answer ≡ NotWritten refusal)
-
   -- A refusal changes no byte of a lent buffer;
   pub read-refusal-changes-nothing : (packet entry exit : List ℕ) (refusal : ReadRefusal) → Reads terms packet entry (NotRead refusal) exit → exit ≡ entry
   pub write-refusal-changes-nothing : (number : ℕ) (sync : Bool) (text entry exit : List ℕ) (refusal : WriteRefusal)
       → Writes terms number sync text entry (NotWritten refusal) exit → exit ≡ entry
-
   -- an accepted call writes only the bytes that it counts: behind them the buffer is as it was.
   pub read-writes-counted : (packet entry exit : List ℕ) (reading : Reading) → Reads terms packet entry (Accepted reading) exit
       → drop (reading .«text_length») exit ≡ drop (reading .«text_length») entry

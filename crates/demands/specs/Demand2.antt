@@ -68,7 +68,6 @@ pub record Demand2 (terms : Terms) : Type 0 where
   pub empty-refused : (format : Format) (sync : Bool) (entry exit : List ℕ) (answer : WriteAnswer)
       → Writes terms (formatNumber format) sync [] entry answer exit → (answer ≡ NotWritten Empty) × (exit ≡ entry)
   pub empty-never-written : (number : ℕ) (sync : Bool) (entry exit : List ℕ) (n : ℕ) → Writes terms number sync [] entry (Written n) exit → ⊥
-
   -- A packet is accepted exactly when its header is no more bits from a valid one than are mended, the document and our limits allow the packet with that
   -- header in one of our formats, and the buffer holds its text;
   pub accepted-exactly : (packet entry exit : List ℕ) (answer : ReadAnswer) → Reads terms packet entry answer exit
@@ -87,7 +86,6 @@ pub record Demand2 (terms : Terms) : Type 0 where
   pub accepted-is-made : (packet : List ℕ) (reading : Reading) (text : List ℕ) → Bytes packet → Accepts terms packet reading text
       → (made after : List ℕ) × Made terms (reading .format) (reading .sync) text made × Flipped terms made (received packet)
       × (packet ≡ arriving (received packet) made after) × (reading .mended ≡ distance (received packet) (received made))
-
   -- Writing that text again in its format gives a packet, in no more bytes than that one had,
   pub written-again : (packet : List ℕ) (reading : Reading) (text : List ℕ) → Accepts terms packet reading text
       → (sync : Bool) (lent exit : List ℕ) (answer : WriteAnswer) → packetLength (reading .format) text ≤ length lent

@@ -10,11 +10,6 @@ pub enum Mending {
     Hopeless,
 }
 
-impl Mending {
-    // The most bits that a caller may have mended: within three, more than one valid header may lie.
-    pub const MOST: u32 = 2;
-}
-
 // The valid header that a received word is read as, where at most so many bits are mended.
 pub fn mend(received: u32, limit: u32) -> Mending
     requires { ⌜ limit ≤ 2 ⌝ }
