@@ -4,3 +4,4 @@ pub mod Demand3
 pub mod Edges
 pub mod OneAnswer
 pub mod Parts
+pub mod Promised

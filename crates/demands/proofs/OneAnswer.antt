@@ -64,7 +64,7 @@ module _ (terms : Terms) (named : MayBeNamed terms) where
           .0,
       λ short.
           reads-one terms named packet entry read (NotRead (NoRoom (reading .«text_length»))) exit entry reads
-          (no-room terms packet named entry reading (examines .0) (examines .1) short)
+          (no-room terms packet named entry reading (examines .0) (examines .1) (reading .«text_length») refl short)
           .0,
     );
   }

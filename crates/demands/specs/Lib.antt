@@ -4,3 +4,4 @@ pub mod Demand3
 pub mod Edges
 pub mod Makers
 pub mod OneAnswer
+pub mod Promised

@@ -1,1 +1,2 @@
-// What the user was promised, as theorems: specs/ has the statements' terms and the table of edges, proofs/ the theorems. No code of its own.
+// What the user was promised: specs/ has the three demands as statements, sentence by sentence, and the table of edges; proofs/ shows that they hold. No code
+// of its own.

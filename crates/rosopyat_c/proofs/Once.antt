@@ -4,19 +4,21 @@ use mathlib.Core.Bool.{Bool}
 use mathlib.Core.List.{List}
 use mathlib.Core.Path.{_≡_, sym, ap, _∙_}
 use Prim.Native.Nat.{ℕ}
+use Rattle.packet.specs.Terms.{usual}
 use Rattle.packet.proofs.ReadOnce.{reads-one}
+use Rattle.packet.proofs.Usual.{usual-named}
 use Rattle.packet.proofs.WriteOnce.{writes-one}
-use Rattle.rosopyat_c.specs.Answers.{readReply, writeReply, Reads, Writes}
+use Rattle.rosopyat_c.specs.Replies.{readReply, writeReply, RepliesToRead, RepliesToWrite}
 use Rattle.rosopyat_c.specs.declared.ReadReply.{ReadReply}
 use Rattle.rosopyat_c.specs.declared.WriteReply.{WriteReply}
 
-pub read-once : (packet entry : List ℕ) (a b : ReadReply) (x y : List ℕ) → Reads packet entry a x → Reads packet entry b y → (a ≡ b) × (x ≡ y)
+pub read-once : (packet entry : List ℕ) (a b : ReadReply) (x y : List ℕ) → RepliesToRead packet entry a x → RepliesToRead packet entry b y → (a ≡ b) × (x ≡ y)
 read-once packet entry a b x y p q =
-    let same = reads-one packet entry (p .answer) (q .answer) x y (p .reads) (q .reads) in
+    let same = reads-one usual usual-named packet entry (p .answer) (q .answer) x y (p .reads) (q .reads) in
     (p .is ∙ ap readReply (same .0) ∙ sym (q .is), same .1)
 
 pub write-once : (number : ℕ) (sync : Bool) (text entry : List ℕ) (a b : WriteReply) (x y : List ℕ)
-    → Writes number sync text entry a x → Writes number sync text entry b y → (a ≡ b) × (x ≡ y)
+    → RepliesToWrite number sync text entry a x → RepliesToWrite number sync text entry b y → (a ≡ b) × (x ≡ y)
 write-once number sync text entry a b x y p q =
-    let same = writes-one number sync text entry (p .answer) (q .answer) x y (p .writes) (q .writes) in
+    let same = writes-one usual number sync text entry (p .answer) (q .answer) x y (p .writes) (q .writes) in
     (p .is ∙ ap writeReply (same .0) ∙ sym (q .is), same .1)

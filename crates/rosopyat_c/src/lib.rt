@@ -2,7 +2,7 @@
 use header::Header;
 use packet::ReadAnswer;
 use packet::WriteAnswer;
-ghost use Rattle.rosopyat_c.specs.Answers.{Reads, Writes};
+ghost use Rattle.rosopyat_c.specs.Replies.{RepliesToRead, RepliesToWrite};
 
 // A packet that was read (`refusal` 0), or why not: then every member but `refusal` and `number` is 0.
 #[repr(C)]
@@ -26,7 +26,7 @@ pub struct WriteReply {
 
 #[no_mangle]
 pub extern "C" fn rosopyat_read(packet: &[u8], text: &mut [u8]) -> ReadReply
-    ensures { λ r. ⌜ Reads (now (packet .entry)) (now (text .entry)) r (now (text .exit)) ⌝ }
+    ensures { λ r. ⌜ RepliesToRead (now (packet .entry)) (now (text .entry)) r (now (text .exit)) ⌝ }
 {
     let answer = packet::read(packet, text);
     match answer {
@@ -63,7 +63,7 @@ pub extern "C" fn rosopyat_write(
     text: &[u8],
     packet: &mut [u8],
 ) -> WriteReply
-    ensures { λ r. ⌜ Writes format sync (now (text .entry)) (now (packet .entry)) r (now (packet .exit)) ⌝ }
+    ensures { λ r. ⌜ RepliesToWrite format sync (now (text .entry)) (now (packet .entry)) r (now (packet .exit)) ⌝ }
 {
     let answer = packet::write(format, sync, text, packet);
     match answer {

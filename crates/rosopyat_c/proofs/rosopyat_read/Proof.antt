@@ -4,7 +4,8 @@ use mathlib.Core.Path.{subst}
 use borrow.Author.Needs.{needs}
 use Rattle.packet.specs.declared.ReadAnswer.{ReadAnswer}
 use Rattle.packet.specs.declared.ReadAnswer.the-variants.{Accepted, Refused}
-use Rattle.packet.specs.Reader as reader
+use Rattle.packet.specs.Reader.{Reads}
+use Rattle.packet.specs.Terms.{usual}
 use Rattle.rosopyat_c.proofs.rosopyat_read.Statement.{statement}
 use Rattle.rosopyat_c.proofs.rosopyat_read.Tie as tie
 
@@ -41,7 +42,7 @@ returns c =
     record {
       answer = Accepted reading;
       reads =
-          subst (λ (answer : ReadAnswer). reader.Reads (a .packet .now) (a .text .now) answer (r .read .last .1 .0)) (n .before .before .answer .given .1)
+          subst (λ (answer : ReadAnswer). Reads usual (a .packet .now) (a .text .now) answer (r .read .last .1 .0)) (n .before .before .answer .given .1)
           (r .read .ensures);
       is =
           λ i.
@@ -68,7 +69,7 @@ returns-2 c =
     record {
       answer = Refused (n .before .before .answer2 .given .0 .0);
       reads =
-          subst (λ (answer : ReadAnswer). reader.Reads (a .packet .now) (a .text .now) answer (r .read .last .1 .0)) (n .before .before .answer2 .given .1)
+          subst (λ (answer : ReadAnswer). Reads usual (a .packet .now) (a .text .now) answer (r .read .last .1 .0)) (n .before .before .answer2 .given .1)
           (r .read .ensures);
       is =
           λ i.

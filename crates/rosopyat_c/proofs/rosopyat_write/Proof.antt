@@ -4,7 +4,8 @@ use mathlib.Core.Path.{refl, subst}
 use borrow.Author.Needs.{needs}
 use Rattle.packet.specs.declared.WriteAnswer.{WriteAnswer}
 use Rattle.packet.specs.declared.WriteAnswer.the-variants.{Written, Refused}
-use Rattle.packet.specs.Writer as writer
+use Rattle.packet.specs.Terms.{usual}
+use Rattle.packet.specs.Writer.{Writes}
 use Rattle.rosopyat_c.proofs.rosopyat_write.Statement.{statement}
 use Rattle.rosopyat_c.proofs.rosopyat_write.Tie as tie
 
@@ -33,7 +34,7 @@ returns c =
     record {
       answer = Written (c .before .answer .given .0 .0);
       writes =
-          subst (λ (answer : WriteAnswer). writer.Writes (a .format) (a .sync) (a .text .now) (a .packet .now) answer (r .write .last .1 .1 .1 .0))
+          subst (λ (answer : WriteAnswer). Writes usual (a .format) (a .sync) (a .text .now) (a .packet .now) answer (r .write .last .1 .1 .1 .0))
           (c .before .answer .given .1) (r .write .ensures);
       is = refl;
     }
@@ -49,7 +50,7 @@ returns-2 c =
     record {
       answer = Refused (n .before .before .answer2 .given .0 .0);
       writes =
-          subst (λ (answer : WriteAnswer). writer.Writes (a .format) (a .sync) (a .text .now) (a .packet .now) answer (r .write .last .1 .1 .1 .0))
+          subst (λ (answer : WriteAnswer). Writes usual (a .format) (a .sync) (a .text .now) (a .packet .now) answer (r .write .last .1 .1 .1 .0))
           (n .before .before .answer2 .given .1) (r .write .ensures);
       is = λ i. record { refusal = n .number .ensures i; number = c .value .ensures i; length = 0 };
     }

@@ -1,4 +1,4 @@
--- The answers of the entry points as plain structs: `refusal` is the paper's number, 0 where the call is accepted; `number` comes with it; and every
+-- The answers of the entry points as plain structs: `refusal` is its number (RULES, Refusals), 0 where the call is accepted; `number` comes with it; and every
 -- member that a refusal does not name is 0.
 -- Assumes nothing.
 use mathlib.Core.Bool.{Bool}
@@ -11,9 +11,10 @@ use Rattle.packet.specs.declared.ReadAnswer.{ReadAnswer}
 use Rattle.packet.specs.declared.ReadAnswer.the-variants.{Accepted, Refused}
 use Rattle.packet.specs.declared.WriteAnswer.{WriteAnswer}
 use Rattle.packet.specs.declared.WriteAnswer.the-variants.{Written, Refused as NotWritten}
-use Rattle.packet.specs.Reader as reader
-use Rattle.refusals.specs.Refusals.{numberOf, valueOf}
-use Rattle.packet.specs.Writer as writer
+use Rattle.refusals.specs.Refusals.{numberIn, valueIn, readTold, writeTold}
+use Rattle.packet.specs.Reader.{Reads}
+use Rattle.packet.specs.Terms.{usual}
+use Rattle.packet.specs.Writer.{Writes}
 use Rattle.rosopyat_c.specs.declared.ReadReply.{ReadReply}
 use Rattle.rosopyat_c.specs.declared.WriteReply.{WriteReply}
 
@@ -31,8 +32,8 @@ readReply (Accepted reading) =
     }
 readReply (Refused refusal) =
     record {
-      refusal = numberOf refusal;
-      number = valueOf refusal;
+      refusal = numberIn (readTold refusal);
+      number = valueIn (readTold refusal);
       format = 0;
       sync = 0;
       mended = 0;
@@ -43,15 +44,15 @@ readReply (Refused refusal) =
 
 abbrev pub writeReply : WriteAnswer → WriteReply
 writeReply (Written length) = record { refusal = 0; number = 0; length = length }
-writeReply (NotWritten refusal) = record { refusal = numberOf refusal; number = valueOf refusal; length = 0 }
+writeReply (NotWritten refusal) = record { refusal = numberIn (writeTold refusal); number = valueIn (writeTold refusal); length = 0 }
 
 -- the reply is that of an answer that the entry point may give
-pub record Reads (packet entry : List ℕ) (reply : ReadReply) (exit : List ℕ) : Type 0 where
+pub record RepliesToRead (packet entry : List ℕ) (reply : ReadReply) (exit : List ℕ) : Type 0 where
   pub answer : ReadAnswer
-  pub reads : reader.Reads packet entry answer exit
+  pub reads : Reads usual packet entry answer exit
   pub is : reply ≡ readReply answer
 
-pub record Writes (number : ℕ) (sync : Bool) (text entry : List ℕ) (reply : WriteReply) (exit : List ℕ) : Type 0 where
+pub record RepliesToWrite (number : ℕ) (sync : Bool) (text entry : List ℕ) (reply : WriteReply) (exit : List ℕ) : Type 0 where
   pub answer : WriteAnswer
-  pub writes : writer.Writes number sync text entry answer exit
+  pub writes : Writes usual number sync text entry answer exit
   pub is : reply ≡ writeReply answer

@@ -1,0 +1,16 @@
+-- All that was promised, under terms: the three demands, and what stands beside them.
+-- Assumes nothing.
+use Rattle.packet.specs.declared.Terms.{Terms}
+use Rattle.demands.specs.Demand1.{Demand1, Conditions}
+use Rattle.demands.specs.Demand2.{Demand2}
+use Rattle.demands.specs.Demand3.{Demand3}
+use Rattle.demands.specs.OneAnswer.{OneAnswer, Agreement, NothingAfter}
+
+pub record Promised (terms : Terms) : Type 0 where
+  pub demand-1 : Demand1 terms
+  pub conditions : Conditions terms
+  pub demand-2 : Demand2 terms
+  pub demand-3 : Demand3 terms
+  pub one-answer : OneAnswer terms
+  pub agreement : Agreement terms
+  pub nothing-after : NothingAfter terms
