@@ -37,7 +37,7 @@ use Rattle.packet.proofs.ReadOnce.{reads-one}
 use Rattle.packet.proofs.Sent.{header-valid}
 use Rattle.packet.proofs.WriteOnce.{writes-one}
 use Rattle.packet.proofs.WriteStages.{clear-ten}
-use Rattle.demands.specs.Demand2.{Writable, packetLength, cleanReading, Holds, Demand2}
+use Rattle.demands.specs.Demand2.{Writable, packetLength, cleanReading, StandsInFront, Demand2}
 use Rattle.demands.specs.Makers.{Made, Flipped, arriving, readingWith}
 use Rattle.demands.proofs.Demand3.{packet-header, intact}
 use Rattle.demands.proofs.Parts.{header-is, received-lt, head-and-rest, data-size, behind-header}
@@ -80,7 +80,7 @@ module _ (terms : Terms) (named : MayBeNamed terms) where
 
   reads-back : (format : Format) (sync : Bool) (text after entry exit : List ℕ) (answer : ReadAnswer) → Writable terms format text
       → length (comesBack format text) ≤ length entry → Reads terms (ourPacket format sync text ++ after) entry answer exit
-      → (answer ≡ Accepted (cleanReading format sync text)) × Holds (comesBack format text) entry exit
+      → (answer ≡ Accepted (cleanReading format sync text)) × StandsInFront (comesBack format text) entry exit
   reads-back format sync text after entry exit answer w held reads =
       let made = written-is-made format sync text w in
       let packet = ourPacket format sync text in
@@ -99,7 +99,7 @@ module _ (terms : Terms) (named : MayBeNamed terms) where
   written-reads-back : (format : Format) (sync : Bool) (text lent packet : List ℕ) (n : ℕ)
       → Writes terms (formatNumber format) sync text lent (Written n) packet
       → (entry exit : List ℕ) (answer : ReadAnswer) → length (comesBack format text) ≤ length entry → Reads terms packet entry answer exit
-      → (answer ≡ Accepted (cleanReading format sync text)) × (cleanReading format sync text .used ≡ n) × Holds (comesBack format text) entry exit
+      → (answer ≡ Accepted (cleanReading format sync text)) × (cleanReading format sync text .used ≡ n) × StandsInFront (comesBack format text) entry exit
   written-reads-back format sync text lent packet n (other, w, e) entry exit answer held reads =
       let same : other ≡ format = one-number other format (w .named) in
       let is : packet ≡ ourPacket format sync text ++ drop n lent = e ∙ ap (λ (k : Format). ourPacket k sync text ++ drop n lent) same in
@@ -122,7 +122,7 @@ module _ (terms : Terms) (named : MayBeNamed terms) where
 
   allowed-accepted : (packet entry exit : List ℕ) (answer : ReadAnswer) → Reads terms packet entry answer exit
       → (format : Format) (header : ℕ) (text : List ℕ) → Allowed terms packet format header text → length text ≤ length entry
-      → (answer ≡ Accepted (readingOf format header (received packet) text)) × Holds text entry exit
+      → (answer ≡ Accepted (readingOf format header (received packet) text)) × StandsInFront text entry exit
   allowed-accepted packet entry exit answer reads format header text a held =
       reads-one terms named packet entry answer (Accepted (readingOf format header (received packet) text)) exit (text ++ drop (length text) entry) reads
       (text, accepts-of packet format header text a, held, refl)
@@ -266,7 +266,7 @@ module _ (terms : Terms) (named : MayBeNamed terms) where
     reads-the-same : (sync : Bool) (lent again : List ℕ) (wrote : WriteAnswer) → packetLength (reading .format) text ≤ length lent
         → Writes terms (formatNumber (reading .format)) sync text lent wrote again
         → (entry exit : List ℕ) (answer : ReadAnswer) → length text ≤ length entry → Reads terms again entry answer exit
-        → (answer ≡ Accepted (readingWith (reading .format) sync 0 (length (dataOf (reading .format) text)) (length text))) × Holds text entry exit
+        → (answer ≡ Accepted (readingWith (reading .format) sync 0 (length (dataOf (reading .format) text)) (length text))) × StandsInFront text entry exit
     reads-the-same sync lent again wrote given writes entry exit answer held reads =
         let is = written-again sync lent again wrote given writes .0 in
         let back =
@@ -275,7 +275,7 @@ module _ (terms : Terms) (named : MayBeNamed terms) where
         (subst⁻¹ (λ (t : List ℕ). length t ≤ length entry) again-kept held) reads in
         subst
         (λ (t : List ℕ).
-        (answer ≡ Accepted (readingWith (reading .format) sync 0 (length (dataOf (reading .format) text)) (length t))) × Holds t entry exit)
+        (answer ≡ Accepted (readingWith (reading .format) sync 0 (length (dataOf (reading .format) text)) (length t))) × StandsInFront t entry exit)
         again-kept (back .0, back .2)
 
   pub demand-2 : Demand2 terms

@@ -45,8 +45,8 @@ abbrev pub cleanReading : Format → Bool → List ℕ → Reading
 cleanReading format sync text = readingWith format sync 0 (length (dataOf format text)) (length (comesBack format text))
 
 -- the text stands at the front of the buffer, and behind it the buffer is as it was
-abbrev pub Holds : List ℕ → List ℕ → List ℕ → Type 0
-Holds text entry exit = exit ≡ text ++ drop (length text) entry
+abbrev pub StandsInFront : List ℕ → List ℕ → List ℕ → Type 0
+StandsInFront text entry exit = exit ≡ text ++ drop (length text) entry
 
 pub record Demand2 (terms : Terms) : Type 0 where
   -- Text that has codes and fits is written in the named format and sync bit
@@ -58,12 +58,12 @@ pub record Demand2 (terms : Terms) : Type 0 where
   -- and reads back character for character with both, whatever follows it;
   pub reads-back : (format : Format) (sync : Bool) (text after entry exit : List ℕ) (answer : ReadAnswer) → Writable terms format text
       → length (comesBack format text) ≤ length entry → Reads terms (ourPacket format sync text ++ after) entry answer exit
-      → (answer ≡ Accepted (cleanReading format sync text)) × Holds (comesBack format text) entry exit
+      → (answer ≡ Accepted (cleanReading format sync text)) × StandsInFront (comesBack format text) entry exit
   -- (the two over one buffer)
   pub written-reads-back : (format : Format) (sync : Bool) (text lent packet : List ℕ) (n : ℕ)
       → Writes terms (formatNumber format) sync text lent (Written n) packet
       → (entry exit : List ℕ) (answer : ReadAnswer) → length (comesBack format text) ≤ length entry → Reads terms packet entry answer exit
-      → (answer ≡ Accepted (cleanReading format sync text)) × (cleanReading format sync text .used ≡ n) × Holds (comesBack format text) entry exit
+      → (answer ≡ Accepted (cleanReading format sync text)) × (cleanReading format sync text .used ≡ n) × StandsInFront (comesBack format text) entry exit
   -- empty text is refused, in a format of ours for being empty, and is never written.
   pub empty-refused : (format : Format) (sync : Bool) (entry exit : List ℕ) (answer : WriteAnswer)
       → Writes terms (formatNumber format) sync [] entry answer exit → (answer ≡ NotWritten Empty) × (exit ≡ entry)
@@ -81,7 +81,7 @@ pub record Demand2 (terms : Terms) : Type 0 where
       → Allowed terms packet format header text → answer ≡ Readable (readingOf format header (received packet) text)
   pub allowed-accepted : (packet entry exit : List ℕ) (answer : ReadAnswer) → Reads terms packet entry answer exit
       → (format : Format) (header : ℕ) (text : List ℕ) → Allowed terms packet format header text → length text ≤ length entry
-      → (answer ≡ Accepted (readingOf format header (received packet) text)) × Holds text entry exit
+      → (answer ≡ Accepted (readingOf format header (received packet) text)) × StandsInFront text entry exit
   -- (it is a packet that a maker could have built of that text, with no more header bits flipped than are mended, and whatever follows it)
   pub accepted-is-made : (packet : List ℕ) (reading : Reading) (text : List ℕ) → Bytes packet → Accepts terms packet reading text
       → (made after : List ℕ) × Made terms (reading .format) (reading .sync) text made × Flipped terms made (received packet)
@@ -98,4 +98,4 @@ pub record Demand2 (terms : Terms) : Type 0 where
       → (sync : Bool) (lent again : List ℕ) (wrote : WriteAnswer) → packetLength (reading .format) text ≤ length lent
       → Writes terms (formatNumber (reading .format)) sync text lent wrote again
       → (entry exit : List ℕ) (answer : ReadAnswer) → length text ≤ length entry → Reads terms again entry answer exit
-      → (answer ≡ Accepted (readingWith (reading .format) sync 0 (length (dataOf (reading .format) text)) (length text))) × Holds text entry exit
+      → (answer ≡ Accepted (readingWith (reading .format) sync 0 (length (dataOf (reading .format) text)) (length text))) × StandsInFront text entry exit

@@ -19,6 +19,7 @@ use Rattle.refusals.specs.declared.ReadRefusal.the-variants.{Packet}
 use Rattle.packet.specs.declared.Terms.{Terms}
 use Rattle.packet.specs.Packet.{received, headerFor}
 use Rattle.packet.specs.Reader.{ReadRefuses}
+use Rattle.packet.specs.Terms.{usual}
 
 pub data Edge : Type 0 where
   -- the check bits of a flag and a length, and the three bytes that follow the flag
@@ -40,7 +41,7 @@ pub data Edge : Type 0 where
 
 -- terms that name so many bits to mend
 abbrev pub mending : ℕ → Terms
-mending mend = record { mend = mend; most = 4000 }
+mending mend = record { mend = mend; most = usual .most }
 
 -- a packet that starts with these bytes is refused, whatever follows and whatever the room
 abbrev pub RefusesAll : ℕ → List ℕ → ExamineRefusal → Type 0

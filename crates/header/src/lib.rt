@@ -42,8 +42,6 @@ impl Header {
     pub const PSEUDO_BINARY: u32 = 1;
 
     pub const FULL_ASCII: u32 = 4;
-    // The most data bytes of one packet.
-    pub const LONGEST: u16 = 4000;
     // x^10 + x^9 + x^8 + x^6 + x^5 + x^3 + 1, of the check bits.
     pub const GENERATOR: u32 = 0x769;
 

@@ -3,7 +3,7 @@
 use mathlib.Core.Bool.{Bool}
 use mathlib.Core.List.{List, [], _∷_}
 use mathlib.Core.Path.{_≡_, refl, sym, ap, ap₂, subst, subst⁻¹, subst₂, _∙_}
-use Prim.Native.Nat.{ℕ, _+_, _-_, _≤_, _<_}
+use Prim.Native.Nat.{ℕ, _+_, _-_, _^_, _≤_, _<_}
 use native.Mathlib.Omega.{arith}
 use lib.ListN.{length, getD, take, drop, length-take}
 use Rattle.bits.specs.Says.{Says}
@@ -39,7 +39,7 @@ module _ (terms : Terms) (named : MayBeNamed terms) (packet : List ℕ) (found :
   pub whole : found .«data_length» + 6 ≤ length packet
   whole = omega (arith, long, h .framed .whole)
 
-  pub short : found .«data_length» ≤ 4000
+  pub short : found .«data_length» < 2 ^ 14
   short = omega (arith, long, h .framed .few, named .bytes)
 
   -- ---- the parts of the packet as the code takes them

@@ -2,7 +2,7 @@
 -- Assumes nothing.
 use mathlib.Core.List.{List, _++_}
 use mathlib.Core.Path.{_≡_, refl, sym, ap, ap₂, subst₂, _∙_}
-use Prim.Native.Nat.{ℕ, _+_, _-_, _≤_, _<_}
+use Prim.Native.Nat.{ℕ, _+_, _-_, _^_, _≤_, _<_}
 use native.Mathlib.Omega.{arith}
 use lib.ListN.{length, take, drop}
 use Rattle.header.specs.declared.Format.{Format}
@@ -60,7 +60,7 @@ module _ (terms : Terms) (packet : List ℕ) where
     pub whole : reading .«data_length» + 6 ≤ length packet
     whole = omega (arith, data-long, a .allowed .framed .whole)
 
-    pub short : reading .«data_length» ≤ 4000
+    pub short : reading .«data_length» < 2 ^ 14
     short = omega (arith, data-long, a .allowed .framed .few, named .bytes)
 
     abbrev part : List ℕ

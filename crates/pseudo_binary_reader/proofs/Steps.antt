@@ -21,7 +21,7 @@ use Rattle.codes.proofs.BitsInBytes.{binary-drop, bits-binary, length-bits}
 use Rattle.codes.proofs.PassedEntries.{passed-more, passed-stuck}
 use Rattle.codes.proofs.OneReading.{stuck-here, never-both}
 use Rattle.pseudo_binary.specs.Table.{scheme}
-use Rattle.pseudo_binary_reader.specs.Steps.Taken.{Nine, FirstIndicator, characters, saying}
+use Rattle.pseudo_binary_reader.specs.Steps.Taken.{Nine, FirstIndicator, charactersIn, saying}
 use Rattle.pseudo_binary_reader.specs.declared.Indicator.{Indicator}
 use Rattle.pseudo_binary_reader.proofs.First.{next-indicator, no-indicator}
 use Rattle.pseudo_binary.proofs.Table.{laws}
@@ -56,14 +56,14 @@ module _ (s : List ℕ) (at : ℕ) (inside : at ≤ length s * 8) (w : ℕ) (v :
       → Passed scheme (bits s) 0 (drop (at + (r .width + r .values * 6)) (bits s)) (said ++ saying r (drop (at + r .width) (bits s)))
   passed-run there =
       let rest : List ℕ = drop (at + r .width) (bits s) in
-      let all : Passed scheme (bits s) 0 (drop (6 * r .values) rest) ((said ++ replicate (r .count) (r .character)) ++ characters (r .values) rest) =
+      let all : Passed scheme (bits s) 0 (drop (6 * r .values) rest) ((said ++ replicate (r .count) (r .character)) ++ charactersIn (r .values) rest) =
       passed-values (r .values) rest (said ++ replicate (r .count) (r .character)) (left-binary s (at + r .width))
       (omega (arith, length-left s (at + r .width))) (passed-indicator (omega arith)) in
       subst (λ (l : List ℕ). Passed scheme (bits s) 0 l (said ++ saying r (drop (at + r .width) (bits s))))
       (drop-drop (6 * r .values) (at + r .width) (bits s)
       ∙ ap (λ (n : ℕ). drop n (bits s)) (let e : at + r .width + 6 * r .values ≡ at + (r .width + r .values * 6) = omega arith in e))
       (subst (Passed scheme (bits s) 0 (drop (6 * r .values) rest))
-      (append-assoc said (replicate (r .count) (r .character)) (characters (r .values) rest)) all)
+      (append-assoc said (replicate (r .count) (r .character)) (charactersIn (r .values) rest)) all)
 
   -- an indicator that lacks its bits
   pub stuck-indicator : length s * 8 - at < r .width → (Fill 7 (drop at (bits s)) → ⊥) → Stuck scheme 0 (bits s) at
@@ -82,7 +82,7 @@ module _ (s : List ℕ) (at : ℕ) (inside : at ≤ length s * 8) (w : ℕ) (v :
 
 pub length-saying : (r : Indicator) (bs : List ℕ) → length (saying r bs) ≡ r .count + r .values
 length-saying r bs =
-    length-append (replicate (r .count) (r .character)) (characters (r .values) bs)
+    length-append (replicate (r .count) (r .character)) (charactersIn (r .values) bs)
     ∙ ap₂ (λ (m n : ℕ). m + n) (length-replicate (r .count) (r .character)) (length-characters (r .values) bs)
 
 pub counting-run : (s : List ℕ) (at : ℕ) → at ≤ length s * 8 → (w : ℕ) → Nine (drop at (bits s)) w → (r : Indicator) → FirstIndicator w r
@@ -123,10 +123,10 @@ whole-plain s at r entry out n w none exit e =
 
 -- one that announces some
 pub whole-values : (s : List ℕ) (at : ℕ) (r : Indicator) (entry out : List ℕ) (n : ℕ) → Whole s at r entry out n → (r .count ≡ 0) × (r .width ≡ 8)
-    → (exit : List ℕ) → exit ≡ laid out n (characters (r .values) (drop (at + 8) (bits s)))
+    → (exit : List ℕ) → exit ≡ laid out n (charactersIn (r .values) (drop (at + 8) (bits s)))
     → LaidSoFar scheme (bits s) (drop (at + (8 + r .values * 6)) (bits s)) entry exit 0 (n + r .values)
 whole-values s at r entry out n w silent exit e =
-    let said : ℕ → ℕ → List ℕ = λ k m. laid out n (replicate k (r .character) ++ characters (r .values) (drop (at + m) (bits s))) in
+    let said : ℕ → ℕ → List ℕ = λ k m. laid out n (replicate k (r .character) ++ charactersIn (r .values) (drop (at + m) (bits s))) in
     subst (λ (k : ℕ). LaidSoFar scheme (bits s) (drop (at + (8 + r .values * 6)) (bits s)) entry exit 0 k)
     (let x : n + (r .count + r .values) ≡ n + r .values = omega (arith, silent .0) in x)
     (subst (λ (k : ℕ). LaidSoFar scheme (bits s) (drop k (bits s)) entry exit 0 (n + (r .count + r .values)))

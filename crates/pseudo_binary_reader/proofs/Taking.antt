@@ -17,77 +17,77 @@ use Rattle.codes.proofs.LaidRows.{laid-nil, laid-laid, length-laid, set-laid}
 use Rattle.codes.proofs.LowBits.{value-low}
 use Rattle.codes.proofs.EightBytes.{eight-bits}
 use Rattle.pseudo_binary.specs.Table.{characterOf}
-use Rattle.pseudo_binary_reader.specs.Steps.Taken.{Spread, Eight, Top, characters}
+use Rattle.pseudo_binary_reader.specs.Steps.Taken.{Spread, Eight, Top, charactersIn}
 use Rattle.pseudo_binary_reader.proofs.Parting.{each-at}
 use Rattle.pseudo_binary_reader.proofs.Starts.{ahead-part}
 use Rattle.pseudo_binary_reader.proofs.Values.{length-characters}
 
 -- some values and then more
-pub characters-add : (k m : ℕ) (bs : List ℕ) → characters (k + m) bs ≡ characters k bs ++ characters m (drop (6 * k) bs)
-unfolding characters
-characters-add zero m bs = ap (λ (n : ℕ). characters n bs) (zero-add m)
+pub characters-add : (k m : ℕ) (bs : List ℕ) → charactersIn (k + m) bs ≡ charactersIn k bs ++ charactersIn m (drop (6 * k) bs)
+unfolding charactersIn
+characters-add zero m bs = ap (λ (n : ℕ). charactersIn n bs) (zero-add m)
 characters-add (suc k) m bs =
-    ap (λ (n : ℕ). characters n bs) (suc-add k m)
+    ap (λ (n : ℕ). charactersIn n bs) (suc-add k m)
     ∙ ap (λ (l : List ℕ). characterOf (value (take 6 bs)) ∷ l)
     (characters-add k m (drop 6 bs)
-    ∙ ap (λ (l : List ℕ). characters k (drop 6 bs) ++ characters m l)
+    ∙ ap (λ (l : List ℕ). charactersIn k (drop 6 bs) ++ charactersIn m l)
     (drop-drop (6 * k) 6 bs ∙ ap (λ (n : ℕ). drop n bs) (let e : 6 + 6 * k ≡ 6 * suc k = omega arith in e)))
 
 -- the first k values of the bits are laid from place n on
-module _ (bs entry out : List ℕ) (n k : ℕ) (so-far : out ≡ laid entry n (characters k bs)) (room : n + k ≤ length entry) where
+module _ (bs entry out : List ℕ) (n k : ℕ) (so-far : out ≡ laid entry n (charactersIn k bs)) (room : n + k ≤ length entry) where
   pub taken-length : length out ≡ length entry
-  taken-length = ap length so-far ∙ length-laid entry n (characters k bs) (omega (arith, length-characters k bs))
+  taken-length = ap length so-far ∙ length-laid entry n (charactersIn k bs) (omega (arith, length-characters k bs))
 
   -- and then m more
-  pub taken-more : (exit : List ℕ) (m place : ℕ) → place ≡ n + k → exit ≡ laid out place (characters m (drop (6 * k) bs))
-      → exit ≡ laid entry n (characters (k + m) bs)
+  pub taken-more : (exit : List ℕ) (m place : ℕ) → place ≡ n + k → exit ≡ laid out place (charactersIn m (drop (6 * k) bs))
+      → exit ≡ laid entry n (charactersIn (k + m) bs)
   taken-more exit m place e d =
       d
-      ∙ ap (λ (l : List ℕ). laid l place (characters m (drop (6 * k) bs))) so-far
-      ∙ laid-laid entry n place (characters k bs) (characters m (drop (6 * k) bs)) (omega (arith, length-characters k bs))
+      ∙ ap (λ (l : List ℕ). laid l place (charactersIn m (drop (6 * k) bs))) so-far
+      ∙ laid-laid entry n place (charactersIn k bs) (charactersIn m (drop (6 * k) bs)) (omega (arith, length-characters k bs))
       (omega (arith, length-characters k bs))
       ∙ ap (laid entry n) (sym (characters-add k m bs))
 
   -- or one
   pub taken-one : (x : ℕ) → n + k < length entry → x ≡ characterOf (value (take 6 (drop (6 * k) bs)))
-      → set out (n + k) x ≡ laid entry n (characters (k + 1) bs)
-  unfolding characters
+      → set out (n + k) x ≡ laid entry n (charactersIn (k + 1) bs)
+  unfolding charactersIn
   taken-one x h e =
       taken-more (set out (n + k) x) 1 (n + k) refl
       (set-laid out (n + k) x (omega (arith, taken-length)) ∙ ap (λ (y : ℕ). laid out (n + k) (y ∷ [])) e)
 
-pub taken-none : (bs entry : List ℕ) (n : ℕ) → entry ≡ laid entry n (characters 0 bs)
-unfolding characters
+pub taken-none : (bs entry : List ℕ) (n : ℕ) → entry ≡ laid entry n (charactersIn 0 bs)
+unfolding charactersIn
 taken-none bs entry n = sym (laid-nil entry n)
 
 -- a character, so many times, and after it values
 pub run-laid : (entry mid exit bs : List ℕ) (n count character values : ℕ) → n + count ≤ length entry
-    → mid ≡ laid entry n (replicate count character) → exit ≡ laid mid (n + count) (characters values bs)
-    → exit ≡ laid entry n (replicate count character ++ characters values bs)
+    → mid ≡ laid entry n (replicate count character) → exit ≡ laid mid (n + count) (charactersIn values bs)
+    → exit ≡ laid entry n (replicate count character ++ charactersIn values bs)
 run-laid entry mid exit bs n count character values room e d =
     d
-    ∙ ap (λ (l : List ℕ). laid l (n + count) (characters values bs)) e
-    ∙ laid-laid entry n (n + count) (replicate count character) (characters values bs) (omega (arith, length-replicate count character))
+    ∙ ap (λ (l : List ℕ). laid l (n + count) (charactersIn values bs)) e
+    ∙ laid-laid entry n (n + count) (replicate count character) (charactersIn values bs) (omega (arith, length-replicate count character))
     (ap (λ (k : ℕ). n + k) (sym (length-replicate count character)))
 
 -- or none
 pub run-plain : (entry exit bs : List ℕ) (n count character values : ℕ) → values ≡ 0 → exit ≡ laid entry n (replicate count character)
-    → exit ≡ laid entry n (replicate count character ++ characters values bs)
-unfolding characters
+    → exit ≡ laid entry n (replicate count character ++ charactersIn values bs)
+unfolding charactersIn
 run-plain entry exit bs n count character values none e =
     e
     ∙ ap (laid entry n) (sym (append-nil (replicate count character)))
-    ∙ ap (λ (k : ℕ). laid entry n (replicate count character ++ characters k bs)) (sym none)
+    ∙ ap (λ (k : ℕ). laid entry n (replicate count character ++ charactersIn k bs)) (sym none)
 
 -- k bytes of a number, stored in a row, are the characters of k values
 pub spilled-characters : (k : ℕ) (bs out : List ℕ) (n c have : ℕ) → n + k ≤ length out
     → ((i : ℕ) → i < k → c / 2 ^ (have - 8 - 8 * i) % 256 ≡ characterOf (value (take 6 (drop (6 * i) bs))))
-    → spilled k out n c have ≡ laid out n (characters k bs)
-unfolding spilled characters
+    → spilled k out n c have ≡ laid out n (charactersIn k bs)
+unfolding spilled charactersIn
 spilled-characters zero bs out n c have room each = sym (laid-nil out n)
 spilled-characters (suc k) bs out n c have room each =
     let x : ℕ = c / 2 ^ (have - 8) % 256 in
-    let later : List ℕ = characters k (drop 6 bs) in
+    let later : List ℕ = charactersIn k (drop 6 bs) in
     spilled-characters k (drop 6 bs) (set out n x) (n + 1) c (have - 8) (omega (arith, length-set out n x))
     (λ i l.
     ap (λ (j : ℕ). c / 2 ^ j % 256) (let e : have - 8 - 8 - 8 * i ≡ have - 8 - 8 * suc i = omega arith in e)
@@ -101,9 +101,9 @@ spilled-characters (suc k) bs out n c have room each =
 
 -- so eight bytes, four and four
 pub eight-laid : (bs out mid exit : List ℕ) (n c : ℕ) → n + 8 ≤ length out → Eight bs c → mid ≡ spilled 4 out n c 64
-    → exit ≡ spilled 4 mid (n + 4) c 32 → exit ≡ laid out n (characters 8 bs)
+    → exit ≡ spilled 4 mid (n + 4) c 32 → exit ≡ laid out n (charactersIn 8 bs)
 eight-laid bs out mid exit n c room eight x y =
-    let four : mid ≡ laid out n (characters 4 bs) = x ∙ spilled-characters 4 bs out n c 64 (omega arith) (λ i h. eight i (omega arith)) in
+    let four : mid ≡ laid out n (charactersIn 4 bs) = x ∙ spilled-characters 4 bs out n c 64 (omega arith) (λ i h. eight i (omega arith)) in
     taken-more bs out mid n 4 four (omega arith) exit 4 (n + 4) refl
     (y
     ∙ spilled-characters 4 (drop 24 bs) mid (n + 4) c 32 (omega (arith, taken-length bs out mid n 4 four (omega arith)))
@@ -129,21 +129,21 @@ laid-over d n b c h l =
     ∙ ap (λ (k : ℕ). drop k d) (let e : n + length b + more ≡ n + length c = omega arith in e))
 
 -- after the first k values the eight from the j-th on, some of which may be among those
-pub taken-over : (bs entry mid exit : List ℕ) (n k j : ℕ) → mid ≡ laid entry n (characters k bs) → n + k ≤ length entry → j ≤ k → k ≤ j + 8
-    → exit ≡ laid mid (n + j) (characters 8 (drop (6 * j) bs)) → exit ≡ laid entry n (characters (j + 8) bs)
+pub taken-over : (bs entry mid exit : List ℕ) (n k j : ℕ) → mid ≡ laid entry n (charactersIn k bs) → n + k ≤ length entry → j ≤ k → k ≤ j + 8
+    → exit ≡ laid mid (n + j) (charactersIn 8 (drop (6 * j) bs)) → exit ≡ laid entry n (charactersIn (j + 8) bs)
 taken-over bs entry mid exit n k j so-far room low high d =
     let rest : List ℕ = drop (6 * j) bs in
-    let first : List ℕ = laid entry n (characters j bs) in
-    let same : length first ≡ length entry = length-laid entry n (characters j bs) (omega (arith, length-characters j bs)) in
-    let again : mid ≡ laid first (n + j) (characters (k - j) rest) =
+    let first : List ℕ = laid entry n (charactersIn j bs) in
+    let same : length first ≡ length entry = length-laid entry n (charactersIn j bs) (omega (arith, length-characters j bs)) in
+    let again : mid ≡ laid first (n + j) (charactersIn (k - j) rest) =
     so-far
-    ∙ ap (λ (m : ℕ). laid entry n (characters m bs)) (let e : k ≡ j + (k - j) = omega arith in e)
+    ∙ ap (λ (m : ℕ). laid entry n (charactersIn m bs)) (let e : k ≡ j + (k - j) = omega arith in e)
     ∙ ap (laid entry n) (characters-add j (k - j) bs)
-    ∙ sym (laid-laid entry n (n + j) (characters j bs) (characters (k - j) rest) (omega (arith, length-characters j bs)) (omega (arith, length-characters j bs))) in
+    ∙ sym (laid-laid entry n (n + j) (charactersIn j bs) (charactersIn (k - j) rest) (omega (arith, length-characters j bs)) (omega (arith, length-characters j bs))) in
     taken-more bs entry first n j refl (omega arith) exit 8 (n + j) refl
     (d
-    ∙ ap (λ (l : List ℕ). laid l (n + j) (characters 8 rest)) again
-    ∙ laid-over first (n + j) (characters (k - j) rest) (characters 8 rest)
+    ∙ ap (λ (l : List ℕ). laid l (n + j) (charactersIn 8 rest)) again
+    ∙ laid-over first (n + j) (charactersIn (k - j) rest) (charactersIn 8 rest)
     (omega (arith, same, length-characters (k - j) rest)) (omega (arith, length-characters (k - j) rest, length-characters 8 rest)))
 
 -- of eight bytes that are the characters of values, those after the first `done` are at the top of c

@@ -16,11 +16,11 @@ use Rattle.codes.proofs.BitsInBytes.{binary-take, binary-drop}
 use Rattle.codes.proofs.PassedEntries.{passed-more}
 use Rattle.codes.proofs.OneReading.{stuck-more, stuck-here}
 use Rattle.pseudo_binary.specs.Table.{characterOf, six, tables, scheme}
-use Rattle.pseudo_binary_reader.specs.Steps.Taken.{characters}
+use Rattle.pseudo_binary_reader.specs.Steps.Taken.{charactersIn}
 use Rattle.pseudo_binary.proofs.Entries.{six-in, six-of, after-six}
 
-pub length-characters : (n : ℕ) (bs : List ℕ) → length (characters n bs) ≡ n
-unfolding characters
+pub length-characters : (n : ℕ) (bs : List ℕ) → length (charactersIn n bs) ≡ n
+unfolding charactersIn
 length-characters zero bs = refl
 length-characters (suc n) bs = ap suc (length-characters n (drop 6 bs))
 
@@ -42,17 +42,17 @@ module _ (bs : List ℕ) (h : Binary bs) (k : 6 ≤ length bs) where
 
 -- the values that were announced are passed
 pub passed-values : {bs : List ℕ} (m : ℕ) (rest said : List ℕ) → Binary rest → 6 * m ≤ length rest → Passed scheme bs m rest said
-    → Passed scheme bs 0 (drop (6 * m) rest) (said ++ characters m rest)
-unfolding characters six first-value
+    → Passed scheme bs 0 (drop (6 * m) rest) (said ++ charactersIn m rest)
+unfolding charactersIn six first-value
 passed-values {bs} zero rest said h k p = subst⁻¹ (λ (l : List ℕ). Passed scheme bs 0 rest l) (append-nil said) p
 passed-values {bs} (suc m) rest said h k p =
     let v : ℕ = first-value rest h (omega arith) in
     let one : Passed scheme bs m (drop 6 rest) (said ++ (characterOf v ∷ [])) =
     subst (λ (n : ℕ). Passed scheme bs n (drop 6 rest) (said ++ (characterOf v ∷ []))) (after-six m v)
     (passed-more rest (drop 6 rest) p (six v) (six-in m v (first-small rest h (omega arith))) (first-code rest h (omega arith))) in
-    subst (λ (l : List ℕ). Passed scheme bs 0 l (said ++ (characterOf v ∷ characters m (drop 6 rest))))
+    subst (λ (l : List ℕ). Passed scheme bs 0 l (said ++ (characterOf v ∷ charactersIn m (drop 6 rest))))
     (drop-drop (6 * m) 6 rest ∙ ap (λ (n : ℕ). drop n rest) (let e : 6 + 6 * m ≡ 6 * suc m = omega arith in e))
-    (subst (Passed scheme bs 0 (drop (6 * m) (drop 6 rest))) (append-assoc said (characterOf v ∷ []) (characters m (drop 6 rest)))
+    (subst (Passed scheme bs 0 (drop (6 * m) (drop 6 rest))) (append-assoc said (characterOf v ∷ []) (charactersIn m (drop 6 rest)))
     (passed-values m (drop 6 rest) (said ++ (characterOf v ∷ [])) (binary-drop 6 rest h) (omega (arith, length-drop 6 rest)) one))
 
 -- fewer than six bits begin no value

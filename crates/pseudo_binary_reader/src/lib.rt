@@ -13,7 +13,7 @@ ghost use Rattle.codes.specs.Steps.Measure.{countable, Measures};
 ghost use Rattle.codes.specs.Pack.{value};
 ghost use Rattle.codes.specs.Steps.Passed.{CountedSoFar, LaidSoFar};
 ghost use Rattle.pseudo_binary.specs.Table.{scheme};
-ghost use Rattle.pseudo_binary_reader.specs.Steps.Taken.{Eight, Nine, Spread, Starts, FirstIndicator, Top, characters, saying};
+ghost use Rattle.pseudo_binary_reader.specs.Steps.Taken.{Eight, Nine, Spread, Starts, FirstIndicator, Top, charactersIn, saying};
 
 // An indicator: how many bits it has, how many values it announces, and how often it says which character.
 struct Indicator {
@@ -197,7 +197,7 @@ fn eight_characters(s: &[u8], first: usize, behind: u64) -> u64
 // Eight characters out of the bytes of a number, from place n on.
 fn put_eight(out: &mut [u8], n: usize, word: u64)
     requires { ⌜ n + 8 ≤ length (now out) ⌝ }
-    ensures { λ r. ⌜ ((bs : List ℕ) → Eight bs word → now (out .exit) ≡ laid (now (out .entry)) n (characters 8 bs)) ⌝ }
+    ensures { λ r. ⌜ ((bs : List ℕ) → Eight bs word → now (out .exit) ≡ laid (now (out .entry)) n (charactersIn 8 bs)) ⌝ }
 {
     codes::spill(out, n, word, 64);
     codes::spill(out, n + 4, word, 32);
@@ -206,7 +206,7 @@ fn put_eight(out: &mut [u8], n: usize, word: u64)
 // Fewer than eight of them.
 fn put_few(out: &mut [u8], n: usize, count: usize, word: u64)
     requires { ⌜ (count < 8) × (n + count ≤ length (now out)) ⌝ }
-    ensures { λ r. ⌜ ((bs : List ℕ) → Eight bs word → now (out .exit) ≡ laid (now (out .entry)) n (characters count bs)) ⌝ }
+    ensures { λ r. ⌜ ((bs : List ℕ) → Eight bs word → now (out .exit) ≡ laid (now (out .entry)) n (charactersIn count bs)) ⌝ }
 {
     let mut left = word;
     let mut done: usize = 0;
@@ -232,7 +232,7 @@ fn value_at(s: &[u8], at: usize) -> u8
 // Values one at a time.
 fn read_last(s: &[u8], at: usize, count: usize, out: &mut [u8], n: usize)
     requires { ⌜ (length (now s) < countable) × (at + 6 * count ≤ length (now s) * 8) × (n + count ≤ length (now out)) ⌝ }
-    ensures { λ r. ⌜ now (out .exit) ≡ laid (now (out .entry)) n (characters count (drop at (bits (now (s .entry))))) ⌝ }
+    ensures { λ r. ⌜ now (out .exit) ≡ laid (now (out .entry)) n (charactersIn count (drop at (bits (now (s .entry))))) ⌝ }
 {
     let mut done: usize = 0;
     while done < count {
@@ -245,7 +245,7 @@ fn read_last(s: &[u8], at: usize, count: usize, out: &mut [u8], n: usize)
 fn read_many(s: &[u8], at: usize, count: usize, word: u64, out: &mut [u8], n: usize)
     requires { ⌜ (length (now s) < countable) × (8 ≤ at) × (at + 6 * count ≤ length (now s) * 8) × Eight (drop at (bits (now s))) word ⌝ }
     requires { ⌜ (8 < count) × (n + count ≤ length (now out)) ⌝ }
-    ensures { λ r. ⌜ now (out .exit) ≡ laid (now (out .entry)) n (characters count (drop at (bits (now (s .entry))))) ⌝ }
+    ensures { λ r. ⌜ now (out .exit) ≡ laid (now (out .entry)) n (charactersIn count (drop at (bits (now (s .entry))))) ⌝ }
 {
     put_eight(out, n, word);
     let last = n + (count - 8);
@@ -269,7 +269,7 @@ fn read_many(s: &[u8], at: usize, count: usize, word: u64, out: &mut [u8], n: us
 fn read_values(s: &[u8], at: usize, count: usize, top: u64, out: &mut [u8], n: usize)
     requires { ⌜ (length (now s) < countable) × (at + (8 + count * 6) ≤ length (now s) * 8) × Top (drop at (bits (now s))) top ⌝ }
     requires { ⌜ n + count ≤ length (now out) ⌝ }
-    ensures { λ r. ⌜ now (out .exit) ≡ laid (now (out .entry)) n (characters count (drop (at + 8) (bits (now (s .entry))))) ⌝ }
+    ensures { λ r. ⌜ now (out .exit) ≡ laid (now (out .entry)) n (charactersIn count (drop (at + 8) (bits (now (s .entry))))) ⌝ }
 {
     let word = spread(top / 256 % 0x1_0000_0000_0000);
     if count < 8 {

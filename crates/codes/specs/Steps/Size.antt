@@ -13,10 +13,6 @@ use Rattle.codes.specs.declared.Stored.the-variants as Stored
 use Rattle.codes.specs.declared.Uncoded.{Uncoded}
 use Rattle.codes.specs.declared.Uncoded.the-variants.{At, Nowhere}
 
--- a packet has at most 4,000 data bytes (001, 3.2, at 300 bps)
-abbrev pub longest : ℕ
-longest = 4000
-
 -- the index of the first character that has no code, or that there is none
 abbrev pub FindsUncoded : (List ℕ → ℕ → Bool) → List ℕ → Uncoded → Type 0
 FindsUncoded has text (At index) = FirstUncoded has text index

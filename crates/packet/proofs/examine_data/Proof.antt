@@ -2,7 +2,7 @@
 -- Assumes nothing.
 use mathlib.Core.List.{List}
 use mathlib.Core.Path.{_≡_, sym, subst}
-use Prim.Native.Nat.{_+_, _≤_}
+use Prim.Native.Nat.{_+_, _^_, _≤_, _<_}
 use native.Mathlib.Omega.{arith}
 use borrow.Author.Needs.{needs}
 use borrow.Author.Tests.{not-true, not-false}
@@ -54,7 +54,7 @@ came c outcome e =
 fits : (s : tie.Start) → s .args .found .«data_length» + 6 ≤ length (s .args .packet .now)
 fits s = whole (s .args .terms) (s .pre .0) (s .args .packet .now) (s .args .found) (s .pre .1)
 
-few : (s : tie.Start) → s .args .found .«data_length» ≤ 4000
+few : (s : tie.Start) → s .args .found .«data_length» < 2 ^ 14
 few s = short (s .args .terms) (s .pre .0) (s .args .packet .now) (s .args .found) (s .pre .1)
 
 add-end : tie.Need-add-end

@@ -1,7 +1,7 @@
 -- `packet::read_text` meets its contract.
 -- Assumes nothing.
 use mathlib.Core.Path.{_≡_}
-use Prim.Native.Nat.{_+_, _≤_}
+use Prim.Native.Nat.{_+_, _^_, _≤_, _<_}
 use native.Mathlib.Omega.{arith}
 use borrow.Author.Needs.{needs}
 use lib.ListN.{length}
@@ -13,7 +13,7 @@ use Rattle.packet.proofs.read_text.Tie as tie
 fits : (s : tie.Start) → s .args .reading .«data_length» + 6 ≤ length (s .args .packet .now)
 fits s = whole (s .args .terms) (s .args .packet .now) (s .pre .0) (s .args .reading) (s .pre .1 .0) (s .pre .1 .1)
 
-few : (s : tie.Start) → s .args .reading .«data_length» ≤ 4000
+few : (s : tie.Start) → s .args .reading .«data_length» < 2 ^ 14
 few s = short (s .args .terms) (s .args .packet .now) (s .pre .0) (s .args .reading) (s .pre .1 .0) (s .pre .1 .1)
 
 add-end : tie.Need-add-end

@@ -8,7 +8,7 @@ use native.Mathlib.Omega.{arith}
 use lib.ListN.{length, length-set}
 use lib.Pow.{pow-pos}
 use Rattle.codes.specs.Steps.Laid.{laid}
-use Rattle.pseudo_binary_reader.specs.Steps.Taken.{Eight, characters}
+use Rattle.pseudo_binary_reader.specs.Steps.Taken.{Eight, charactersIn}
 use Rattle.pseudo_binary_reader.proofs.Taking.{taken-none, taken-one, Left, left-all, left-first, left-next}
 use Rattle.pseudo_binary_reader.proofs.put_few.Statement.{statement}
 use Rattle.pseudo_binary_reader.proofs.put_few.Tie as tie
@@ -18,7 +18,7 @@ Inv-loop out₀ n count word left₀ done₀ out left done =
     (done ≤ count)
     × (left < 2 ^ 64)
     × (length out ≡ length out₀)
-    × ((bs : List ℕ) → Eight bs word → Left bs done left × (out ≡ laid out₀ n (characters done bs)))
+    × ((bs : List ℕ) → Eight bs word → Left bs done left × (out ≡ laid out₀ n (charactersIn done bs)))
 
 abbrev μ-loop : tie.MeasureT-loop
 μ-loop out₀ n count word left₀ done₀ out left done = count - done
@@ -72,7 +72,7 @@ returns c =
     let e = a .before in
     λ bs eight.
     a .loop .inv .3 bs eight .1
-    ∙ ap (λ (k : ℕ). laid (e .args .out .now) (e .args .n) (characters k bs))
+    ∙ ap (λ (k : ℕ). laid (e .args .out .now) (e .args .n) (charactersIn k bs))
     (let x : a .loop .done ≡ e .args .count = omega (arith, c .loop-test .left) in x)
 
 pub put-few-spec : {M : Type 1} → statement M

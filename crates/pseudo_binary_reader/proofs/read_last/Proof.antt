@@ -10,13 +10,13 @@ use Rattle.bits.specs.Row.{bits}
 use Rattle.codes.specs.Steps.Laid.{laid}
 use Rattle.codes.specs.Pack.{value}
 use Rattle.pseudo_binary.specs.Table.{characterOf}
-use Rattle.pseudo_binary_reader.specs.Steps.Taken.{characters}
+use Rattle.pseudo_binary_reader.specs.Steps.Taken.{charactersIn}
 use Rattle.pseudo_binary_reader.proofs.Taking.{taken-none, taken-length, taken-one}
 use Rattle.pseudo_binary_reader.proofs.read_last.Statement.{statement}
 use Rattle.pseudo_binary_reader.proofs.read_last.Tie as tie
 
 abbrev Inv-loop : tie.InvT-loop
-Inv-loop s at count out₀ n done₀ out done = (done ≤ count) × (out ≡ laid out₀ n (characters done (drop at (bits s))))
+Inv-loop s at count out₀ n done₀ out done = (done ≤ count) × (out ≡ laid out₀ n (charactersIn done (drop at (bits s))))
 
 abbrev μ-loop : tie.MeasureT-loop
 μ-loop s at count out₀ n done₀ out done = count - done
@@ -78,7 +78,7 @@ returns c =
     let a = c .before in
     let e = a .before .before .before in
     a .loop .inv .1
-    ∙ ap (λ (k : ℕ). laid (e .args .out .now) (e .args .n) (characters k (drop (e .args .at) (bits (e .args .s .now)))))
+    ∙ ap (λ (k : ℕ). laid (e .args .out .now) (e .args .n) (charactersIn k (drop (e .args .at) (bits (e .args .s .now)))))
     (let x : a .loop .done ≡ e .args .count = omega (arith, c .loop-test .left) in x)
 
 pub read-last-spec : {M : Type 1} → statement M

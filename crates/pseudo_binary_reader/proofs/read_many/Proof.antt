@@ -7,7 +7,7 @@ use native.Mathlib.Omega.{arith}
 use lib.ListN.{length, drop}
 use Rattle.bits.specs.Row.{bits}
 use Rattle.codes.specs.Steps.Laid.{laid}
-use Rattle.pseudo_binary_reader.specs.Steps.Taken.{characters}
+use Rattle.pseudo_binary_reader.specs.Steps.Taken.{charactersIn}
 use Rattle.pseudo_binary_reader.proofs.Taking.{taken-length, taken-more, taken-over, eight-after}
 use Rattle.pseudo_binary_reader.proofs.read_many.Statement.{statement}
 use Rattle.pseudo_binary_reader.proofs.read_many.Tie as tie
@@ -18,8 +18,8 @@ Inv-loop s at count word out₀ n last place₀ first₀ behind out place first 
     × (place ≤ n + count)
     × (at + 6 * (place - n) + behind ≡ first * 8 + 16)
     × (behind ≤ 7)
-    × ((entry : List ℕ) → length entry ≡ length out₀ → out₀ ≡ laid entry n (characters 8 (drop at (bits s)))
-    → out ≡ laid entry n (characters (place - n) (drop at (bits s))))
+    × ((entry : List ℕ) → length entry ≡ length out₀ → out₀ ≡ laid entry n (charactersIn 8 (drop at (bits s)))
+    → out ≡ laid entry n (charactersIn (place - n) (drop at (bits s))))
 
 abbrev μ-loop : tie.MeasureT-loop
 μ-loop s at count word out₀ n last place₀ first₀ behind out place first = n + count - place
@@ -64,7 +64,7 @@ loop-holds c =
       omega arith,
       omega arith,
       λ entry l h.
-          h ∙ ap (λ (k : ℕ). laid entry (e .args .n) (characters k bs)) (let x : 8 ≡ e .args .n + 8 - e .args .n = omega arith in x),
+          h ∙ ap (λ (k : ℕ). laid entry (e .args .n) (charactersIn k bs)) (let x : 8 ≡ e .args .n + 8 - e .args .n = omega arith in x),
     )
 
 eight-characters-requires : tie.Need-eight-characters-requires Inv-loop μ-loop
@@ -75,7 +75,7 @@ eight-characters-requires c κs =
 
 -- the first eight, before the loop
 before : (g : tie.After-put-eight Inv-loop μ-loop)
-    → g .put-eight .last .0 ≡ laid (at-first g .args .out .now) (at-first g .args .n) (characters 8 (drop (at-first g .args .at) (bits (at-first g .args .s .now))))
+    → g .put-eight .last .0 ≡ laid (at-first g .args .out .now) (at-first g .args .n) (charactersIn 8 (drop (at-first g .args .at) (bits (at-first g .args .s .now))))
 before g = let e = at-first g in g .put-eight .ensures (drop (e .args .at) (bits (e .args .s .now))) (e .pre .0 .3)
 
 kept : (g : tie.After-put-eight Inv-loop μ-loop) → length (g .put-eight .last .0) ≡ length (at-first g .args .out .now)
@@ -86,7 +86,7 @@ kept g =
 
 -- in the buffer that the function was given
 stands : (a : tie.At-loop Inv-loop μ-loop)
-    → a .loop .out ≡ laid (given a .args .out .now) (given a .args .n) (characters (a .loop .place - given a .args .n) (drop (given a .args .at) (bits (given a .args .s .now))))
+    → a .loop .out ≡ laid (given a .args .out .now) (given a .args .n) (charactersIn (a .loop .place - given a .args .n) (drop (given a .args .at) (bits (given a .args .s .now))))
 stands a = let g = a .before .before .before in a .loop .inv .4 (at-first g .args .out .now) (sym (kept g)) (before g)
 
 -- it keeps its length
@@ -133,7 +133,7 @@ loop-again c =
           (omega (arith, l, kept (a .before .before .before), e .pre .1, a .loop .inv .0, a .loop .inv .1)) (g .put-eight2 .last .0) 8 place (omega (arith, a .loop .inv .0))
           (g .put-eight2 .ensures (drop (6 * done) (drop at row))
           (eight-after row at done (x .eight-characters .result) (x .eight-characters .ensures (at + 6 * done) (a .loop .inv .2))))
-          ∙ ap (λ (k : ℕ). laid entry n (characters k (drop at row))) (let y : done + 8 ≡ place + 8 - n = omega (arith, a .loop .inv .0) in y),
+          ∙ ap (λ (k : ℕ). laid entry n (charactersIn k (drop at row))) (let y : done + 8 ≡ place + 8 - n = omega (arith, a .loop .inv .0) in y),
     )
 
 mul-end : tie.Need-mul-end Inv-loop μ-loop
@@ -179,7 +179,7 @@ returns c =
     (g .put-eight3 .ensures (drop (6 * last) (drop at row))
     (eight-after row at last (x .eight-characters2 .result)
     (x .eight-characters2 .ensures (at + 6 * last) (omega (arith, e .pre .0 .1, e .pre .1 .0)))))
-    ∙ ap (λ (k : ℕ). laid (e .args .out .now) n (characters k (drop at row))) (let y : last + 8 ≡ count = omega (arith, e .pre .1 .0) in y)
+    ∙ ap (λ (k : ℕ). laid (e .args .out .now) n (charactersIn k (drop at row))) (let y : last + 8 ≡ count = omega (arith, e .pre .1 .0) in y)
 
 same-length : tie.Need-same-length Inv-loop μ-loop
 same-length c =

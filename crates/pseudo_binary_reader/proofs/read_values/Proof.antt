@@ -7,7 +7,7 @@ use lib.ListN.{drop}
 use lib.Seq.{drop-drop}
 use Rattle.bits.specs.Row.{bits}
 use Rattle.codes.specs.Steps.Laid.{laid}
-use Rattle.pseudo_binary_reader.specs.Steps.Taken.{Eight, characters}
+use Rattle.pseudo_binary_reader.specs.Steps.Taken.{Eight, charactersIn}
 use Rattle.pseudo_binary_reader.proofs.Taking.{top-eight}
 use borrow.Author.Needs.{needs}
 use Rattle.pseudo_binary_reader.proofs.read_values.Statement.{statement}
@@ -50,7 +50,7 @@ returns-2 c =
     let e = w .before .before .before in
     let bs = drop (e .args .at + 8) (bits (e .args .s .now)) in
     g .put-eight .ensures bs (eight w)
-    ∙ ap (λ (k : ℕ). laid (e .args .out .now) (e .args .n) (characters k bs)) (sym (g .before .before .if2 .taken))
+    ∙ ap (λ (k : ℕ). laid (e .args .out .now) (e .args .n) (charactersIn k bs)) (sym (g .before .before .if2 .taken))
 
 add-read-many : tie.Need-add-read-many
 add-read-many c = search needs

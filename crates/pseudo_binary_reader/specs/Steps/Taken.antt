@@ -52,10 +52,10 @@ abbrev pub Eight : List ℕ → ℕ → Type 0
 Eight bs c = (k : ℕ) → k < 8 → c / 2 ^ (56 - 8 * k) % 256 ≡ characterOf (value (take 6 (drop (6 * k) bs)))
 
 -- the characters of the n six-bit values that begin the bits
-unfoldable pub characters : ℕ → List ℕ → List ℕ
-characters zero bs = []
-characters (suc n) bs = characterOf (value (take 6 bs)) ∷ characters n (drop 6 bs)
+unfoldable pub charactersIn : ℕ → List ℕ → List ℕ
+charactersIn zero bs = []
+charactersIn (suc n) bs = characterOf (value (take 6 bs)) ∷ charactersIn n (drop 6 bs)
 
 -- what an indicator says and the values that it announces, which begin the bits
 abbrev pub saying : Indicator → List ℕ → List ℕ
-saying r bs = replicate (r .count) (r .character) ++ characters (r .values) bs
+saying r bs = replicate (r .count) (r .character) ++ charactersIn (r .values) bs
