@@ -46,7 +46,7 @@ impl Terms {
     }
 }
 
-// An accepted packet: its format and sync bit, how many header bits were mended, the lengths of data and text, and the bytes used.
+// An accepted packet: its format and sync bit, the number of mended header bits, the lengths of data and text, and the bytes used.
 pub struct Reading {
     pub format: Format,
     pub sync: bool,

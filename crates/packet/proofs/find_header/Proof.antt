@@ -243,7 +243,7 @@ returns-7 c =
       few = omega (arith, long-at k, c .before .if3 .left);
       whole = omega (arith, long-at k, c .if4 .left);
     })
-    refl _ _ _ _ _ (ap (λ (f : Header). f .sync) (k .before .before .before .before .from-bits .ensures)) (near-at (told-at k) .1) (long-at k) refl
+    refl _ _ _ _ _ (ap (λ (f : Header). f .sync) (k .before .before .before .before .from-bits .ensures)) (omega (arith, near-at (told-at k) .1)) (omega (arith, long-at k)) (omega arith)
     (omega (arith, long-at k))
 
 pub find-header-spec : {M : Type 1} → statement M
