@@ -26,7 +26,7 @@ use Rattle.refusals.specs.declared.WriteRefusal.{WriteRefusal}
 use Rattle.refusals.specs.Match.{FirstMatch, byNumber, writerTurn}
 use Rattle.refusals.specs.Refusals.{Told, examineTold, readTold, writeTold}
 use Rattle.refusals.proofs.Refused.{numbered}
-use Rattle.packet.specs.declared.Terms.{Terms}
+use Rattle.terms.specs.declared.Terms.{Terms}
 use Rattle.packet.specs.declared.ExamineAnswer.{ExamineAnswer}
 use Rattle.packet.specs.declared.ExamineAnswer.the-variants.{Refused as NotReadable}
 use Rattle.packet.specs.declared.ReadAnswer.{ReadAnswer}
@@ -36,7 +36,7 @@ use Rattle.packet.specs.declared.WriteAnswer.the-variants.{Refused as NotWritte
 use Rattle.packet.specs.Examine.{Fault, Examines}
 use Rattle.packet.specs.Packet.{packetOf, headerFor}
 use Rattle.packet.specs.Reader.{ReadFault, Reads}
-use Rattle.packet.specs.Terms.{MayBeNamed}
+use Rattle.terms.specs.Terms.{MayBeNamed}
 use Rattle.packet.specs.Writer.{WriteFault, Writes, ourPacket}
 use Rattle.packet.proofs.ExamineOnce.{examines-one}
 use Rattle.packet.proofs.ReadOnce.{reads-one}

@@ -19,7 +19,7 @@ use Rattle.checksum.specs.Checksum.{checksumBytes}
 use Rattle.formats.specs.Data.{Carries, AllCoded, comesBack, dataOf}
 use Rattle.formats.proofs.Formats.{carries-coded, carries-kept, carries-some, data-some, no-fewer, writer-carries}
 use Rattle.refusals.specs.declared.WriteRefusal.the-variants.{Empty}
-use Rattle.packet.specs.declared.Terms.{Terms}
+use Rattle.terms.specs.declared.Terms.{Terms}
 use Rattle.packet.specs.declared.Reading.{Reading}
 use Rattle.packet.specs.declared.ExamineAnswer.{ExamineAnswer}
 use Rattle.packet.specs.declared.ExamineAnswer.the-variants.{Readable}
@@ -30,7 +30,7 @@ use Rattle.packet.specs.declared.WriteAnswer.the-variants.{Written, Refused as 
 use Rattle.packet.specs.Examine.{Allowed, readingOf, Accepts, Examines}
 use Rattle.packet.specs.Packet.{received, dataIn, packetOf, headerFor}
 use Rattle.packet.specs.Reader.{Reads}
-use Rattle.packet.specs.Terms.{MayBeNamed}
+use Rattle.terms.specs.Terms.{MayBeNamed}
 use Rattle.packet.specs.Writer.{ourPacket, Writes}
 use Rattle.packet.proofs.ExamineOnce.{examines-one}
 use Rattle.packet.proofs.ReadOnce.{reads-one}

@@ -19,7 +19,7 @@ use Rattle.refusals.specs.declared.ExamineRefusal.the-variants.{Short, NoHeader
 use Rattle.refusals.specs.declared.ReadRefusal.{ReadRefusal}
 use Rattle.refusals.specs.declared.ReadRefusal.the-variants.{Packet, NoRoom}
 use Rattle.refusals.proofs.Known.{examine-numbers}
-use Rattle.packet.specs.declared.Terms.{Terms}
+use Rattle.terms.specs.declared.Terms.{Terms}
 use Rattle.packet.specs.declared.Reading.{Reading}
 use Rattle.packet.specs.declared.ExamineAnswer.{ExamineAnswer}
 use Rattle.packet.specs.declared.ExamineAnswer.the-variants.{Readable, Refused as NotReadable}
@@ -28,7 +28,7 @@ use Rattle.packet.specs.declared.ReadAnswer.the-variants.{Accepted, Refused as 
 use Rattle.packet.specs.Examine.{Fault, Refuses, Framed, Allowed, readingOf, Accepts, Examines}
 use Rattle.packet.specs.Packet.{received, dataIn, sumIn}
 use Rattle.packet.specs.Reader.{ReadFault, Reads}
-use Rattle.packet.specs.Terms.{MayBeNamed}
+use Rattle.terms.specs.Terms.{MayBeNamed}
 use Rattle.packet.proofs.ExamineOnce.{examines-one}
 use Rattle.packet.proofs.Headers.{one-header, under}
 use Rattle.packet.proofs.ReadAnswers.{no-room, read-into}

@@ -1,8 +1,8 @@
 -- What was promised holds under all terms that may be named, and so under those that the entry points name.
 -- Assumes nothing.
-use Rattle.packet.specs.declared.Terms.{Terms}
-use Rattle.packet.specs.Terms.{MayBeNamed, usual}
-use Rattle.packet.proofs.Usual.{usual-named}
+use Rattle.terms.specs.declared.Terms.{Terms}
+use Rattle.terms.specs.Terms.{MayBeNamed, usual}
+use Rattle.terms.proofs.Usual.{usual-named}
 use Rattle.demands.specs.Promised.{Promised}
 use Rattle.demands.proofs.Demand1 as first
 use Rattle.demands.proofs.Demand2 as second

@@ -16,7 +16,7 @@ use Rattle.header.specs.Typed.{formatNumber}
 use Rattle.distance.specs.Distance.{distance}
 use Rattle.formats.specs.Data.{AllCoded, comesBack, dataOf}
 use Rattle.refusals.specs.declared.WriteRefusal.the-variants.{Empty}
-use Rattle.packet.specs.declared.Terms.{Terms}
+use Rattle.terms.specs.declared.Terms.{Terms}
 use Rattle.packet.specs.declared.Reading.{Reading}
 use Rattle.packet.specs.declared.ExamineAnswer.{ExamineAnswer}
 use Rattle.packet.specs.declared.ExamineAnswer.the-variants.{Readable}

@@ -18,7 +18,7 @@ use Rattle.checksum.specs.Checksum.{checksumBytes}
 use Rattle.formats.specs.Data.{comesBack}
 use Rattle.refusals.specs.declared.ExamineRefusal.the-variants.{Checksum}
 use Rattle.refusals.specs.declared.ReadRefusal.the-variants.{Packet}
-use Rattle.packet.specs.declared.Terms.{Terms}
+use Rattle.terms.specs.declared.Terms.{Terms}
 use Rattle.packet.specs.declared.ReadAnswer.{ReadAnswer}
 use Rattle.packet.specs.declared.ReadAnswer.the-variants.{Accepted, Refused}
 use Rattle.packet.specs.Packet.{received}

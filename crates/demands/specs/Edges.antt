@@ -16,10 +16,10 @@ use Rattle.formats.specs.Data.{Carries, Unreadable, dataOf}
 use Rattle.refusals.specs.declared.ExamineRefusal.{ExamineRefusal}
 use Rattle.refusals.specs.declared.ExamineRefusal.the-variants.{NoHeader, OtherType}
 use Rattle.refusals.specs.declared.ReadRefusal.the-variants.{Packet}
-use Rattle.packet.specs.declared.Terms.{Terms}
+use Rattle.terms.specs.declared.Terms.{Terms}
 use Rattle.packet.specs.Packet.{received, headerFor}
 use Rattle.packet.specs.Reader.{ReadRefuses}
-use Rattle.packet.specs.Terms.{usual}
+use Rattle.terms.specs.Terms.{usual}
 
 pub data Edge : Type 0 where
   -- the check bits of a flag and a length, and the three bytes that follow the flag

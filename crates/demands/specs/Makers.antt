@@ -10,7 +10,7 @@ use Rattle.header.specs.Fields.{bytesOf}
 use Rattle.distance.specs.Distance.{distance}
 use Rattle.formats.specs.Data.{Carries, AllCoded, comesBack}
 use Rattle.packet.specs.declared.Reading.{Reading}
-use Rattle.packet.specs.declared.Terms.{Terms}
+use Rattle.terms.specs.declared.Terms.{Terms}
 use Rattle.packet.specs.Packet.{received, packetOf, headerFor}
 
 -- a packet that a maker could have built: of a text that has codes, in a format, with a sync bit. Its data is what a maker may build of what the text

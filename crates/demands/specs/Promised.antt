@@ -1,6 +1,6 @@
 -- All that was promised, under terms: the three demands, and what stands beside them.
 -- Assumes nothing.
-use Rattle.packet.specs.declared.Terms.{Terms}
+use Rattle.terms.specs.declared.Terms.{Terms}
 use Rattle.demands.specs.Demand1.{Demand1, Conditions}
 use Rattle.demands.specs.Demand2.{Demand2}
 use Rattle.demands.specs.Demand3.{Demand3}

@@ -14,12 +14,12 @@ use Rattle.codes.specs.Steps.Measure.{countable, TakesApart}
 use Rattle.codes.specs.declared.Outcome.{Outcome}
 use Rattle.formats.specs.Data.{Carries, Unreadable}
 use Rattle.refusals.specs.declared.ExamineRefusal.the-variants.{Checksum, Malformed}
-use Rattle.packet.specs.declared.Terms.{Terms}
+use Rattle.terms.specs.declared.Terms.{Terms}
 use Rattle.packet.specs.declared.Reading.{Reading}
 use Rattle.packet.specs.Examine.{Refuses, Accepts}
 use Rattle.packet.specs.Packet.{dataIn, sumIn}
 use Rattle.packet.specs.Steps.Reading.{HeaderFound}
-use Rattle.packet.specs.Terms.{MayBeNamed}
+use Rattle.terms.specs.Terms.{MayBeNamed}
 use Rattle.packet.proofs.ExamineStages.{clear-six, clear-seven}
 
 -- the data, as the code takes it

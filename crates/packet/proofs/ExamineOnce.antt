@@ -16,13 +16,13 @@ use Rattle.refusals.specs.Match.{byNumber}
 use Rattle.refusals.specs.Refusals.{numberIn, valueIn, examineTold}
 use Rattle.refusals.proofs.Known.{examineFrom, examineKnown, examine-numbers}
 use Rattle.refusals.proofs.Refused.{match-one}
-use Rattle.packet.specs.declared.Terms.{Terms}
+use Rattle.terms.specs.declared.Terms.{Terms}
 use Rattle.packet.specs.declared.Reading.{Reading}
 use Rattle.packet.specs.declared.ExamineAnswer.{ExamineAnswer}
 use Rattle.packet.specs.declared.ExamineAnswer.the-variants.{Readable, Refused}
 use Rattle.packet.specs.Examine.{Fault, Refuses, readingOf, Accepts, Examines}
 use Rattle.packet.specs.Packet.{received, dataIn}
-use Rattle.packet.specs.Terms.{MayBeNamed}
+use Rattle.terms.specs.Terms.{MayBeNamed}
 use Rattle.packet.proofs.ExamineStages.{clear-eight}
 use Rattle.packet.proofs.Headers.{one-header, under}
 

@@ -18,10 +18,10 @@ use Rattle.formats.proofs.Formats.{never-unreadable}
 use Rattle.refusals.specs.Match.{byNumber}
 use Rattle.refusals.proofs.Known.{examineFrom, examineKnown, examine-numbers}
 use Rattle.refusals.proofs.Refused as refused
-use Rattle.packet.specs.declared.Terms.{Terms}
+use Rattle.terms.specs.declared.Terms.{Terms}
 use Rattle.packet.specs.Examine.{Fault, Framed}
 use Rattle.packet.specs.Packet.{received, dataIn, sumIn}
-use Rattle.packet.specs.Terms.{MayBeNamed}
+use Rattle.terms.specs.Terms.{MayBeNamed}
 use Rattle.packet.proofs.Headers.{under}
 
 module _ (terms : Terms) (packet : List ℕ) where

@@ -5,10 +5,10 @@ use mathlib.Core.Path.{_≡_, subst}
 use Prim.Native.Nat.{ℕ}
 use Rattle.distance.specs.Distance.{ValidWithin}
 use Rattle.distance.proofs.Unique.{one-near}
-use Rattle.packet.specs.declared.Terms.{Terms}
+use Rattle.terms.specs.declared.Terms.{Terms}
 use Rattle.packet.specs.Examine.{UnderHeader}
 use Rattle.packet.specs.Packet.{received}
-use Rattle.packet.specs.Terms.{MayBeNamed}
+use Rattle.terms.specs.Terms.{MayBeNamed}
 
 module _ (terms : Terms) (named : MayBeNamed terms) (packet : List ℕ) where
   pub one-header : (v w : ℕ) → ValidWithin (terms .mend) (received packet) v → ValidWithin (terms .mend) (received packet) w → v ≡ w

@@ -6,7 +6,6 @@ pub mod InPlace
 pub mod ReadAnswers
 pub mod ReadOnce
 pub mod Sent
-pub mod Usual
 pub mod WriteAnswers
 pub mod WriteOnce
 pub mod WriteStages

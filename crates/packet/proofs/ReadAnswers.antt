@@ -14,13 +14,13 @@ use Rattle.formats.proofs.Formats.{carries-one}
 use Rattle.refusals.specs.declared.ReadRefusal.{ReadRefusal}
 use Rattle.refusals.specs.declared.ReadRefusal.the-variants.{Packet, NoRoom}
 use Rattle.refusals.specs.Refusals.{numberIn, readTold}
-use Rattle.packet.specs.declared.Terms.{Terms}
+use Rattle.terms.specs.declared.Terms.{Terms}
 use Rattle.packet.specs.declared.Reading.{Reading}
 use Rattle.packet.specs.declared.ReadAnswer.the-variants.{Accepted, Refused}
 use Rattle.packet.specs.Examine.{Accepts}
 use Rattle.packet.specs.Packet.{dataIn}
 use Rattle.packet.specs.Reader.{ReadFault, Reads}
-use Rattle.packet.specs.Terms.{MayBeNamed}
+use Rattle.terms.specs.Terms.{MayBeNamed}
 use Rattle.packet.proofs.ExamineAnswers.{part-of, data-few}
 use Rattle.packet.proofs.ExamineOnce.{accepts-no-fault}
 

@@ -17,14 +17,14 @@ use Rattle.refusals.specs.declared.ReadRefusal.{ReadRefusal}
 use Rattle.refusals.specs.declared.ReadRefusal.the-variants.{Packet, NoRoom}
 use Rattle.refusals.specs.Refusals.{numberIn, examineTold, readTold}
 use Rattle.refusals.proofs.Known.{examine-numbers}
-use Rattle.packet.specs.declared.Terms.{Terms}
+use Rattle.terms.specs.declared.Terms.{Terms}
 use Rattle.packet.specs.declared.Reading.{Reading}
 use Rattle.packet.specs.declared.ReadAnswer.{ReadAnswer}
 use Rattle.packet.specs.declared.ReadAnswer.the-variants.{Accepted, Refused}
 use Rattle.packet.specs.Examine.{Refuses, Accepts}
 use Rattle.packet.specs.Packet.{received, dataIn}
 use Rattle.packet.specs.Reader.{ReadFault, ReadRefuses, Reads}
-use Rattle.packet.specs.Terms.{MayBeNamed}
+use Rattle.terms.specs.Terms.{MayBeNamed}
 use Rattle.packet.proofs.ExamineOnce.{refuses-one, accepts-no-fault, accepts-one-text, accepts-one-reading}
 use Rattle.packet.proofs.Headers.{under}
 

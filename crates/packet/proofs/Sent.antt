@@ -19,10 +19,10 @@ use Rattle.distance.specs.Distance.{ValidWithin, distance}
 use Rattle.checksum.specs.Checksum.{checksumBytes}
 use Rattle.formats.specs.Data.{Carries}
 use Rattle.refusals.specs.declared.ExamineRefusal.the-variants.{Checksum}
-use Rattle.packet.specs.declared.Terms.{Terms}
+use Rattle.terms.specs.declared.Terms.{Terms}
 use Rattle.packet.specs.Examine.{Framed, Allowed, readingOf, Refuses}
 use Rattle.packet.specs.Packet.{received, dataIn, sumIn, headerFor}
-use Rattle.packet.specs.Terms.{MayBeNamed}
+use Rattle.terms.specs.Terms.{MayBeNamed}
 use Rattle.packet.proofs.ExamineStages.{clear-six}
 
 -- ---- the header of a packet of n data bytes

@@ -10,7 +10,7 @@ use Rattle.header.specs.declared.Format.{Format}
 use Rattle.header.specs.Typed.{formatNumber}
 use Rattle.codes.specs.declared.Stored.the-variants as Stored
 use Rattle.refusals.specs.declared.WriteRefusal.the-variants.{NoCode, TooLong, NoRoom}
-use Rattle.packet.specs.declared.Terms.{Terms}
+use Rattle.terms.specs.declared.Terms.{Terms}
 use Rattle.packet.specs.declared.WriteAnswer.the-variants.{Written, Refused}
 use Rattle.formats.specs.Data.{Uncoded, dataOf}
 use Rattle.packet.specs.Packet.{packetOf, headerFor}

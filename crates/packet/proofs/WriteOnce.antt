@@ -16,7 +16,7 @@ use Rattle.refusals.specs.Match.{writerTurn}
 use Rattle.refusals.specs.Refusals.{numberIn, valueIn, writeTold}
 use Rattle.refusals.proofs.Known.{writeFrom, writeKnown, write-one-number}
 use Rattle.refusals.proofs.Refused.{match-one}
-use Rattle.packet.specs.declared.Terms.{Terms}
+use Rattle.terms.specs.declared.Terms.{Terms}
 use Rattle.packet.specs.declared.WriteAnswer.{WriteAnswer}
 use Rattle.packet.specs.declared.WriteAnswer.the-variants.{Written, Refused}
 use Rattle.packet.specs.Writer.{WriteFault, WriteRefuses, WriteAccepts, Writes, ourPacket}

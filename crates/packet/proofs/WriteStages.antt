@@ -12,7 +12,7 @@ use Rattle.formats.specs.Data.{Uncoded, AllCoded, dataOf}
 use Rattle.refusals.specs.Match.{turnIn, writerOrder, writerTurn}
 use Rattle.refusals.proofs.Known.{writeFrom, writeKnown, write-at-turn}
 use Rattle.refusals.proofs.Refused as refused
-use Rattle.packet.specs.declared.Terms.{Terms}
+use Rattle.terms.specs.declared.Terms.{Terms}
 use Rattle.packet.specs.Writer.{InFormat, WriteFault}
 
 -- a condition, of the format that is named

@@ -17,7 +17,7 @@ use Rattle.refusals.specs.declared.ExamineRefusal.{ExamineRefusal}
 use Rattle.refusals.specs.declared.ExamineRefusal.the-variants.{Short, NoHeader, OtherType, OtherLength, CutOff, Checksum, Malformed}
 use Rattle.refusals.specs.Match.{FirstMatch, byNumber}
 use Rattle.refusals.specs.Refusals.{examineTold}
-use Rattle.packet.specs.declared.Terms.{Terms}
+use Rattle.terms.specs.declared.Terms.{Terms}
 use Rattle.packet.specs.declared.Reading.{Reading}
 use Rattle.packet.specs.declared.ExamineAnswer.{ExamineAnswer}
 use Rattle.packet.specs.declared.ExamineAnswer.the-variants.{Readable, Refused}

@@ -2,5 +2,4 @@ pub mod Examine
 pub mod Packet
 pub mod Reader
 pub mod Steps
-pub mod Terms
 pub mod Writer

@@ -12,7 +12,7 @@ use Rattle.refusals.specs.declared.ReadRefusal.{ReadRefusal}
 use Rattle.refusals.specs.declared.ReadRefusal.the-variants.{Packet, NoRoom}
 use Rattle.refusals.specs.Match.{FirstMatch, byNumber}
 use Rattle.refusals.specs.Refusals.{readTold}
-use Rattle.packet.specs.declared.Terms.{Terms}
+use Rattle.terms.specs.declared.Terms.{Terms}
 use Rattle.packet.specs.declared.ReadAnswer.{ReadAnswer}
 use Rattle.packet.specs.declared.ReadAnswer.the-variants.{Accepted, Refused}
 use Rattle.packet.specs.Examine.{UnderHeader, Fault, Accepts}

@@ -12,7 +12,7 @@ use Rattle.refusals.specs.declared.WriteRefusal.{WriteRefusal}
 use Rattle.refusals.specs.declared.WriteRefusal.the-variants.{OtherFormat, Empty, NoCode, TooLong, NoRoom}
 use Rattle.refusals.specs.Match.{FirstMatch, writerTurn}
 use Rattle.refusals.specs.Refusals.{writeTold}
-use Rattle.packet.specs.declared.Terms.{Terms}
+use Rattle.terms.specs.declared.Terms.{Terms}
 use Rattle.packet.specs.declared.WriteAnswer.{WriteAnswer}
 use Rattle.packet.specs.declared.WriteAnswer.the-variants.{Written, Refused}
 use Rattle.packet.specs.Packet.{packetOf, headerFor}

@@ -8,6 +8,7 @@ use mending::Mending;
 use refusals::ExamineRefusal;
 use refusals::ReadRefusal;
 use refusals::WriteRefusal;
+use terms::Terms;
 ghost use mathlib.Core.List.{_++_};
 ghost use mathlib.Core.Path.{_≡_};
 ghost use Prim.Native.Nat.{_+_, _^_, _≤_, _<_};
@@ -20,31 +21,8 @@ ghost use Rattle.packet.specs.Packet.{packetOf, headerFor};
 ghost use Rattle.packet.specs.Reader.{Reads};
 ghost use Rattle.packet.specs.Steps.Reading.{HeaderFound, FindsHeader};
 ghost use Rattle.packet.specs.Steps.Writing.{DataInPlace};
-ghost use Rattle.packet.specs.Terms.{MayBeNamed, usual};
+ghost use Rattle.terms.specs.Terms.{MayBeNamed, usual};
 ghost use Rattle.packet.specs.Writer.{Writes};
-
-// What a caller sets: the most header bits to mend, and the most data bytes.
-pub struct Terms {
-    pub mend: u32,
-    pub most: u16,
-}
-
-impl Terms {
-    // The most header bits that are mended.
-    pub const MEND: u32 = 2;
-    // The most data bytes of one packet.
-    pub const MOST: u16 = 4000;
-
-    // Those that the entry points name.
-    fn usual() -> Self
-        ensures { λ r. ⌜ r ≡ usual ⌝ }
-    {
-        Terms {
-            mend: Terms::MEND,
-            most: Terms::MOST,
-        }
-    }
-}
 
 // An accepted packet: its format and sync bit, the number of mended header bits, the lengths of data and text, and the bytes used.
 pub struct Reading {

@@ -4,9 +4,9 @@ use mathlib.Core.Bool.{Bool}
 use mathlib.Core.List.{List}
 use mathlib.Core.Path.{_≡_, sym, ap, _∙_}
 use Prim.Native.Nat.{ℕ}
-use Rattle.packet.specs.Terms.{usual}
+use Rattle.terms.specs.Terms.{usual}
 use Rattle.packet.proofs.ReadOnce.{reads-one}
-use Rattle.packet.proofs.Usual.{usual-named}
+use Rattle.terms.proofs.Usual.{usual-named}
 use Rattle.packet.proofs.WriteOnce.{writes-one}
 use Rattle.rosopyat_c.specs.Replies.{readReply, writeReply, RepliesToRead, RepliesToWrite}
 use Rattle.rosopyat_c.specs.declared.ReadReply.{ReadReply}

@@ -13,7 +13,7 @@ use Rattle.packet.specs.declared.WriteAnswer.{WriteAnswer}
 use Rattle.packet.specs.declared.WriteAnswer.the-variants.{Written, Refused as NotWritten}
 use Rattle.refusals.specs.Refusals.{numberIn, valueIn, readTold, writeTold}
 use Rattle.packet.specs.Reader.{Reads}
-use Rattle.packet.specs.Terms.{usual}
+use Rattle.terms.specs.Terms.{usual}
 use Rattle.packet.specs.Writer.{Writes}
 use Rattle.rosopyat_c.specs.declared.ReadReply.{ReadReply}
 use Rattle.rosopyat_c.specs.declared.WriteReply.{WriteReply}

@@ -22,7 +22,7 @@ use Rattle.mending.specs.Mends.{MendsWithin}
 use Rattle.packet.specs.Examine.{Framed}
 use Rattle.packet.specs.Packet.{received}
 use Rattle.packet.specs.Steps.Reading.{HeaderFound}
-use Rattle.packet.specs.declared.Terms.{Terms}
+use Rattle.terms.specs.declared.Terms.{Terms}
 use Rattle.packet.proofs.ExamineStages.{Clear, clear-one, clear-two, clear-three, clear-four, clear-five}
 use Rattle.packet.proofs.find_header.Statement.{statement}
 use Rattle.packet.proofs.find_header.Tie as tie

@@ -5,7 +5,7 @@ use borrow.Author.Needs.{needs}
 use Rattle.packet.specs.declared.ReadAnswer.{ReadAnswer}
 use Rattle.packet.specs.declared.ReadAnswer.the-variants.{Accepted, Refused}
 use Rattle.packet.specs.Reader.{Reads}
-use Rattle.packet.specs.Terms.{usual}
+use Rattle.terms.specs.Terms.{usual}
 use Rattle.rosopyat_c.proofs.rosopyat_read.Statement.{statement}
 use Rattle.rosopyat_c.proofs.rosopyat_read.Tie as tie
 

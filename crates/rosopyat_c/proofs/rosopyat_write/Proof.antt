@@ -4,7 +4,7 @@ use mathlib.Core.Path.{refl, subst}
 use borrow.Author.Needs.{needs}
 use Rattle.packet.specs.declared.WriteAnswer.{WriteAnswer}
 use Rattle.packet.specs.declared.WriteAnswer.the-variants.{Written, Refused}
-use Rattle.packet.specs.Terms.{usual}
+use Rattle.terms.specs.Terms.{usual}
 use Rattle.packet.specs.Writer.{Writes}
 use Rattle.rosopyat_c.proofs.rosopyat_write.Statement.{statement}
 use Rattle.rosopyat_c.proofs.rosopyat_write.Tie as tie

@@ -1,7 +1,7 @@
 -- What a caller sets: the most header bits to mend, and the most data bytes of a packet. Everything that is said of reading and writing is said under terms.
 -- Assumes nothing.
 use Prim.Native.Nat.{_≤_}
-use Rattle.packet.specs.declared.Terms.{Terms}
+use Rattle.terms.specs.declared.Terms.{Terms}
 
 -- the terms that may be named: two header bits to mend or fewer (RULES, Packet), and no more data bytes than one packet holds at 300 bps (001, 3.2)
 pub record MayBeNamed (terms : Terms) : Type 0 where

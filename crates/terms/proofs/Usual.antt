@@ -2,8 +2,8 @@
 -- Assumes nothing.
 use mathlib.Core.Path.{_≡_, subst⁻¹}
 use native.Mathlib.Omega.{arith}
-use Rattle.packet.specs.declared.Terms.{Terms}
-use Rattle.packet.specs.Terms.{MayBeNamed, usual}
+use Rattle.terms.specs.declared.Terms.{Terms}
+use Rattle.terms.specs.Terms.{MayBeNamed, usual}
 
 pub usual-named : MayBeNamed usual
 usual-named = record { bits = omega arith; bytes = omega arith }
