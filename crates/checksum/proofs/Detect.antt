@@ -78,5 +78,5 @@ unfolding checksumOf start
 detects {place} {a} {b} h ha hb differ e = differ (detects-from place start a b h ha hb (lit< tt) e)
 
 -- and so have the two bytes that a reader compares
-pub sent-detects : {place : ℕ} {a b : List ℕ} → AlikeBut place a b → Bytes a → Bytes b → a ≢ b → checksumBytes a ≢ checksumBytes b
-sent-detects {a = a} {b = b} h ha hb differ e = detects h ha hb differ (sent-tells a b e)
+pub checksum-bytes-detect : {place : ℕ} {a b : List ℕ} → AlikeBut place a b → Bytes a → Bytes b → a ≢ b → checksumBytes a ≢ checksumBytes b
+checksum-bytes-detect {a = a} {b = b} h ha hb differ e = detects h ha hb differ (sent-tells a b e)

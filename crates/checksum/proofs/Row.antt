@@ -7,9 +7,9 @@ use native.Mathlib.Nat.{div-add-mod'}
 use lib.ListN.{length}
 use Rattle.checksum.specs.Checksum.{checksumOf, checksumBytes}
 
-pub sent-length : (s : List ℕ) → length (checksumBytes s) ≡ 2
+pub checksum-bytes-length : (s : List ℕ) → length (checksumBytes s) ≡ 2
 unfolding checksumBytes
-sent-length s = refl
+checksum-bytes-length s = refl
 
 -- two bytes are the ones that are sent just where the first is the low byte of the checksum and the second the high byte
 module _ (s : List ℕ) {low high : ℕ} where

@@ -14,7 +14,7 @@ use Rattle.header.specs.declared.Format.{Format}
 use Rattle.header.specs.declared.Format.the-variants.{Open, PseudoBinary, FullAscii}
 use Rattle.header.specs.Fields.{bytesOf}
 use Rattle.checksum.specs.Checksum.{checksumBytes}
-use Rattle.checksum.proofs.Row.{sent-length}
+use Rattle.checksum.proofs.Row.{checksum-bytes-length}
 use Rattle.codes.specs.Coded.{CodedBelow}
 use Rattle.full_ascii.proofs.Writer as ascii-writer
 use Rattle.pseudo_binary.proofs.Writer as pseudo-writer
@@ -56,7 +56,7 @@ unfolding ourPacket packetOf bytesOf
 our-length format sync text =
     let carried = dataOf format text in
     let header = headerFor format sync (length carried) in
-    omega (arith, length-append (bytesOf header) (carried ++ checksumBytes carried), length-append carried (checksumBytes carried), sent-length carried)
+    omega (arith, length-append (bytesOf header) (carried ++ checksumBytes carried), length-append carried (checksumBytes carried), checksum-bytes-length carried)
 
 module _ (terms : Terms) (named : MayBeNamed terms) where
   pub demand-1 : Demand1 terms

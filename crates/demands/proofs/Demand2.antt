@@ -11,9 +11,9 @@ use Rattle.bits.specs.Row.{Bytes}
 use Rattle.bits.proofs.Ones.{differences-self}
 use Rattle.header.specs.declared.Format.{Format}
 use Rattle.header.specs.Fields.{fieldsIn, bytesOf}
-use Rattle.header.specs.Typed.{formatNumber}
+use Rattle.header.specs.Formats.{formatNumber}
 use Rattle.header.specs.Valid.{lengthIn}
-use Rattle.header.proofs.Typed.{one-number}
+use Rattle.header.proofs.Formats.{one-number}
 use Rattle.distance.specs.Distance.{distance}
 use Rattle.checksum.specs.Checksum.{checksumBytes}
 use Rattle.formats.specs.Data.{Carries, AllCoded, comesBack, dataOf}

@@ -13,7 +13,7 @@ use Rattle.header.specs.Fields.{bytesOf}
 use Rattle.distance.specs.Distance.{distance}
 use Rattle.checksum.specs.Alike.{AlikeBut}
 use Rattle.checksum.specs.Checksum.{checksumOf, checksumBytes}
-use Rattle.checksum.proofs.Detect.{sent-detects}
+use Rattle.checksum.proofs.Detect.{checksum-bytes-detect}
 use Rattle.formats.specs.Data.{comesBack}
 use Rattle.refusals.specs.declared.ExamineRefusal.the-variants.{Checksum}
 use Rattle.refusals.specs.declared.ReadRefusal.the-variants.{Packet}
@@ -92,7 +92,7 @@ module _ (terms : Terms) (named : MayBeNamed terms) (format : Format) (sync : Bo
         (sent-refused terms named format sync word other low high after (subst (λ (n : ℕ). 1 ≤ n) (sym long) (made .some))
         (subst (λ (n : ℕ). n ≤ terms .most) (sym long) (made .few)) (flipped .bits)
         (subst (λ (n : ℕ). distance word (headerFor format sync n) ≤ terms .mend) (sym long) (near word flipped))
-        (λ e. sent-detects alike other-bytes bytes differs (sym e)))
+        (λ e. checksum-bytes-detect alike other-bytes bytes differs (sym e)))
         reads
 
     pub damaged-sum : (low high : ℕ) → low ∷ high ∷ [] ≢ checksumBytes (made .carried)

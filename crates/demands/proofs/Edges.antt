@@ -22,7 +22,7 @@ use Rattle.header.specs.Check.{generator, remainder, checkOf}
 use Rattle.header.specs.Flag.{Odd, flagBits, spareIn, syncIn, extendedTypeIn, messageTypeIn, parityFor}
 use Rattle.header.specs.Valid.{Valid, flagIn, lengthIn, checkIn, informationIn}
 use Rattle.header.specs.Fields.{fieldsIn, headerOf, lowFlag, bytesOf}
-use Rattle.header.specs.Typed.{HasFormat, formatNumber}
+use Rattle.header.specs.Formats.{HasFormat, formatNumber}
 use Rattle.mending.specs.declared.Mending.the-variants.{Mended}
 use Rattle.distance.specs.Distance.{distance, ValidWithin}
 use Rattle.mending.specs.Mends.{MendsWithin}

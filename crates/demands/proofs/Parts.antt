@@ -11,7 +11,7 @@ use lib.Seq.{drop-cons, drop-drop, length-take-le}
 use Rattle.bits.specs.Row.{Bytes}
 use Rattle.header.specs.declared.Format.{Format}
 use Rattle.header.specs.Fields.{fieldsIn, headerOf, sentFields, wordOf, bytesOf}
-use Rattle.header.specs.Typed.{HasFormat, formatNumber}
+use Rattle.header.specs.Formats.{HasFormat, formatNumber}
 use Rattle.header.specs.Valid.{Valid, lengthIn}
 use Rattle.header.proofs.Made.{valid-made}
 use Rattle.packet.specs.Packet.{received, dataIn, sumIn, headerFor}

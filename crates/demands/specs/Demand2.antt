@@ -12,7 +12,7 @@ use Prim.Native.Nat.{ℕ, _+_, _≤_, _<_}
 use lib.ListN.{length, drop}
 use Rattle.bits.specs.Row.{Bytes}
 use Rattle.header.specs.declared.Format.{Format}
-use Rattle.header.specs.Typed.{formatNumber}
+use Rattle.header.specs.Formats.{formatNumber}
 use Rattle.distance.specs.Distance.{distance}
 use Rattle.formats.specs.Data.{AllCoded, comesBack, dataOf}
 use Rattle.refusals.specs.declared.WriteRefusal.the-variants.{Empty}

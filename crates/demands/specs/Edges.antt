@@ -8,7 +8,7 @@ use lib.ListN.{replicate}
 use Rattle.header.specs.declared.Format.{Format}
 use Rattle.header.specs.declared.Format.the-variants.{Open, PseudoBinary, FullAscii}
 use Rattle.header.specs.Fields.{fieldsIn, bytesOf}
-use Rattle.header.specs.Typed.{HasFormat}
+use Rattle.header.specs.Formats.{HasFormat}
 use Rattle.header.specs.Valid.{Valid, flagIn, lengthIn, checkIn}
 use Rattle.mending.specs.declared.Mending.the-variants.{Mended}
 use Rattle.mending.specs.Mends.{MendsWithin}

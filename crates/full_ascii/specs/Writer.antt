@@ -24,7 +24,7 @@ own c =
     cond (eqb c HT) (special 0 (HT ∷ []))
     (cond (eqb c LF) (special 2 (LF ∷ [])) (cond (eqb c CR) (special 1 (CR ∷ [])) (cond (ltb c 64) (six c) (seven c))))
 
--- the pair code for each CR that has LF next (house rule), and else each character's own
+-- the pair code for each CR that has LF next (RULES, Formats), and else each character's own
 unfoldable pub ours : List ℕ → List Entry
 ours [] = []
 ours (c ∷ []) = own c ∷ []

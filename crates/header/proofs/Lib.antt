@@ -2,4 +2,4 @@ pub mod Bytes
 pub mod Division
 pub mod Made
 pub mod Several
-pub mod Typed
+pub mod Formats

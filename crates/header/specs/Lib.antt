@@ -1,6 +1,6 @@
 pub mod Check
 pub mod Fields
 pub mod Flag
+pub mod Formats
 pub mod Steps
-pub mod Typed
 pub mod Valid

@@ -4,7 +4,7 @@ ghost use Prim.Native.Nat.{_^_, _<_};
 ghost use Rattle.header.specs.Check.{checkOf};
 ghost use Rattle.header.specs.Fields.{fieldsIn, headerOf, sentFields, Fit, lowFlag, oneIf, wordOf};
 ghost use Rattle.header.specs.Flag.{parityFor};
-ghost use Rattle.header.specs.Typed.{formatNumber, FormatOfNumber, FormatInHeader};
+ghost use Rattle.header.specs.Formats.{formatNumber, FormatOfNumber, FormatInHeader};
 ghost use Rattle.header.specs.Steps.Differences.{Multiple, differenceIn, WithParity};
 
 // The formats that we read and write.

@@ -6,8 +6,8 @@ use Prim.Native.Nat.{ℕ}
 use native.Mathlib.Omega.{arith}
 use Rattle.header.specs.declared.Format.{Format}
 use Rattle.header.specs.Fields.{fieldsIn}
-use Rattle.header.specs.Typed.{HasFormat}
-use Rattle.header.proofs.Typed.{one-format}
+use Rattle.header.specs.Formats.{HasFormat}
+use Rattle.header.proofs.Formats.{one-format}
 use Rattle.formats.specs.Data.{Carries, Unreadable}
 use Rattle.formats.proofs.Formats.{carries-one, unreadable-one}
 use Rattle.refusals.specs.declared.ExamineRefusal.{ExamineRefusal}

@@ -8,9 +8,9 @@ use native.Mathlib.Omega.{arith}
 use lib.ListN.{length}
 use Rattle.header.specs.declared.Format.{Format}
 use Rattle.header.specs.Fields.{fieldsIn}
-use Rattle.header.specs.Typed.{HasFormat}
+use Rattle.header.specs.Formats.{HasFormat}
 use Rattle.header.specs.Valid.{lengthIn}
-use Rattle.header.proofs.Typed.{one-format}
+use Rattle.header.proofs.Formats.{one-format}
 use Rattle.distance.specs.Distance.{ValidWithin}
 use Rattle.checksum.specs.Checksum.{checksumBytes}
 use Rattle.formats.specs.Data.{Carries, Unreadable}

@@ -7,8 +7,8 @@ use native.Mathlib.Omega.{arith}
 use lib.ListN.{length, drop}
 use Rattle.header.specs.declared.Format.{Format}
 use Rattle.header.specs.Fields.{fieldsIn}
-use Rattle.header.specs.Typed.{HasFormat}
-use Rattle.header.proofs.Typed.{one-format}
+use Rattle.header.specs.Formats.{HasFormat}
+use Rattle.header.proofs.Formats.{one-format}
 use Rattle.distance.specs.Distance.{ValidWithin}
 use Rattle.formats.specs.Data.{Carries}
 use Rattle.formats.proofs.Formats.{carries-one}

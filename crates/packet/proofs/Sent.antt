@@ -10,11 +10,11 @@ use lib.Seq.{take-at, getD-drop, getD-append-add}
 use Rattle.header.specs.declared.Format.{Format}
 use Rattle.header.specs.declared.Header.{Header}
 use Rattle.header.specs.Fields.{Fit, fieldsIn, sentFields, bytesOf}
-use Rattle.header.specs.Typed.{HasFormat, formatNumber}
+use Rattle.header.specs.Formats.{HasFormat, formatNumber}
 use Rattle.header.specs.Valid.{Valid, lengthIn}
 use Rattle.header.proofs.Bytes.{word-bytes}
 use Rattle.header.proofs.Made.{made-valid, made-reads-back}
-use Rattle.header.proofs.Typed.{number-lt}
+use Rattle.header.proofs.Formats.{number-lt}
 use Rattle.distance.specs.Distance.{ValidWithin, distance}
 use Rattle.checksum.specs.Checksum.{checksumBytes}
 use Rattle.formats.specs.Data.{Carries}

@@ -7,7 +7,7 @@ use Prim.Native.Nat.{ℕ, _+_, _<_}
 use native.Mathlib.Omega.{arith}
 use lib.ListN.{length, take, drop}
 use Rattle.header.specs.declared.Format.{Format}
-use Rattle.header.specs.Typed.{formatNumber}
+use Rattle.header.specs.Formats.{formatNumber}
 use Rattle.codes.specs.declared.Stored.the-variants as Stored
 use Rattle.refusals.specs.declared.WriteRefusal.the-variants.{NoCode, TooLong, NoRoom}
 use Rattle.terms.specs.declared.Terms.{Terms}

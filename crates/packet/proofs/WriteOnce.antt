@@ -7,7 +7,7 @@ use Prim.Native.Nat.{ℕ, _+_, _<_}
 use native.Mathlib.Omega.{arith}
 use lib.ListN.{length, drop}
 use Rattle.header.specs.declared.Format.{Format}
-use Rattle.header.proofs.Typed.{one-number}
+use Rattle.header.proofs.Formats.{one-number}
 use Rattle.codes.proofs.OneAnswer.{first-one}
 use Rattle.formats.specs.Data.{coded, Uncoded, dataOf}
 use Rattle.refusals.specs.declared.WriteRefusal.{WriteRefusal}

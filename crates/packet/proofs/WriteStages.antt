@@ -6,8 +6,8 @@ use Prim.Native.Nat.{ℕ, suc, _≤_, _<_}
 use native.Mathlib.Omega.{arith}
 use lib.ListN.{length, getD}
 use Rattle.header.specs.declared.Format.{Format}
-use Rattle.header.specs.Typed.{formatNumber}
-use Rattle.header.proofs.Typed.{one-number}
+use Rattle.header.specs.Formats.{formatNumber}
+use Rattle.header.proofs.Formats.{one-number}
 use Rattle.formats.specs.Data.{Uncoded, AllCoded, dataOf}
 use Rattle.refusals.specs.Match.{turnIn, writerOrder, writerTurn}
 use Rattle.refusals.proofs.Known.{writeFrom, writeKnown, write-at-turn}

@@ -8,7 +8,7 @@ use Prim.Native.Nat.{ℕ, _+_, _≤_, _<_}
 use lib.ListN.{length}
 use Rattle.header.specs.declared.Format.{Format}
 use Rattle.header.specs.Fields.{fieldsIn}
-use Rattle.header.specs.Typed.{HasFormat}
+use Rattle.header.specs.Formats.{HasFormat}
 use Rattle.header.specs.Valid.{lengthIn}
 use Rattle.distance.specs.Distance.{ValidWithin, distance}
 use Rattle.checksum.specs.Checksum.{checksumBytes}

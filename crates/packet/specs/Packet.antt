@@ -6,7 +6,7 @@ use Prim.Native.Nat.{ℕ, _+_}
 use lib.ListN.{length, getD, take, drop}
 use Rattle.header.specs.declared.Format.{Format}
 use Rattle.header.specs.Fields.{wordOf, bytesOf, headerOf, sentFields}
-use Rattle.header.specs.Typed.{formatNumber}
+use Rattle.header.specs.Formats.{formatNumber}
 use Rattle.header.specs.Valid.{lengthIn}
 use Rattle.checksum.specs.Checksum.{checksumBytes}
 

@@ -6,7 +6,7 @@ use Prim.Native.Nat.{ℕ, _≤_, _<_}
 use lib.ListN.{length, drop}
 use Rattle.header.specs.declared.Format.{Format}
 use Rattle.header.specs.Fields.{fieldsIn}
-use Rattle.header.specs.Typed.{HasFormat}
+use Rattle.header.specs.Formats.{HasFormat}
 use Rattle.formats.specs.Data.{Carries}
 use Rattle.refusals.specs.declared.ReadRefusal.{ReadRefusal}
 use Rattle.refusals.specs.declared.ReadRefusal.the-variants.{Packet, NoRoom}

@@ -6,7 +6,7 @@ use mathlib.Core.Path.{_≡_}
 use Prim.Native.Nat.{ℕ, _+_, _≤_, _<_}
 use lib.ListN.{length, drop}
 use Rattle.header.specs.declared.Format.{Format}
-use Rattle.header.specs.Typed.{formatNumber}
+use Rattle.header.specs.Formats.{formatNumber}
 use Rattle.formats.specs.Data.{Uncoded, AllCoded, dataOf}
 use Rattle.refusals.specs.declared.WriteRefusal.{WriteRefusal}
 use Rattle.refusals.specs.declared.WriteRefusal.the-variants.{OtherFormat, Empty, NoCode, TooLong, NoRoom}

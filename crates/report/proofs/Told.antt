@@ -4,7 +4,7 @@ use mathlib.Core.List.{List, [], _∷_}
 use mathlib.Core.Path.{_≡_, refl, sym, ap, ap₂, subst}
 use Prim.Native.Nat.{ℕ}
 use Rattle.header.specs.Fields.{oneIf}
-use Rattle.header.specs.Typed.{formatNumber}
+use Rattle.header.specs.Formats.{formatNumber}
 use Rattle.codes.specs.Steps.Laid.{Fronted}
 use Rattle.packet.specs.declared.Reading.{Reading}
 use Rattle.refusals.specs.declared.Refusal.{Refusal}

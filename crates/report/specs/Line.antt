@@ -8,7 +8,7 @@ use Prim.Native.Nat.{ℕ, zero, suc, _+_, _/_, _%_}
 use lib.Dec.{ltb}
 use lib.ListN.{length}
 use Rattle.header.specs.Fields.{oneIf}
-use Rattle.header.specs.Typed.{formatNumber}
+use Rattle.header.specs.Formats.{formatNumber}
 use Rattle.codes.specs.Steps.Laid.{laid}
 use Rattle.packet.specs.declared.ReadAnswer.{ReadAnswer}
 use Rattle.packet.specs.declared.ReadAnswer.the-variants.{Accepted, Refused}

@@ -13,7 +13,7 @@ use Rattle.header.specs.declared.Header.{Header}
 use Rattle.header.specs.declared.WhichFormat.{WhichFormat}
 use Rattle.header.specs.declared.WhichFormat.the-variants.{Ours, Foreign}
 use Rattle.header.specs.Fields.{fieldsIn}
-use Rattle.header.specs.Typed.{HasFormat, FormatInHeader}
+use Rattle.header.specs.Formats.{HasFormat, FormatInHeader}
 use Rattle.header.specs.Valid.{lengthIn}
 use Rattle.mending.specs.declared.Mending.{Mending}
 use Rattle.mending.specs.declared.Mending.the-variants.{Mended, Hopeless}

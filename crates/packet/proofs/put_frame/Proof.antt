@@ -10,8 +10,8 @@ use lib.ListN.{length, take, drop}
 use Rattle.header.specs.declared.Format.{Format}
 use Rattle.header.specs.declared.Header.{Header}
 use Rattle.header.specs.Fields.{Fit, bytesOf, headerOf, sentFields}
-use Rattle.header.specs.Typed.{formatNumber}
-use Rattle.header.proofs.Typed.{number-lt}
+use Rattle.header.specs.Formats.{formatNumber}
+use Rattle.header.proofs.Formats.{number-lt}
 use Rattle.checksum.specs.Checksum.{checksumBytes}
 use Rattle.packet.specs.Packet.{packetOf, headerFor}
 use Rattle.packet.proofs.InPlace.{framed}

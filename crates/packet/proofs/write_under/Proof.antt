@@ -7,7 +7,7 @@ use native.Mathlib.Omega.{arith}
 use borrow.Author.Needs.{needs}
 use lib.ListN.{length}
 use Rattle.header.specs.declared.Format.{Format}
-use Rattle.header.specs.Typed.{FormatOfNumber, formatNumber}
+use Rattle.header.specs.Formats.{FormatOfNumber, formatNumber}
 use Rattle.codes.specs.declared.Stored.{Stored}
 use Rattle.codes.specs.declared.Stored.the-variants.{NoCode, TooMany, NoRoom, Bytes}
 use Rattle.formats.specs.Data.{dataOf}

@@ -7,7 +7,7 @@ use Rattle.header.specs.declared.Header.{Header}
 use Rattle.header.specs.declared.WhichFormat.{WhichFormat}
 use Rattle.header.specs.declared.WhichFormat.the-variants.{Ours, Foreign}
 use Rattle.header.specs.Fields.{oneIf}
-use Rattle.header.specs.Typed.{FormatOfNumber, FormatInHeader}
+use Rattle.header.specs.Formats.{FormatOfNumber, FormatInHeader}
 use Rattle.header.proofs.Made.{bit-clear}
 use Rattle.header.proofs.Header.format.Statement.{statement}
 use Rattle.header.proofs.Header.format.Tie as tie

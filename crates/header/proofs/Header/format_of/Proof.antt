@@ -4,7 +4,7 @@ use mathlib.Core.Path.{_≡_, sym}
 use borrow.Author.Needs.{needs}
 use Rattle.header.specs.declared.Format.{Format}
 use Rattle.header.specs.declared.Format.the-variants.{Open, PseudoBinary, FullAscii}
-use Rattle.header.specs.Typed.{formatNumber}
+use Rattle.header.specs.Formats.{formatNumber}
 use Rattle.header.proofs.Header.format_of.Statement.{statement}
 use Rattle.header.proofs.Header.format_of.Tie as tie
 

@@ -8,7 +8,7 @@ use Rattle.header.specs.declared.Format.the-variants.{Open, PseudoBinary
 use Rattle.header.specs.declared.Header.{Header}
 use Rattle.header.specs.declared.WhichFormat.{WhichFormat}
 use Rattle.header.specs.declared.WhichFormat.the-variants.{Ours, Foreign}
-use Rattle.header.specs.Typed.{formatNumber, FormatOfNumber, HasFormat, FormatInHeader}
+use Rattle.header.specs.Formats.{formatNumber, FormatOfNumber, HasFormat, FormatInHeader}
 
 -- no two formats have one number
 formatFrom : ℕ → Format
