@@ -50,7 +50,3 @@ lineOf (Accepted reading) =
     ∷ reading .«text_length»
     ∷ [])
 lineOf (Refused refusal) = line refused (numberIn (readTold refusal) ∷ [])
-
--- room enough for every line
-abbrev pub room : ℕ
-room = 128

@@ -3,9 +3,9 @@ use header::Header;
 use packet::ReadAnswer;
 ghost use Prim.Native.Nat.{_+_, _≤_};
 ghost use lib.ListN.{length};
-ghost use Rattle.report.specs.Line.{decimal, spaced, line as lineWith, lineOf, room};
+ghost use Rattle.report.specs.Line.{decimal, spaced, line as lineWith, lineOf};
 ghost use Rattle.codes.specs.Steps.Laid.{Fronted};
-ghost use Rattle.report.specs.Steps.Put.{PutsRow, PutsLine};
+ghost use Rattle.report.specs.Steps.Put.{room, PutsRow, PutsLine};
 
 // The room for the text (RULES, Reading program).
 const TEXT: usize = 65536;

@@ -7,6 +7,10 @@ use lib.ListN.{length}
 use Rattle.codes.specs.Steps.Laid.{laid, Fronted}
 use Rattle.report.specs.Report.{Prints}
 
+-- room enough for every line
+abbrev pub room : ℕ
+room = 128
+
 -- the row stands in the buffer from place n on, up to place r, and nothing else changed
 pub record PutsRow (row entry exit : List ℕ) (n r : ℕ) : Type 0 where
   pub place : r ≡ n + length row
