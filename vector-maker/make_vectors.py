@@ -236,8 +236,19 @@ def case(kind, format, sync, room, given, answer):
     STDOUT.append(f"{line}\n{beside} {zlib.adler32(lent):08x} {lent[:512].hex()}\n")
 
 
+def examined(received, answer):
+    """What is found out without a buffer: what the reader answers, given the room for the text."""
+    line, beside, _ = answer
+    if line == "refused 8":
+        line, beside, _ = read(received, beside)
+        assert line.startswith("ok "), (line, beside)
+    return f"{line} {beside}\n".replace("ok", "readable")
+
+
 def reads(received, room, answer=None):
-    case(b"r", 0, 0, room, received, answer or read(received, room))
+    answer = answer or read(received, room)
+    STDOUT.append(examined(received, answer))
+    case(b"r", 0, 0, room, received, answer)
 
 
 def writes(format, text, room, sync=0, answer=None):

@@ -7,10 +7,8 @@ ghost use mathlib.Core.Path.{_≡_};
 ghost use lib.ListN.{length};
 ghost use Rattle.read_packet.specs.Steps.Input.{afterRead, Fits, Within};
 
-// The bytes of standard input that are taken, and the room for the text and for the line.
+// The bytes of standard input that are taken (RULES, Reading program), and the room for the line.
 const INPUT: usize = 8192;
-
-const TEXT: usize = 65536;
 
 const LINE: usize = 128;
 
@@ -52,9 +50,8 @@ fn read_input(buffer: &mut [u8]) -> Input
 
 // Whether the line was written.
 fn print_answer(packet: &[u8]) -> bool {
-    let mut text = [0u8; TEXT];
     let mut line = [0u8; LINE];
-    let n = report::report(packet, &mut text, &mut line);
+    let n = report::packet_line(packet, &mut line);
     io::write_all(STDOUT_FILENO, &line[..n])
 }
 

@@ -10,7 +10,8 @@ use lib.ListN.{length, getD, take, drop, set, length-append, drop-of-length-le}
 use lib.Seq.{drop-cons, take-length}
 use Rattle.codes.specs.Steps.Laid.{laid, Fronted}
 use Rattle.codes.proofs.LaidRows.{laid-nil, laid-laid, length-laid, set-laid}
-use Rattle.report.specs.Line.{digit, decimal, spaced, line, PutsRow}
+use Rattle.report.specs.Line.{digit, decimal, spaced, line}
+use Rattle.report.specs.Steps.Put.{PutsRow}
 use Rattle.report.proofs.Decimal.{decimal-small, decimal-large}
 
 -- nothing else changed, the length neither

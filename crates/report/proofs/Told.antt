@@ -3,17 +3,19 @@
 use mathlib.Core.List.{List, [], _∷_}
 use mathlib.Core.Path.{_≡_, refl, sym, ap, ap₂, subst}
 use Prim.Native.Nat.{ℕ}
+use lib.ListN.{length}
 use Rattle.header.specs.Fields.{oneIf}
 use Rattle.header.specs.Formats.{formatNumber}
 use Rattle.codes.specs.Steps.Laid.{Fronted}
 use Rattle.packet.specs.declared.Reading.{Reading}
-use Rattle.refusals.specs.declared.Refusal.{Refusal}
+use Rattle.refusals.specs.declared.ReadRefusal.{ReadRefusal}
 use Rattle.packet.specs.declared.ReadAnswer.{ReadAnswer}
 use Rattle.packet.specs.declared.ReadAnswer.the-variants.{Accepted, Refused}
-use Rattle.refusals.specs.Refusals.{numberOf}
+use Rattle.refusals.specs.Refusals.{numberIn, readTold}
 use Rattle.packet.specs.Reader.{Reads}
+use Rattle.terms.specs.Terms.{usual}
 use Rattle.report.specs.Line.{ok, refused, line, lineOf}
-use Rattle.report.specs.Report.{Reports}
+use Rattle.report.specs.Steps.Put.{PutsLine}
 
 -- another row that is the same
 pub front-same : {row row′ out out′ : List ℕ} {r : ℕ} → Fronted row out out′ r → row ≡ row′ → Fronted row′ out out′ r
@@ -28,12 +30,16 @@ pub told-accepted : (reading : Reading) (format sync mended long count : ℕ) �
     → line ok (format ∷ sync ∷ mended ∷ long ∷ count ∷ []) ≡ lineOf (Accepted reading)
 told-accepted reading format sync mended long count f s m l c = ap (line ok) (fore f (fore s (fore m (fore l (fore c refl)))))
 
-pub told-refused : (refusal : Refusal) (number : ℕ) → number ≡ numberOf refusal → line refused (number ∷ []) ≡ lineOf (Refused refusal)
+pub told-refused : (refusal : ReadRefusal) (number : ℕ) → number ≡ numberIn (readTold refusal) → line refused (number ∷ []) ≡ lineOf (Refused refusal)
 told-refused refusal number e = ap (λ (n : ℕ). line refused (n ∷ [])) e
 
 -- ---- a packet's line
 
-pub reported : {packet text text′ out out′ : List ℕ} {r : ℕ} (answer : ReadAnswer) (long : ℕ) → Reads packet text answer text′
-    → Fronted (lineOf answer) out out′ long → r ≡ long → Reports packet text text′ out out′ r
-reported {packet} {text} {text′} {out} {out′} {r} answer long reads fronted e =
-    record { answer = answer; reads = reads; line = subst (λ (n : ℕ). Fronted (lineOf answer) out out′ n) (sym e) fronted }
+pub reported : {packet out out′ : List ℕ} {r : ℕ} (entry exit : List ℕ) (answer : ReadAnswer) (long : ℕ) → Reads usual packet entry answer exit
+    → Fronted (lineOf answer) out out′ long → length entry ≡ 65536 → r ≡ long → PutsLine packet out out′ r
+reported {packet} {out} {out′} {r} entry exit answer long reads fronted lent e =
+    record {
+      line = lineOf answer;
+      prints = record { entry = entry; exit = exit; answer = answer; lent = lent; reads = reads; is = refl };
+      front = subst (λ (n : ℕ). Fronted (lineOf answer) out out′ n) (sym e) fronted;
+    }

@@ -1,2 +1,3 @@
 pub mod Line
 pub mod Report
+pub mod Steps

@@ -1,18 +1,15 @@
--- The line of an answer (01, "Both sides of each edge"): `ok`, format, sync, bits mended, data length and text length, in decimal and parted by
--- single spaces; or `refused` and the refusal number, without the number that comes with it.
+-- The line of an answer (RULES, Reading program): `ok`, the format, the sync bit, the bits mended, the data's length and the text's, in decimal and parted
+-- by single spaces; or `refused` and the refusal's number, without the number that comes with it.
 -- Assumes nothing.
 use mathlib.Core.Bool.{cond}
 use mathlib.Core.List.{List, [], _∷_, _++_}
-use mathlib.Core.Path.{_≡_}
 use Prim.Native.Nat.{ℕ, zero, suc, _+_, _/_, _%_}
 use lib.Dec.{ltb}
-use lib.ListN.{length}
 use Rattle.header.specs.Fields.{oneIf}
 use Rattle.header.specs.Formats.{formatNumber}
-use Rattle.codes.specs.Steps.Laid.{laid}
 use Rattle.packet.specs.declared.ReadAnswer.{ReadAnswer}
 use Rattle.packet.specs.declared.ReadAnswer.the-variants.{Accepted, Refused}
-use Rattle.refusals.specs.Refusals as refusals
+use Rattle.refusals.specs.Refusals.{numberIn, readTold}
 
 -- the ASCII code of a digit
 abbrev pub digit : ℕ → ℕ
@@ -52,13 +49,4 @@ lineOf (Accepted reading) =
     ∷ reading .«data_length»
     ∷ reading .«text_length»
     ∷ [])
-lineOf (Refused refusal) = line refused (refusals.numberOf refusal ∷ [])
-
--- room enough for every line
-abbrev pub room : ℕ
-room = 128
-
--- the row stands in the buffer from place n on, up to place r, and nothing else changed
-pub record PutsRow (row entry exit : List ℕ) (n r : ℕ) : Type 0 where
-  pub place : r ≡ n + length row
-  pub whole : exit ≡ laid entry n row
+lineOf (Refused refusal) = line refused (numberIn (readTold refusal) ∷ [])

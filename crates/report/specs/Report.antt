@@ -1,13 +1,19 @@
--- What the reading program prints of a packet: the line of an answer that the reader may give.
+-- What the reading program prints of a packet (RULES, Reading program): the line of the reader's answer for a text buffer of 65,536 bytes, whatever these
+-- bytes are.
 -- Assumes nothing.
+use mathlib.Core.Path.{_≡_}
 use mathlib.Core.List.{List}
 use Prim.Native.Nat.{ℕ}
+use lib.ListN.{length}
 use Rattle.packet.specs.declared.ReadAnswer.{ReadAnswer}
 use Rattle.packet.specs.Reader.{Reads}
-use Rattle.codes.specs.Steps.Laid.{Fronted}
+use Rattle.terms.specs.Terms.{usual}
 use Rattle.report.specs.Line.{lineOf}
 
-pub record Reports (packet text text′ out out′ : List ℕ) (r : ℕ) : Type 0 where
+pub record Prints (packet line : List ℕ) : Type 0 where
+  pub entry : List ℕ
+  pub exit : List ℕ
   pub answer : ReadAnswer
-  pub reads : Reads packet text answer text′
-  pub line : Fronted (lineOf answer) out out′ r
+  pub lent : length entry ≡ 65536
+  pub reads : Reads usual packet entry answer exit
+  pub is : line ≡ lineOf answer

@@ -3,9 +3,12 @@ use header::Header;
 use packet::ReadAnswer;
 ghost use Prim.Native.Nat.{_+_, _≤_};
 ghost use lib.ListN.{length};
-ghost use Rattle.report.specs.Line.{decimal, spaced, line as lineWith, lineOf, room, PutsRow};
+ghost use Rattle.report.specs.Line.{decimal, spaced, line as lineWith, lineOf};
 ghost use Rattle.codes.specs.Steps.Laid.{Fronted};
-ghost use Rattle.report.specs.Report.{Reports};
+ghost use Rattle.report.specs.Steps.Put.{room, PutsRow, PutsLine};
+
+// The room for the text (RULES, Reading program).
+const TEXT: usize = 65536;
 
 // A number in decimal, from place `at` on; the place behind it.
 fn put_decimal(n: usize, out: &mut [u8], at: usize) -> usize
@@ -68,10 +71,11 @@ pub fn line(answer: ReadAnswer, out: &mut [u8]) -> usize
     }
 }
 
-// Reads the packet at the front of a slice into a text buffer, and puts the line of the answer at the front of `out`.
-pub fn report(packet: &[u8], text: &mut [u8], out: &mut [u8]) -> usize
+// The line of the packet at the front of a slice, at the front of `out`.
+pub fn packet_line(packet: &[u8], out: &mut [u8]) -> usize
     requires { ⌜ room ≤ length (now out) ⌝ }
-    ensures { λ r. ⌜ Reports (now (packet .entry)) (now (text .entry)) (now (text .exit)) (now (out .entry)) (now (out .exit)) r ⌝ }
+    ensures { λ r. ⌜ PutsLine (now (packet .entry)) (now (out .entry)) (now (out .exit)) r ⌝ }
 {
-    line(packet::read(packet, text), out)
+    let mut text = [0u8; TEXT];
+    line(packet::read(packet, &mut text), out)
 }

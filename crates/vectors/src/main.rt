@@ -1,8 +1,12 @@
 // Runs packets through the reader and texts through the writer. Standard input is a row of cases: `r` or `w`, the writer's sync bit; the writer's format,
-// the length of the lent buffer and that of the packet or text (three bytes each, high byte first); and the packet or text. For each it prints two lines:
-// the answer's line; and the number that comes with a refusal, or the bytes used, then the lent buffer's Adler-32, and its first 512 bytes.
+// the length of the lent buffer and that of the packet or text (three bytes each, high byte first); and the packet or text. For each packet it prints what
+// is found out without a buffer: `readable` and the six numbers of the answer, or `refused` with the refusal's number and the one that comes with it. Then
+// for each packet or text two lines: the answer's line; and the number that comes with a refusal, or the bytes used, then the lent buffer's Adler-32, and
+// its first 512 bytes.
+use header::Header;
 use libc::STDIN_FILENO;
 use libc::STDOUT_FILENO;
+use packet::ExamineAnswer;
 use packet::ReadAnswer;
 use packet::WriteAnswer;
 ghost use mathlib.Core.Path.{_≡_};
@@ -57,6 +61,39 @@ fn print_buffer(with: usize, buffer: &[u8]) {
     io::write_all(STDOUT_FILENO, b"\n");
 }
 
+// A word and numbers, each number after a single space.
+fn print_line(word: &[u8], numbers: &[usize]) {
+    io::write_all(STDOUT_FILENO, word);
+    let mut i: usize = 0;
+    while i < numbers.len() {
+        io::write_all(STDOUT_FILENO, b" ");
+        io::print_decimal(STDOUT_FILENO, numbers[i] as u64);
+        i += 1;
+    }
+    io::write_all(STDOUT_FILENO, b"\n");
+}
+
+fn run_examine(packet: &[u8]) {
+    let answer = packet::examine(packet);
+    match answer {
+        ExamineAnswer::Readable(reading) => {
+            let format = reading.format;
+            let numbers = [
+                Header::number(format) as usize,
+                header::one_if(reading.sync) as usize,
+                reading.mended as usize,
+                reading.data_length,
+                reading.text_length,
+                reading.used,
+            ];
+            print_line(b"readable", &numbers);
+        }
+        ExamineAnswer::Refused(refusal) => {
+            print_line(b"refused", &[refusal.number() as usize, refusal.value()]);
+        }
+    }
+}
+
 // The bytes used, or the number that comes with the refusal.
 fn read_with(answer: ReadAnswer) -> usize {
     match answer {
@@ -73,22 +110,15 @@ fn run_reader(packet: &[u8], text: &mut [u8]) {
     print_buffer(read_with(answer), text);
 }
 
-fn print_line(word: &[u8], number: usize) {
-    io::write_all(STDOUT_FILENO, word);
-    io::write_all(STDOUT_FILENO, b" ");
-    io::print_decimal(STDOUT_FILENO, number as u64);
-    io::write_all(STDOUT_FILENO, b"\n");
-}
-
 fn run_writer(format: u32, sync: bool, text: &[u8], packet: &mut [u8]) {
     let answer = packet::write(format, sync, text, packet);
     match answer {
         WriteAnswer::Written(length) => {
-            print_line(b"written", length);
+            print_line(b"written", &[length]);
             print_buffer(length, packet);
         }
         WriteAnswer::Refused(refusal) => {
-            print_line(b"refused", refusal.number() as usize);
+            print_line(b"refused", &[refusal.number() as usize]);
             print_buffer(refusal.value(), packet);
         }
     }
@@ -98,11 +128,12 @@ fn number(high: u8, middle: u8, low: u8) -> u32 {
     (high as u32) * 65536 + (middle as u32) * 256 + (low as u32)
 }
 
-// The packet or text of a case, and the call.
+// The packet or text of a case, and the calls.
 fn run_case(kind: u8, format: u32, sync: bool, given: &mut [u8], lent: &mut [u8]) {
     io::read_full(STDIN_FILENO, given);
     fill(lent);
     if kind == b'r' {
+        run_examine(given);
         run_reader(given, lent);
     } else {
         run_writer(format, sync, given, lent);

@@ -4,7 +4,8 @@ use Prim.Native.Nat.{ℕ, _+_, _%_, _<_}
 use native.Mathlib.Omega.{arith}
 use mathlib.Core.Path.{ap}
 use lib.ListN.{length, set, length-set}
-use Rattle.report.specs.Line.{digit, decimal, PutsRow}
+use Rattle.report.specs.Line.{digit, decimal}
+use Rattle.report.specs.Steps.Put.{PutsRow}
 use Rattle.report.proofs.Decimal.{decimal-small}
 use Rattle.report.proofs.Putting.{puts-small, tenth-held, puts-large}
 use borrow.Author.Needs.{needs}
