@@ -49,39 +49,45 @@ pub enum WriteAnswer {
     Refused(WriteRefusal),
 }
 
+// The reading of a packet whose header is found, with no text yet.
+enum HeaderAnswer {
+    Found(Reading),
+    Refused(ExamineRefusal),
+}
+
 // Tests 1 to 5: the header that the packet is read as, its type and length, and bytes enough. The members of the answer are put together here, all but
 // the text's length.
-fn find_header(terms: Terms, packet: &[u8]) -> ExamineAnswer
+fn find_header(terms: Terms, packet: &[u8]) -> HeaderAnswer
     requires { ⌜ MayBeNamed terms ⌝ }
     ensures { λ r. ⌜ FindsHeader terms (now (packet .entry)) r ⌝ }
 {
     if packet.len() < 4 {
-        return ExamineAnswer::Refused(ExamineRefusal::Short);
+        return HeaderAnswer::Refused(ExamineRefusal::Short);
     }
     let received = header::word(packet[0], packet[1], packet[2], packet[3]);
     let mending = mending::mend(received, terms.mend);
     let Mending::Mended(bits, mended) = mending else {
-        return ExamineAnswer::Refused(ExamineRefusal::NoHeader);
+        return HeaderAnswer::Refused(ExamineRefusal::NoHeader);
     };
     let fields = Header::from_bits(bits);
     let which = fields.format();
     let WhichFormat::Ours(format) = which else {
-        return ExamineAnswer::Refused(ExamineRefusal::OtherType);
+        return HeaderAnswer::Refused(ExamineRefusal::OtherType);
     };
     let length = fields.length as usize;
     let sync = fields.sync;
     let most = terms.most as usize;
     let used = length + 6;
     if length == 0 {
-        return ExamineAnswer::Refused(ExamineRefusal::OtherLength); // no data
+        return HeaderAnswer::Refused(ExamineRefusal::OtherLength); // no data
     }
     if most < length {
-        return ExamineAnswer::Refused(ExamineRefusal::OtherLength); // too much
+        return HeaderAnswer::Refused(ExamineRefusal::OtherLength); // too much
     }
     if packet.len() < used {
-        return ExamineAnswer::Refused(ExamineRefusal::CutOff); // too few bytes
+        return HeaderAnswer::Refused(ExamineRefusal::CutOff); // too few bytes
     }
-    ExamineAnswer::Readable(Reading {
+    HeaderAnswer::Found(Reading {
         format,
         sync,
         mended,
@@ -91,7 +97,7 @@ fn find_header(terms: Terms, packet: &[u8]) -> ExamineAnswer
     })
 }
 
-// Tests 6 and 7, under a header that is found.
+// Tests 6 and 7, under a header that is found. The terms are those that it was found under; the contract names them.
 fn examine_data(terms: Terms, found: Reading, packet: &[u8]) -> ExamineAnswer
     requires { ⌜ MayBeNamed terms × HeaderFound terms (now packet) found ⌝ }
     ensures { λ r. ⌜ Examines terms (now (packet .entry)) r ⌝ }
@@ -120,8 +126,8 @@ fn examine_under(terms: Terms, packet: &[u8]) -> ExamineAnswer
 {
     let header = find_header(terms, packet);
     match header {
-        ExamineAnswer::Readable(found) => examine_data(terms, found, packet),
-        ExamineAnswer::Refused(refusal) => ExamineAnswer::Refused(refusal),
+        HeaderAnswer::Found(found) => examine_data(terms, found, packet),
+        HeaderAnswer::Refused(refusal) => ExamineAnswer::Refused(refusal),
     }
 }
 

@@ -6,8 +6,8 @@ use Prim.Native.Nat.{ℕ}
 use Rattle.header.specs.declared.Format.{Format}
 use Rattle.terms.specs.declared.Terms.{Terms}
 use Rattle.packet.specs.declared.Reading.{Reading}
-use Rattle.packet.specs.declared.ExamineAnswer.{ExamineAnswer}
-use Rattle.packet.specs.declared.ExamineAnswer.the-variants.{Readable, Refused}
+use Rattle.packet.specs.declared.HeaderAnswer.{HeaderAnswer}
+use Rattle.packet.specs.declared.HeaderAnswer.the-variants.{Found, Refused}
 use Rattle.packet.specs.Examine.{Framed, Refuses, readingOf}
 use Rattle.packet.specs.Packet.{received}
 
@@ -18,6 +18,6 @@ pub record HeaderFound (terms : Terms) (packet : List ℕ) (reading : Reading) :
   pub framed : Framed terms packet format header
   pub is : reading ≡ readingOf format header (received packet) []
 
-abbrev pub FindsHeader : Terms → List ℕ → ExamineAnswer → Type 0
-FindsHeader terms packet (Readable reading) = HeaderFound terms packet reading
+abbrev pub FindsHeader : Terms → List ℕ → HeaderAnswer → Type 0
+FindsHeader terms packet (Found reading) = HeaderFound terms packet reading
 FindsHeader terms packet (Refused refusal) = Refuses terms packet refusal
