@@ -27,20 +27,20 @@ use Rattle.refusals.specs.Match.{FirstMatch, byNumber, writerTurn}
 use Rattle.refusals.specs.Refusals.{Told, examineTold, readTold, writeTold}
 use Rattle.refusals.proofs.Refused.{numbered}
 use Rattle.terms.specs.declared.Terms.{Terms}
-use Rattle.packet.specs.declared.ExamineAnswer.{ExamineAnswer}
-use Rattle.packet.specs.declared.ExamineAnswer.the-variants.{Refused as NotReadable}
-use Rattle.packet.specs.declared.ReadAnswer.{ReadAnswer}
-use Rattle.packet.specs.declared.ReadAnswer.the-variants.{Refused as NotRead}
-use Rattle.packet.specs.declared.WriteAnswer.{WriteAnswer}
-use Rattle.packet.specs.declared.WriteAnswer.the-variants.{Refused as NotWritten}
-use Rattle.packet.specs.Examine.{Fault, Examines}
+use Rattle.reader.specs.declared.ExamineAnswer.{ExamineAnswer}
+use Rattle.reader.specs.declared.ExamineAnswer.the-variants.{Refused as NotReadable}
+use Rattle.reader.specs.declared.ReadAnswer.{ReadAnswer}
+use Rattle.reader.specs.declared.ReadAnswer.the-variants.{Refused as NotRead}
+use Rattle.writer.specs.declared.WriteAnswer.{WriteAnswer}
+use Rattle.writer.specs.declared.WriteAnswer.the-variants.{Refused as NotWritten}
+use Rattle.reader.specs.Examine.{Fault, Examines}
 use Rattle.packet.specs.Packet.{packetOf, headerFor}
-use Rattle.packet.specs.Reader.{ReadFault, Reads}
+use Rattle.reader.specs.Reader.{ReadFault, Reads}
 use Rattle.terms.specs.Terms.{MayBeNamed}
-use Rattle.packet.specs.Writer.{WriteFault, Writes, ourPacket}
-use Rattle.packet.proofs.ExamineOnce.{examines-one}
-use Rattle.packet.proofs.ReadOnce.{reads-one}
-use Rattle.packet.proofs.WriteOnce.{writes-one}
+use Rattle.writer.specs.Writer.{WriteFault, Writes, ourPacket}
+use Rattle.reader.proofs.ExamineOnce.{examines-one}
+use Rattle.reader.proofs.ReadOnce.{reads-one}
+use Rattle.writer.proofs.WriteOnce.{writes-one}
 use Rattle.demands.specs.Demand1.{RefusedExactly, StuckAt, Demand1, Conditions}
 
 -- where the answer is a refusal exactly when that is the first match, it is so by numbers

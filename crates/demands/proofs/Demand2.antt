@@ -20,23 +20,23 @@ use Rattle.formats.specs.Data.{Carries, AllCoded, comesBack, dataOf}
 use Rattle.formats.proofs.Formats.{carries-coded, carries-kept, carries-some, data-some, no-fewer, writer-carries}
 use Rattle.refusals.specs.declared.WriteRefusal.the-variants.{Empty}
 use Rattle.terms.specs.declared.Terms.{Terms}
-use Rattle.packet.specs.declared.Reading.{Reading}
-use Rattle.packet.specs.declared.ExamineAnswer.{ExamineAnswer}
-use Rattle.packet.specs.declared.ExamineAnswer.the-variants.{Readable}
-use Rattle.packet.specs.declared.ReadAnswer.{ReadAnswer}
-use Rattle.packet.specs.declared.ReadAnswer.the-variants.{Accepted}
-use Rattle.packet.specs.declared.WriteAnswer.{WriteAnswer}
-use Rattle.packet.specs.declared.WriteAnswer.the-variants.{Written, Refused as NotWritten}
-use Rattle.packet.specs.Examine.{Allowed, readingOf, Accepts, Examines}
+use Rattle.reader.specs.declared.Reading.{Reading}
+use Rattle.reader.specs.declared.ExamineAnswer.{ExamineAnswer}
+use Rattle.reader.specs.declared.ExamineAnswer.the-variants.{Readable}
+use Rattle.reader.specs.declared.ReadAnswer.{ReadAnswer}
+use Rattle.reader.specs.declared.ReadAnswer.the-variants.{Accepted}
+use Rattle.writer.specs.declared.WriteAnswer.{WriteAnswer}
+use Rattle.writer.specs.declared.WriteAnswer.the-variants.{Written, Refused as NotWritten}
+use Rattle.reader.specs.Examine.{Allowed, readingOf, Accepts, Examines}
 use Rattle.packet.specs.Packet.{received, dataIn, packetOf, headerFor}
-use Rattle.packet.specs.Reader.{Reads}
+use Rattle.reader.specs.Reader.{Reads}
 use Rattle.terms.specs.Terms.{MayBeNamed}
-use Rattle.packet.specs.Writer.{ourPacket, Writes}
-use Rattle.packet.proofs.ExamineOnce.{examines-one}
-use Rattle.packet.proofs.ReadOnce.{reads-one}
+use Rattle.writer.specs.Writer.{ourPacket, Writes}
+use Rattle.reader.proofs.ExamineOnce.{examines-one}
+use Rattle.reader.proofs.ReadOnce.{reads-one}
 use Rattle.packet.proofs.Sent.{header-valid}
-use Rattle.packet.proofs.WriteOnce.{writes-one}
-use Rattle.packet.proofs.WriteStages.{clear-ten}
+use Rattle.writer.proofs.WriteOnce.{writes-one}
+use Rattle.writer.proofs.WriteStages.{clear-ten}
 use Rattle.demands.specs.Demand2.{Writable, packetLength, cleanReading, StandsInFront, Demand2}
 use Rattle.demands.specs.Makers.{Made, Flipped, arriving, readingWith}
 use Rattle.demands.proofs.Demand3.{packet-header, intact}

@@ -18,14 +18,15 @@ use Rattle.formats.specs.Data.{comesBack}
 use Rattle.refusals.specs.declared.ExamineRefusal.the-variants.{Checksum}
 use Rattle.refusals.specs.declared.ReadRefusal.the-variants.{Packet}
 use Rattle.terms.specs.declared.Terms.{Terms}
-use Rattle.packet.specs.declared.ReadAnswer.{ReadAnswer}
-use Rattle.packet.specs.declared.ReadAnswer.the-variants.{Accepted, Refused}
-use Rattle.packet.specs.Examine.{readingOf, Refuses}
+use Rattle.reader.specs.declared.ReadAnswer.{ReadAnswer}
+use Rattle.reader.specs.declared.ReadAnswer.the-variants.{Accepted, Refused}
+use Rattle.reader.specs.Examine.{readingOf, Refuses}
 use Rattle.packet.specs.Packet.{received, packetOf, headerFor}
-use Rattle.packet.specs.Reader.{Reads}
+use Rattle.reader.specs.Reader.{Reads}
 use Rattle.terms.specs.Terms.{MayBeNamed}
-use Rattle.packet.proofs.ReadOnce.{reads-one, refused-packet}
-use Rattle.packet.proofs.Sent.{arrived, received-is, header-valid, sent-allowed, sent-reading, sent-refused}
+use Rattle.reader.proofs.ReadOnce.{reads-one, refused-packet}
+use Rattle.packet.proofs.Sent.{arrived, received-is, header-valid}
+use Rattle.reader.proofs.Sent.{sent-allowed, sent-reading, sent-refused}
 use Rattle.demands.specs.Demand3.{RefusedByChecksum, Demand3}
 use Rattle.demands.specs.Makers.{Made, Flipped, arriving, readingWith}
 

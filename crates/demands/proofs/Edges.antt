@@ -43,10 +43,10 @@ use Rattle.pseudo_binary.proofs.Table as pseudo-table
 use Rattle.refusals.specs.declared.ExamineRefusal.the-variants.{NoHeader, OtherType}
 use Rattle.formats.specs.Data.{Carries, Unreadable, dataOf}
 use Rattle.packet.specs.Packet.{received, headerFor}
-use Rattle.packet.specs.Examine.{Refuses}
+use Rattle.reader.specs.Examine.{Refuses}
 use Rattle.packet.proofs.Sent.{header-valid, header-typed, header-length, header-sync}
-use Rattle.packet.proofs.ExamineStages.{clear-two, clear-three}
-use Rattle.packet.proofs.ReadOnce.{refused-packet}
+use Rattle.reader.proofs.ExamineStages.{clear-two, clear-three}
+use Rattle.reader.proofs.ReadOnce.{refused-packet}
 use Rattle.demands.specs.Edges.{Edge, checks, heads, reads, hopeless, foreign, writes, carries, stops, mending, Holds, edges, Every}
 
 -- ---- that no valid header lies near a word, as one computed test

@@ -20,20 +20,20 @@ use Rattle.refusals.specs.declared.ReadRefusal.{ReadRefusal}
 use Rattle.refusals.specs.declared.ReadRefusal.the-variants.{Packet, NoRoom}
 use Rattle.refusals.proofs.Known.{examine-numbers}
 use Rattle.terms.specs.declared.Terms.{Terms}
-use Rattle.packet.specs.declared.Reading.{Reading}
-use Rattle.packet.specs.declared.ExamineAnswer.{ExamineAnswer}
-use Rattle.packet.specs.declared.ExamineAnswer.the-variants.{Readable, Refused as NotReadable}
-use Rattle.packet.specs.declared.ReadAnswer.{ReadAnswer}
-use Rattle.packet.specs.declared.ReadAnswer.the-variants.{Accepted, Refused as NotRead}
-use Rattle.packet.specs.Examine.{Fault, Refuses, Framed, Allowed, readingOf, Accepts, Examines}
+use Rattle.reader.specs.declared.Reading.{Reading}
+use Rattle.reader.specs.declared.ExamineAnswer.{ExamineAnswer}
+use Rattle.reader.specs.declared.ExamineAnswer.the-variants.{Readable, Refused as NotReadable}
+use Rattle.reader.specs.declared.ReadAnswer.{ReadAnswer}
+use Rattle.reader.specs.declared.ReadAnswer.the-variants.{Accepted, Refused as NotRead}
+use Rattle.reader.specs.Examine.{Fault, Refuses, Framed, Allowed, readingOf, Accepts, Examines}
 use Rattle.packet.specs.Packet.{received, dataIn, sumIn}
-use Rattle.packet.specs.Reader.{ReadFault, Reads}
+use Rattle.reader.specs.Reader.{ReadFault, Reads}
 use Rattle.terms.specs.Terms.{MayBeNamed}
-use Rattle.packet.proofs.ExamineOnce.{examines-one}
-use Rattle.packet.proofs.Headers.{one-header, under}
-use Rattle.packet.proofs.ReadAnswers.{no-room, read-into}
-use Rattle.packet.proofs.ReadOnce.{reads-one, refused-packet, packet-refused}
-use Rattle.packet.proofs.WriteOnce.{writes-one}
+use Rattle.reader.proofs.ExamineOnce.{examines-one}
+use Rattle.reader.proofs.Headers.{one-header, under}
+use Rattle.reader.proofs.ReadAnswers.{no-room, read-into}
+use Rattle.reader.proofs.ReadOnce.{reads-one, refused-packet, packet-refused}
+use Rattle.writer.proofs.WriteOnce.{writes-one}
 use Rattle.demands.specs.OneAnswer.{OneAnswer, Agreement, NothingAfter}
 
 module _ (terms : Terms) (named : MayBeNamed terms) where

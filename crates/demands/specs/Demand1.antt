@@ -1,6 +1,6 @@
 -- Demand 1. Every entry point takes what it is handed, at any length, and ends. Each kind of bad input has one refusal number, given under its stated
 -- condition and under no other. A refusal changes no byte of a lent buffer; an accepted call writes only the bytes that it counts.
--- The first sentence is what a check says of each function that requires nothing, as `packet::examine`, `packet::read` and `packet::write`.
+-- The first sentence is what a check says of each function that requires nothing, as `reader::examine`, `reader::read` and `writer::write`.
 -- Assumes nothing.
 use mathlib.Core.Bool.{Bool}
 use mathlib.Core.List.{List, [], _∷_}
@@ -20,16 +20,16 @@ use Rattle.refusals.specs.declared.WriteRefusal.{WriteRefusal}
 use Rattle.refusals.specs.Match.{ToldAs, byNumber, writerTurn}
 use Rattle.refusals.specs.Refusals.{Told, examineTold, readTold, writeTold}
 use Rattle.terms.specs.declared.Terms.{Terms}
-use Rattle.packet.specs.declared.Reading.{Reading}
-use Rattle.packet.specs.declared.ExamineAnswer.{ExamineAnswer}
-use Rattle.packet.specs.declared.ExamineAnswer.the-variants.{Refused as NotReadable}
-use Rattle.packet.specs.declared.ReadAnswer.{ReadAnswer}
-use Rattle.packet.specs.declared.ReadAnswer.the-variants.{Accepted, Refused as NotRead}
-use Rattle.packet.specs.declared.WriteAnswer.{WriteAnswer}
-use Rattle.packet.specs.declared.WriteAnswer.the-variants.{Written, Refused as NotWritten}
-use Rattle.packet.specs.Examine.{Fault, Examines}
-use Rattle.packet.specs.Reader.{ReadFault, Reads}
-use Rattle.packet.specs.Writer.{WriteFault, Writes}
+use Rattle.reader.specs.declared.Reading.{Reading}
+use Rattle.reader.specs.declared.ExamineAnswer.{ExamineAnswer}
+use Rattle.reader.specs.declared.ExamineAnswer.the-variants.{Refused as NotReadable}
+use Rattle.reader.specs.declared.ReadAnswer.{ReadAnswer}
+use Rattle.reader.specs.declared.ReadAnswer.the-variants.{Accepted, Refused as NotRead}
+use Rattle.writer.specs.declared.WriteAnswer.{WriteAnswer}
+use Rattle.writer.specs.declared.WriteAnswer.the-variants.{Written, Refused as NotWritten}
+use Rattle.reader.specs.Examine.{Fault, Examines}
+use Rattle.reader.specs.Reader.{ReadFault, Reads}
+use Rattle.writer.specs.Writer.{WriteFault, Writes}
 
 -- the answer is the refusal of this number and value exactly when the condition of that number holds, with that value, and none that is tested before it
 abbrev pub RefusedExactly : (Refusal : Type 0) → (Refusal → Told) → (Refusal → Type 0) → (ℕ → ℕ) → (Refusal → Type 0) → Type 0

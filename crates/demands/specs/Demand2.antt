@@ -17,17 +17,17 @@ use Rattle.distance.specs.Distance.{distance}
 use Rattle.formats.specs.Data.{AllCoded, comesBack, dataOf}
 use Rattle.refusals.specs.declared.WriteRefusal.the-variants.{Empty}
 use Rattle.terms.specs.declared.Terms.{Terms}
-use Rattle.packet.specs.declared.Reading.{Reading}
-use Rattle.packet.specs.declared.ExamineAnswer.{ExamineAnswer}
-use Rattle.packet.specs.declared.ExamineAnswer.the-variants.{Readable}
-use Rattle.packet.specs.declared.ReadAnswer.{ReadAnswer}
-use Rattle.packet.specs.declared.ReadAnswer.the-variants.{Accepted}
-use Rattle.packet.specs.declared.WriteAnswer.{WriteAnswer}
-use Rattle.packet.specs.declared.WriteAnswer.the-variants.{Written, Refused as NotWritten}
-use Rattle.packet.specs.Examine.{Allowed, readingOf, Accepts, Examines}
+use Rattle.reader.specs.declared.Reading.{Reading}
+use Rattle.reader.specs.declared.ExamineAnswer.{ExamineAnswer}
+use Rattle.reader.specs.declared.ExamineAnswer.the-variants.{Readable}
+use Rattle.reader.specs.declared.ReadAnswer.{ReadAnswer}
+use Rattle.reader.specs.declared.ReadAnswer.the-variants.{Accepted}
+use Rattle.writer.specs.declared.WriteAnswer.{WriteAnswer}
+use Rattle.writer.specs.declared.WriteAnswer.the-variants.{Written, Refused as NotWritten}
+use Rattle.reader.specs.Examine.{Allowed, readingOf, Accepts, Examines}
 use Rattle.packet.specs.Packet.{received}
-use Rattle.packet.specs.Reader.{Reads}
-use Rattle.packet.specs.Writer.{ourPacket, Writes}
+use Rattle.reader.specs.Reader.{Reads}
+use Rattle.writer.specs.Writer.{ourPacket, Writes}
 use Rattle.demands.specs.Makers.{Made, Flipped, arriving, readingWith}
 
 -- the text has codes and fits: some text, a code for each character, and no more data than may be

@@ -19,10 +19,10 @@ use Rattle.formats.specs.Data.{comesBack}
 use Rattle.refusals.specs.declared.ExamineRefusal.the-variants.{Checksum}
 use Rattle.refusals.specs.declared.ReadRefusal.the-variants.{Packet}
 use Rattle.terms.specs.declared.Terms.{Terms}
-use Rattle.packet.specs.declared.ReadAnswer.{ReadAnswer}
-use Rattle.packet.specs.declared.ReadAnswer.the-variants.{Accepted, Refused}
+use Rattle.reader.specs.declared.ReadAnswer.{ReadAnswer}
+use Rattle.reader.specs.declared.ReadAnswer.the-variants.{Accepted, Refused}
 use Rattle.packet.specs.Packet.{received}
-use Rattle.packet.specs.Reader.{Reads}
+use Rattle.reader.specs.Reader.{Reads}
 use Rattle.demands.specs.Makers.{Made, Flipped, arriving, readingWith}
 
 -- what the reader does with the packet in its slice: it refuses by checksum, and the buffer is as it was

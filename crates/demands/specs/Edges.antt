@@ -18,7 +18,7 @@ use Rattle.refusals.specs.declared.ExamineRefusal.the-variants.{NoHeader, Other
 use Rattle.refusals.specs.declared.ReadRefusal.the-variants.{Packet}
 use Rattle.terms.specs.declared.Terms.{Terms}
 use Rattle.packet.specs.Packet.{received, headerFor}
-use Rattle.packet.specs.Reader.{ReadRefuses}
+use Rattle.reader.specs.Reader.{ReadRefuses}
 use Rattle.terms.specs.Terms.{usual}
 
 pub data Edge : Type 0 where

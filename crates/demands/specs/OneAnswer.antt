@@ -12,16 +12,16 @@ use Rattle.distance.specs.Distance.{ValidWithin}
 use Rattle.refusals.specs.declared.ExamineRefusal.{ExamineRefusal}
 use Rattle.refusals.specs.declared.ReadRefusal.the-variants.{Packet, NoRoom}
 use Rattle.terms.specs.declared.Terms.{Terms}
-use Rattle.packet.specs.declared.Reading.{Reading}
-use Rattle.packet.specs.declared.ExamineAnswer.{ExamineAnswer}
-use Rattle.packet.specs.declared.ExamineAnswer.the-variants.{Readable, Refused as NotReadable}
-use Rattle.packet.specs.declared.ReadAnswer.{ReadAnswer}
-use Rattle.packet.specs.declared.ReadAnswer.the-variants.{Accepted, Refused as NotRead}
-use Rattle.packet.specs.declared.WriteAnswer.{WriteAnswer}
-use Rattle.packet.specs.Examine.{Examines}
+use Rattle.reader.specs.declared.Reading.{Reading}
+use Rattle.reader.specs.declared.ExamineAnswer.{ExamineAnswer}
+use Rattle.reader.specs.declared.ExamineAnswer.the-variants.{Readable, Refused as NotReadable}
+use Rattle.reader.specs.declared.ReadAnswer.{ReadAnswer}
+use Rattle.reader.specs.declared.ReadAnswer.the-variants.{Accepted, Refused as NotRead}
+use Rattle.writer.specs.declared.WriteAnswer.{WriteAnswer}
+use Rattle.reader.specs.Examine.{Examines}
 use Rattle.packet.specs.Packet.{received}
-use Rattle.packet.specs.Reader.{Reads}
-use Rattle.packet.specs.Writer.{Writes}
+use Rattle.reader.specs.Reader.{Reads}
+use Rattle.writer.specs.Writer.{Writes}
 
 pub record OneAnswer (terms : Terms) : Type 0 where
   pub examines-one : (packet : List ℕ) (a b : ExamineAnswer) → Examines terms packet a → Examines terms packet b → a ≡ b

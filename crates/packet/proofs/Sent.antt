@@ -1,4 +1,4 @@
--- A packet that was sent, as it is received: no more bits of its header changed than are mended, anything behind it. Its parts are found again.
+-- A packet that was sent, as it is received: its header, and its parts, found again.
 -- Assumes nothing.
 use mathlib.Core.Bool.{Bool}
 use mathlib.Core.List.{List, [], _∷_, _++_}
@@ -13,17 +13,9 @@ use Rattle.header.specs.Fields.{Fit, fieldsIn, sentFields, bytesOf}
 use Rattle.header.specs.Formats.{HasFormat, formatNumber}
 use Rattle.header.specs.Valid.{Valid, lengthIn}
 use Rattle.header.proofs.Bytes.{word-bytes}
-use Rattle.header.proofs.Made.{made-valid, made-reads-back}
 use Rattle.header.proofs.Formats.{number-lt}
-use Rattle.distance.specs.Distance.{ValidWithin, distance}
-use Rattle.checksum.specs.Checksum.{checksumBytes}
-use Rattle.formats.specs.Data.{Carries}
-use Rattle.refusals.specs.declared.ExamineRefusal.the-variants.{Checksum}
-use Rattle.terms.specs.declared.Terms.{Terms}
-use Rattle.packet.specs.Examine.{Framed, Allowed, readingOf, Refuses}
+use Rattle.header.proofs.Made.{made-valid, made-reads-back}
 use Rattle.packet.specs.Packet.{received, dataIn, sumIn, headerFor}
-use Rattle.terms.specs.Terms.{MayBeNamed}
-use Rattle.packet.proofs.ExamineStages.{clear-six}
 
 -- ---- the header of a packet of n data bytes
 
@@ -87,77 +79,3 @@ module _ (word : ℕ) (carried : List ℕ) (low high : ℕ) (after : List ℕ) w
         (let first : 4 + lengthIn header ≡ 4 + (length carried + 0) = omega arith in first)
         (let second : 5 + lengthIn header ≡ 4 + (length carried + 1) = omega arith in second)
         ∙ ap₂ (λ (x y : ℕ). x ∷ y ∷ []) (behind 0) (behind 1)
-
--- ---- what is found out about it
-
-module _ (terms : Terms) (named : MayBeNamed terms) (format : Format) (sync : Bool) (word : ℕ) (carried : List ℕ) (low high : ℕ) (after : List ℕ)
-    (some : 1 ≤ length carried) (few : length carried ≤ terms .most) (bits : word < 2 ^ 32)
-    (near : distance word (headerFor format sync (length carried)) ≤ terms .mend) where
-  abbrev header : ℕ
-  header = headerFor format sync (length carried)
-
-  abbrev packet : List ℕ
-  packet = arrived word carried low high after
-
-  small : length carried < 2 ^ 14
-  small = omega (arith, named .bytes)
-
-  header-near : ValidWithin (terms .mend) (received packet) header
-  header-near =
-      subst (λ (w : ℕ). ValidWithin (terms .mend) w header) (sym (received-is word carried low high after bits))
-      (record { valid = header-valid format sync (length carried) small; near = near })
-
-  long : lengthIn header ≡ length carried
-  long = header-length format sync (length carried) small
-
-  framed : Framed terms packet format header
-  framed =
-      record {
-        near = header-near;
-        typed = header-typed format sync (length carried) small;
-        some = omega (arith, long);
-        few = omega (arith, long);
-        whole = omega (arith, long, long-enough word carried low high after);
-      }
-
-  pub sent-allowed : low ∷ high ∷ [] ≡ checksumBytes carried → (text : List ℕ) → Carries format text carried → Allowed terms packet format header text
-  sent-allowed summed text carries =
-      record {
-        framed = framed;
-        summed = sum-is word carried low high after header long ∙ summed ∙ ap checksumBytes (sym (data-is word carried low high after header long));
-        carries = subst (Carries format text) (sym (data-is word carried low high after header long)) carries;
-      }
-
-  -- the reading of it, by what was sent
-  pub sent-reading : (text : List ℕ)
-      → readingOf format header (received packet) text
-      ≡ record {
-        format = format;
-        sync = sync;
-        mended = distance word header;
-        «data_length» = length carried;
-        «text_length» = length text;
-        used = length carried + 6;
-      }
-  sent-reading text = λ i.
-      record {
-        format = format;
-        sync = header-sync format sync (length carried) small i;
-        mended = distance (received-is word carried low high after bits i) header;
-        «data_length» = long i;
-        «text_length» = length text;
-        used = long i + 6;
-      }
-
-  -- and of one whose checksum is not that of its data
-  pub sent-refused : (low ∷ high ∷ [] ≡ checksumBytes carried → ⊥) → Refuses terms packet Checksum
-  sent-refused bad =
-      record {
-        fault = (
-          header,
-          header-near,
-          λ e.
-              bad (sym (sum-is word carried low high after header long) ∙ e ∙ ap checksumBytes (data-is word carried low high after header long)),
-        );
-        first = clear-six terms packet named header format framed;
-      }

@@ -1,5 +1,1 @@
-pub mod Examine
 pub mod Packet
-pub mod Reader
-pub mod Steps
-pub mod Writer

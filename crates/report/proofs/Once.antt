@@ -7,14 +7,14 @@ use Prim.Native.Nat.{ℕ, _≤_}
 use lib.ListN.{length, drop}
 use Rattle.codes.specs.Steps.Laid.{Fronted}
 use Rattle.codes.proofs.OneAnswer.{one-front}
-use Rattle.packet.specs.declared.ReadAnswer.{ReadAnswer}
-use Rattle.packet.specs.declared.ReadAnswer.the-variants.{Accepted, Refused}
+use Rattle.reader.specs.declared.ReadAnswer.{ReadAnswer}
+use Rattle.reader.specs.declared.ReadAnswer.the-variants.{Accepted, Refused}
 use Rattle.refusals.specs.declared.ReadRefusal.{ReadRefusal}
 use Rattle.refusals.specs.declared.ReadRefusal.the-variants.{Packet}
 use Rattle.refusals.specs.declared.ExamineRefusal.the-variants.{NoHeader}
-use Rattle.packet.specs.Reader.{ReadRefuses, Reads}
+use Rattle.reader.specs.Reader.{ReadRefuses, Reads}
 use Rattle.terms.specs.Terms.{usual}
-use Rattle.packet.proofs.ReadOnce.{reads-one}
+use Rattle.reader.proofs.ReadOnce.{reads-one}
 use Rattle.terms.proofs.Usual.{usual-named}
 use Rattle.report.specs.Line.{decimalIn, decimal, spaced, line, lineOf}
 use Rattle.report.specs.Report.{Prints}

@@ -7,12 +7,12 @@ use lib.ListN.{length}
 use Rattle.header.specs.Fields.{oneIf}
 use Rattle.header.specs.Formats.{formatNumber}
 use Rattle.codes.specs.Steps.Laid.{Fronted}
-use Rattle.packet.specs.declared.Reading.{Reading}
+use Rattle.reader.specs.declared.Reading.{Reading}
 use Rattle.refusals.specs.declared.ReadRefusal.{ReadRefusal}
-use Rattle.packet.specs.declared.ReadAnswer.{ReadAnswer}
-use Rattle.packet.specs.declared.ReadAnswer.the-variants.{Accepted, Refused}
+use Rattle.reader.specs.declared.ReadAnswer.{ReadAnswer}
+use Rattle.reader.specs.declared.ReadAnswer.the-variants.{Accepted, Refused}
 use Rattle.refusals.specs.Refusals.{numberIn, readTold}
-use Rattle.packet.specs.Reader.{Reads}
+use Rattle.reader.specs.Reader.{Reads}
 use Rattle.terms.specs.Terms.{usual}
 use Rattle.report.specs.Line.{ok, refused, line, lineOf}
 use Rattle.report.specs.Steps.Put.{PutsLine}

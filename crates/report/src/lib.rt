@@ -1,6 +1,6 @@
 // The line that the reading program prints of a packet.
 use header::Header;
-use packet::ReadAnswer;
+use reader::ReadAnswer;
 ghost use Prim.Native.Nat.{_+_, _≤_};
 ghost use lib.ListN.{length};
 ghost use Rattle.report.specs.Line.{decimal, spaced, line as lineWith, lineOf};
@@ -77,5 +77,5 @@ pub fn packet_line(packet: &[u8], out: &mut [u8]) -> usize
     ensures { λ r. ⌜ PutsLine (now (packet .entry)) (now (out .entry)) (now (out .exit)) r ⌝ }
 {
     let mut text = [0u8; TEXT];
-    line(packet::read(packet, &mut text), out)
+    line(reader::read(packet, &mut text), out)
 }

@@ -5,9 +5,9 @@ use mathlib.Core.List.{List}
 use mathlib.Core.Path.{_≡_, sym, ap, _∙_}
 use Prim.Native.Nat.{ℕ}
 use Rattle.terms.specs.Terms.{usual}
-use Rattle.packet.proofs.ReadOnce.{reads-one}
+use Rattle.reader.proofs.ReadOnce.{reads-one}
 use Rattle.terms.proofs.Usual.{usual-named}
-use Rattle.packet.proofs.WriteOnce.{writes-one}
+use Rattle.writer.proofs.WriteOnce.{writes-one}
 use Rattle.rosopyat_c.specs.Replies.{readReply, writeReply, RepliesToRead, RepliesToWrite}
 use Rattle.rosopyat_c.specs.declared.ReadReply.{ReadReply}
 use Rattle.rosopyat_c.specs.declared.WriteReply.{WriteReply}

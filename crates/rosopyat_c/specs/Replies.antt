@@ -7,14 +7,14 @@ use mathlib.Core.Path.{_≡_}
 use Prim.Native.Nat.{ℕ}
 use Rattle.header.specs.Fields.{oneIf}
 use Rattle.header.specs.Formats.{formatNumber}
-use Rattle.packet.specs.declared.ReadAnswer.{ReadAnswer}
-use Rattle.packet.specs.declared.ReadAnswer.the-variants.{Accepted, Refused}
-use Rattle.packet.specs.declared.WriteAnswer.{WriteAnswer}
-use Rattle.packet.specs.declared.WriteAnswer.the-variants.{Written, Refused as NotWritten}
+use Rattle.reader.specs.declared.ReadAnswer.{ReadAnswer}
+use Rattle.reader.specs.declared.ReadAnswer.the-variants.{Accepted, Refused}
+use Rattle.writer.specs.declared.WriteAnswer.{WriteAnswer}
+use Rattle.writer.specs.declared.WriteAnswer.the-variants.{Written, Refused as NotWritten}
 use Rattle.refusals.specs.Refusals.{numberIn, valueIn, readTold, writeTold}
-use Rattle.packet.specs.Reader.{Reads}
+use Rattle.reader.specs.Reader.{Reads}
 use Rattle.terms.specs.Terms.{usual}
-use Rattle.packet.specs.Writer.{Writes}
+use Rattle.writer.specs.Writer.{Writes}
 use Rattle.rosopyat_c.specs.declared.ReadReply.{ReadReply}
 use Rattle.rosopyat_c.specs.declared.WriteReply.{WriteReply}
 

@@ -1,7 +1,7 @@
 // The reader and the writer for C and Rust: the entry points of `packet`, their answers as plain structs.
 use header::Header;
-use packet::ReadAnswer;
-use packet::WriteAnswer;
+use reader::ReadAnswer;
+use writer::WriteAnswer;
 ghost use Rattle.rosopyat_c.specs.Replies.{RepliesToRead, RepliesToWrite};
 
 // A packet that was read (`refusal` 0), or why not: then every member but `refusal` and `number` is 0.
@@ -28,7 +28,7 @@ pub struct WriteReply {
 pub extern "C" fn rosopyat_read(packet: &[u8], text: &mut [u8]) -> ReadReply
     ensures { λ r. ⌜ RepliesToRead (now (packet .entry)) (now (text .entry)) r (now (text .exit)) ⌝ }
 {
-    let answer = packet::read(packet, text);
+    let answer = reader::read(packet, text);
     match answer {
         ReadAnswer::Accepted(reading) => {
             let format = reading.format;
@@ -65,7 +65,7 @@ pub extern "C" fn rosopyat_write(
 ) -> WriteReply
     ensures { λ r. ⌜ RepliesToWrite format sync (now (text .entry)) (now (packet .entry)) r (now (packet .exit)) ⌝ }
 {
-    let answer = packet::write(format, sync, text, packet);
+    let answer = writer::write(format, sync, text, packet);
     match answer {
         WriteAnswer::Written(length) => WriteReply {
             refusal: 0,

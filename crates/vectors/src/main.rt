@@ -6,9 +6,9 @@
 use header::Header;
 use libc::STDIN_FILENO;
 use libc::STDOUT_FILENO;
-use packet::ExamineAnswer;
-use packet::ReadAnswer;
-use packet::WriteAnswer;
+use reader::ExamineAnswer;
+use reader::ReadAnswer;
+use writer::WriteAnswer;
 ghost use mathlib.Core.Path.{_≡_};
 ghost use lib.ListN.{length};
 
@@ -74,7 +74,7 @@ fn print_line(word: &[u8], numbers: &[usize]) {
 }
 
 fn run_examine(packet: &[u8]) {
-    let answer = packet::examine(packet);
+    let answer = reader::examine(packet);
     match answer {
         ExamineAnswer::Readable(reading) => {
             let format = reading.format;
@@ -104,14 +104,14 @@ fn read_with(answer: ReadAnswer) -> usize {
 
 fn run_reader(packet: &[u8], text: &mut [u8]) {
     let mut line = [0u8; 128];
-    let answer = packet::read(packet, text);
+    let answer = reader::read(packet, text);
     let n = report::line(answer, &mut line);
     io::write_all(STDOUT_FILENO, &line[..n]);
     print_buffer(read_with(answer), text);
 }
 
 fn run_writer(format: u32, sync: bool, text: &[u8], packet: &mut [u8]) {
-    let answer = packet::write(format, sync, text, packet);
+    let answer = writer::write(format, sync, text, packet);
     match answer {
         WriteAnswer::Written(length) => {
             print_line(b"written", &[length]);

@@ -2,9 +2,9 @@
 -- Assumes nothing.
 use mathlib.Core.Path.{subst}
 use borrow.Author.Needs.{needs}
-use Rattle.packet.specs.declared.ReadAnswer.{ReadAnswer}
-use Rattle.packet.specs.declared.ReadAnswer.the-variants.{Accepted, Refused}
-use Rattle.packet.specs.Reader.{Reads}
+use Rattle.reader.specs.declared.ReadAnswer.{ReadAnswer}
+use Rattle.reader.specs.declared.ReadAnswer.the-variants.{Accepted, Refused}
+use Rattle.reader.specs.Reader.{Reads}
 use Rattle.terms.specs.Terms.{usual}
 use Rattle.rosopyat_c.proofs.rosopyat_read.Statement.{statement}
 use Rattle.rosopyat_c.proofs.rosopyat_read.Tie as tie

@@ -2,10 +2,10 @@
 -- Assumes nothing.
 use mathlib.Core.Path.{refl, subst}
 use borrow.Author.Needs.{needs}
-use Rattle.packet.specs.declared.WriteAnswer.{WriteAnswer}
-use Rattle.packet.specs.declared.WriteAnswer.the-variants.{Written, Refused}
+use Rattle.writer.specs.declared.WriteAnswer.{WriteAnswer}
+use Rattle.writer.specs.declared.WriteAnswer.the-variants.{Written, Refused}
 use Rattle.terms.specs.Terms.{usual}
-use Rattle.packet.specs.Writer.{Writes}
+use Rattle.writer.specs.Writer.{Writes}
 use Rattle.rosopyat_c.proofs.rosopyat_write.Statement.{statement}
 use Rattle.rosopyat_c.proofs.rosopyat_write.Tie as tie
 

@@ -1,0 +1,79 @@
+-- What is found out about a packet is one answer.
+-- Assumes nothing.
+use mathlib.Core.List.{List}
+use mathlib.Core.Path.{_≡_, refl, sym, ap, _∙_, subst, subst₂}
+use Prim.Native.Nat.{ℕ}
+use native.Mathlib.Omega.{arith}
+use Rattle.header.specs.declared.Format.{Format}
+use Rattle.header.specs.Fields.{fieldsIn}
+use Rattle.header.specs.Formats.{HasFormat}
+use Rattle.header.proofs.Formats.{one-format}
+use Rattle.formats.specs.Data.{Carries, Unreadable}
+use Rattle.formats.proofs.Formats.{carries-one, unreadable-one}
+use Rattle.refusals.specs.declared.ExamineRefusal.{ExamineRefusal}
+use Rattle.refusals.specs.declared.ExamineRefusal.the-variants.{Short, NoHeader, OtherType, OtherLength, CutOff, Checksum, Malformed}
+use Rattle.refusals.specs.Match.{byNumber}
+use Rattle.refusals.specs.Refusals.{numberIn, valueIn, examineTold}
+use Rattle.refusals.proofs.Known.{examineFrom, examineKnown, examine-numbers}
+use Rattle.refusals.proofs.Refused.{match-one}
+use Rattle.terms.specs.declared.Terms.{Terms}
+use Rattle.reader.specs.declared.Reading.{Reading}
+use Rattle.reader.specs.declared.ExamineAnswer.{ExamineAnswer}
+use Rattle.reader.specs.declared.ExamineAnswer.the-variants.{Readable, Refused}
+use Rattle.reader.specs.Examine.{Fault, Refuses, readingOf, Accepts, Examines}
+use Rattle.packet.specs.Packet.{received, dataIn}
+use Rattle.terms.specs.Terms.{MayBeNamed}
+use Rattle.reader.proofs.ExamineStages.{clear-eight}
+use Rattle.reader.proofs.Headers.{one-header, under}
+
+module _ (terms : Terms) (named : MayBeNamed terms) (packet : List ℕ) where
+  places : (i j : ℕ) → Fault terms packet (Malformed i) → Fault terms packet (Malformed j) → i ≡ j
+  places i j (header, near, (format, typed, stuck)) g =
+      let other = under terms named packet (λ (h : ℕ). (k : Format) × HasFormat (fieldsIn h) k × Unreadable k (dataIn h packet) j) header near g in
+      unreadable-one format i j (dataIn header packet) stuck
+      (subst (λ (k : Format). Unreadable k (dataIn header packet) j) (one-format (other .1) typed) (other .2))
+
+  -- a refusal of one number has one value: 7 the bit, the others none
+  one-value : (r : ExamineRefusal) (v : ℕ) → Fault terms packet r → Fault terms packet (examineFrom (numberIn (examineTold r)) v)
+      → valueIn (examineTold r) ≡ valueIn (examineTold (examineFrom (numberIn (examineTold r)) v))
+  unfolding examineFrom
+  one-value Short v f g = refl
+  one-value NoHeader v f g = refl
+  one-value OtherType v f g = refl
+  one-value OtherLength v f g = refl
+  one-value CutOff v f g = refl
+  one-value Checksum v f g = refl
+  one-value (Malformed i) v f g = places i v f g
+
+  pub refuses-one : (r s : ExamineRefusal) → Refuses terms packet r → Refuses terms packet s → r ≡ s
+  refuses-one = match-one examineKnown (Fault terms packet) byNumber (λ r s e. e) one-value
+
+  -- what is accepted meets no refusal's condition
+  pub accepts-no-fault : (reading : Reading) (text : List ℕ) → Accepts terms packet reading text → (r : ExamineRefusal) → Fault terms packet r → ⊥
+  accepts-no-fault reading text a r f =
+      clear-eight terms packet named (a .header) (a .format) (a .allowed .framed) (a .allowed .summed) text (a .allowed .carries) r
+      (omega (arith, examine-numbers r .1)) f
+
+  -- and has one text and one reading
+  module _ (a b : Reading) (t u : List ℕ) (p : Accepts terms packet a t) (q : Accepts terms packet b u) where
+    same-header : p .header ≡ q .header
+    same-header = one-header terms named packet (p .header) (q .header) (p .allowed .framed .near) (q .allowed .framed .near)
+
+    same-format : p .format ≡ q .format
+    same-format = one-format (subst (λ (h : ℕ). HasFormat (fieldsIn h) (p .format)) same-header (p .allowed .framed .typed)) (q .allowed .framed .typed)
+
+    pub accepts-one-text : t ≡ u
+    accepts-one-text =
+        carries-one (q .format) t u (dataIn (q .header) packet)
+        (subst₂ (λ (k : Format) (h : ℕ). Carries k t (dataIn h packet)) same-format same-header (p .allowed .carries)) (q .allowed .carries)
+
+    pub accepts-one-reading : a ≡ b
+    accepts-one-reading =
+        p .is ∙ (λ i. readingOf (same-format i) (same-header i) (received packet) (accepts-one-text i)) ∙ sym (q .is)
+
+  -- one answer
+  pub examines-one : (a b : ExamineAnswer) → Examines terms packet a → Examines terms packet b → a ≡ b
+  examines-one (Readable a) (Readable b) (t, p) (u, q) = ap {B = ExamineAnswer} Readable (accepts-one-reading a b t u p q)
+  examines-one (Readable a) (Refused s) (t, p) q = absurd (accepts-no-fault a t p s (q .fault))
+  examines-one (Refused r) (Readable b) p (u, q) = absurd (accepts-no-fault b u q r (p .fault))
+  examines-one (Refused r) (Refused s) p q = ap {B = ExamineAnswer} Refused (refuses-one r s p q)

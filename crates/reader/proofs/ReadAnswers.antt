@@ -1,0 +1,92 @@
+-- What the reader answers of a packet that can be read, by the room for its text.
+-- Assumes nothing.
+use mathlib.Core.List.{List, _++_}
+use mathlib.Core.Path.{_≡_, refl, sym, ap, ap₂, subst₂, _∙_}
+use Prim.Native.Nat.{ℕ, _+_, _-_, _^_, _≤_, _<_}
+use native.Mathlib.Omega.{arith}
+use lib.ListN.{length, take, drop}
+use Rattle.header.specs.declared.Format.{Format}
+use Rattle.header.specs.Valid.{lengthIn}
+use Rattle.codes.specs.Steps.Measure.{countable}
+use Rattle.formats.specs.Data.{Carries}
+use Rattle.formats.specs.Steps.Text.{HasRoom, PutsText}
+use Rattle.formats.proofs.Formats.{carries-one}
+use Rattle.refusals.specs.declared.ReadRefusal.{ReadRefusal}
+use Rattle.refusals.specs.declared.ReadRefusal.the-variants.{Packet, NoRoom}
+use Rattle.refusals.specs.Refusals.{numberIn, readTold}
+use Rattle.terms.specs.declared.Terms.{Terms}
+use Rattle.reader.specs.declared.Reading.{Reading}
+use Rattle.reader.specs.declared.ReadAnswer.the-variants.{Accepted, Refused}
+use Rattle.reader.specs.Examine.{Accepts}
+use Rattle.packet.specs.Packet.{dataIn}
+use Rattle.reader.specs.Reader.{ReadFault, Reads}
+use Rattle.terms.specs.Terms.{MayBeNamed}
+use Rattle.reader.proofs.ExamineAnswers.{part-of, data-few}
+use Rattle.reader.proofs.ExamineOnce.{accepts-no-fault}
+
+module _ (terms : Terms) (packet : List ℕ) where
+  -- the text's length, as the reading has it
+  pub long : (reading : Reading) (text : List ℕ) → Accepts terms packet reading text → reading .«text_length» ≡ length text
+  long reading text a = ap (λ (r : Reading). r .«text_length») (a .is)
+
+  module _ (named : MayBeNamed terms) where
+    before : (reading : Reading) (text : List ℕ) → Accepts terms packet reading text → (room : ℕ) (other : ReadRefusal) → numberIn (readTold other) < 8
+        → ReadFault terms packet room other → ⊥
+    before reading text a room (Packet r) lt f = accepts-no-fault terms named packet reading text a r f
+    before reading text a room (NoRoom n) lt f = omega arith
+
+    -- there is no room for it
+    pub no-room : (entry : List ℕ) (reading : Reading) (text : List ℕ) → Accepts terms packet reading text → (needed : ℕ) → needed ≡ reading .«text_length»
+        → length entry < needed → Reads terms packet entry (Refused (NoRoom needed)) entry
+    no-room entry reading text a needed e short = (
+      record {
+        fault = (a .header, a .allowed .framed .near, (a .format, a .allowed .framed .typed, (text, a .allowed .carries, sym (e ∙ long reading text a), short)));
+        first = before reading text a (length entry);
+      },
+      refl,
+    )
+
+  -- there is
+  pub read-into : (entry : List ℕ) (reading : Reading) (text : List ℕ) → Accepts terms packet reading text → reading .«text_length» ≤ length entry
+      → Reads terms packet entry (Accepted reading) (text ++ drop (length text) entry)
+  read-into entry reading text a held = (text, a, omega (arith, long reading text a), refl)
+
+  -- ---- the data, as the code takes it
+
+  module _ (named : MayBeNamed terms) (reading : Reading) (text : List ℕ) (a : Accepts terms packet reading text) where
+    data-long : reading .«data_length» ≡ lengthIn (a .header)
+    data-long = ap (λ (r : Reading). r .«data_length») (a .is)
+
+    pub whole : reading .«data_length» + 6 ≤ length packet
+    whole = omega (arith, data-long, a .allowed .framed .whole)
+
+    pub short : reading .«data_length» < 2 ^ 14
+    short = omega (arith, data-long, a .allowed .framed .few, named .bytes)
+
+    abbrev part : List ℕ
+    part = take (reading .«data_length» + 4 - 4) (drop 4 packet)
+
+    same-part : part ≡ dataIn (a .header) packet
+    same-part = part-of packet (a .header) (reading .«data_length») data-long
+
+    carried : Carries (reading .format) text part
+    carried =
+        subst₂ (λ (k : Format) (l : List ℕ). Carries k text l) (ap (λ (r : Reading). r .format) (sym (a .is))) (sym same-part) (a .allowed .carries)
+
+    module _ (entry : List ℕ) (held : reading .«text_length» ≤ length entry) where
+      pub room : (length part < countable) × HasRoom (reading .format) part (length entry)
+      room = (
+        omega (arith, ap length same-part, data-few packet (a .header) (terms .most) (a .allowed .framed .few), named .bytes),
+        record { text = text; carries = carried; fits = omega (arith, long reading text a) },
+      )
+
+      -- what was put into the buffer is the text
+      pub put-in : (exit : List ℕ) (r : ℕ) → PutsText (reading .format) part entry exit r → Reads terms packet entry (Accepted reading) exit
+      put-in exit r p =
+          let same = carries-one (reading .format) (p .text) text part (p .carries) carried in (
+            text,
+            a,
+            omega (arith, long reading text a),
+            p .front .whole
+                ∙ ap₂ (λ (l : List ℕ) (n : ℕ). l ++ drop n entry) same (p .front .size ∙ ap length same),
+          )

@@ -1,0 +1,3 @@
+pub mod Examine
+pub mod Reader
+pub mod Steps

@@ -1,0 +1,23 @@
+-- Tests 1 to 5, as a function answers them.
+-- Assumes nothing.
+use mathlib.Core.List.{List, []}
+use mathlib.Core.Path.{_≡_}
+use Prim.Native.Nat.{ℕ}
+use Rattle.header.specs.declared.Format.{Format}
+use Rattle.terms.specs.declared.Terms.{Terms}
+use Rattle.reader.specs.declared.Reading.{Reading}
+use Rattle.reader.specs.declared.HeaderAnswer.{HeaderAnswer}
+use Rattle.reader.specs.declared.HeaderAnswer.the-variants.{Found, Refused}
+use Rattle.reader.specs.Examine.{Framed, Refuses, readingOf}
+use Rattle.packet.specs.Packet.{received}
+
+-- they are passed: the header that the packet is read as, and its reading, with no text yet
+pub record HeaderFound (terms : Terms) (packet : List ℕ) (reading : Reading) : Type 0 where
+  pub format : Format
+  pub header : ℕ
+  pub framed : Framed terms packet format header
+  pub is : reading ≡ readingOf format header (received packet) []
+
+abbrev pub FindsHeader : Terms → List ℕ → HeaderAnswer → Type 0
+FindsHeader terms packet (Found reading) = HeaderFound terms packet reading
+FindsHeader terms packet (Refused refusal) = Refuses terms packet refusal

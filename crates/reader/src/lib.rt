@@ -1,0 +1,157 @@
+// What is found out about a packet, and the reader: the entry points `examine` and `read`.
+use codes::Outcome;
+use header::Format;
+use header::Header;
+use header::WhichFormat;
+use mending::Mending;
+use refusals::ExamineRefusal;
+use refusals::ReadRefusal;
+use terms::Terms;
+ghost use Rattle.terms.specs.Terms.{MayBeNamed, usual};
+ghost use Rattle.reader.specs.declared.ExamineAnswer.the-variants.{Readable};
+ghost use Rattle.reader.specs.Examine.{Examines};
+ghost use Rattle.reader.specs.Reader.{Reads};
+ghost use Rattle.reader.specs.Steps.Reading.{HeaderFound, FindsHeader};
+
+// An accepted packet: its format and sync bit, the number of mended header bits, the lengths of data and text, and the bytes used.
+pub struct Reading {
+    pub format: Format,
+    pub sync: bool,
+    pub mended: u32,
+    pub data_length: usize,
+    pub text_length: usize,
+    pub used: usize,
+}
+
+pub enum ExamineAnswer {
+    Readable(Reading),
+    Refused(ExamineRefusal),
+}
+
+pub enum ReadAnswer {
+    Accepted(Reading),
+    Refused(ReadRefusal),
+}
+
+// The reading of a packet whose header is found, with no text yet.
+enum HeaderAnswer {
+    Found(Reading),
+    Refused(ExamineRefusal),
+}
+
+// Tests 1 to 5: the header that the packet is read as, its type and length, and bytes enough. The members of the answer are put together here, all but
+// the text's length.
+fn find_header(terms: Terms, packet: &[u8]) -> HeaderAnswer
+    requires { ⌜ MayBeNamed terms ⌝ }
+    ensures { λ r. ⌜ FindsHeader terms (now (packet .entry)) r ⌝ }
+{
+    if packet.len() < 4 {
+        return HeaderAnswer::Refused(ExamineRefusal::Short);
+    }
+    let received = header::word(packet[0], packet[1], packet[2], packet[3]);
+    let mending = mending::mend(received, terms.mend);
+    let Mending::Mended(bits, mended) = mending else {
+        return HeaderAnswer::Refused(ExamineRefusal::NoHeader);
+    };
+    let fields = Header::from_bits(bits);
+    let which = fields.format();
+    let WhichFormat::Ours(format) = which else {
+        return HeaderAnswer::Refused(ExamineRefusal::OtherType);
+    };
+    let length = fields.length as usize;
+    let sync = fields.sync;
+    let most = terms.most as usize;
+    let used = length + 6;
+    if length == 0 {
+        return HeaderAnswer::Refused(ExamineRefusal::OtherLength); // no data
+    }
+    if most < length {
+        return HeaderAnswer::Refused(ExamineRefusal::OtherLength); // too much
+    }
+    if packet.len() < used {
+        return HeaderAnswer::Refused(ExamineRefusal::CutOff); // too few bytes
+    }
+    HeaderAnswer::Found(Reading {
+        format,
+        sync,
+        mended,
+        data_length: length,
+        text_length: 0,
+        used,
+    })
+}
+
+// Tests 6 and 7, under a header that is found. The terms are those that it was found under; the contract names them.
+fn examine_data(terms: Terms, found: Reading, packet: &[u8]) -> ExamineAnswer
+    requires { ⌜ MayBeNamed terms × HeaderFound terms (now packet) found ⌝ }
+    ensures { λ r. ⌜ Examines terms (now (packet .entry)) r ⌝ }
+{
+    let format = found.format;
+    let end = found.data_length + 4;
+    if !checksum::agrees(&packet[4..end], packet[end], packet[end + 1]) {
+        return ExamineAnswer::Refused(ExamineRefusal::Checksum);
+    }
+    let outcome = formats::take_apart(format, &packet[4..end]);
+    match outcome {
+        Outcome::Text(n) => {
+            let mut reading = found;
+            reading.text_length = n;
+            ExamineAnswer::Readable(reading)
+        }
+        Outcome::Malformed(bit) => ExamineAnswer::Refused(ExamineRefusal::Malformed(bit)),
+        Outcome::TooLong => ExamineAnswer::Refused(ExamineRefusal::OtherLength), // never: a packet's data is short
+    }
+}
+
+// What is found out about the packet at the front of a slice, under terms.
+fn examine_under(terms: Terms, packet: &[u8]) -> ExamineAnswer
+    requires { ⌜ MayBeNamed terms ⌝ }
+    ensures { λ r. ⌜ Examines terms (now (packet .entry)) r ⌝ }
+{
+    let header = find_header(terms, packet);
+    match header {
+        HeaderAnswer::Found(found) => examine_data(terms, found, packet),
+        HeaderAnswer::Refused(refusal) => ExamineAnswer::Refused(refusal),
+    }
+}
+
+// Test 8, and the text of a packet that can be read in the buffer where it is passed.
+fn read_text(terms: Terms, reading: Reading, packet: &[u8], text: &mut [u8]) -> ReadAnswer
+    requires { ⌜ MayBeNamed terms × Examines terms (now packet) (Readable reading) ⌝ }
+    ensures { λ r. ⌜ Reads terms (now (packet .entry)) (now (text .entry)) r (now (text .exit)) ⌝ }
+{
+    let format = reading.format;
+    let needed = reading.text_length;
+    let end = reading.data_length + 4;
+    if text.len() < needed {
+        return ReadAnswer::Refused(ReadRefusal::NoRoom(needed));
+    }
+    formats::put_text(format, &packet[4..end], text);
+    ReadAnswer::Accepted(reading)
+}
+
+// The packet at the front of a slice read into a text buffer, under terms.
+fn read_under(terms: Terms, packet: &[u8], text: &mut [u8]) -> ReadAnswer
+    requires { ⌜ MayBeNamed terms ⌝ }
+    ensures { λ r. ⌜ Reads terms (now (packet .entry)) (now (text .entry)) r (now (text .exit)) ⌝ }
+{
+    let examined = examine_under(terms, packet);
+    match examined {
+        ExamineAnswer::Readable(reading) => read_text(terms, reading, packet, text),
+        ExamineAnswer::Refused(refusal) => ReadAnswer::Refused(ReadRefusal::Packet(refusal)),
+    }
+}
+
+// Finds out about the packet at the front of a slice all but its text. Bytes after the packet's checksum are not looked at.
+pub fn examine(packet: &[u8]) -> ExamineAnswer
+    ensures { λ r. ⌜ Examines usual (now (packet .entry)) r ⌝ }
+{
+    examine_under(Terms::usual(), packet)
+}
+
+// Reads the packet at the front of a slice into a text buffer.
+pub fn read(packet: &[u8], text: &mut [u8]) -> ReadAnswer
+    ensures { λ r. ⌜ Reads usual (now (packet .entry)) (now (text .entry)) r (now (text .exit)) ⌝ }
+{
+    read_under(Terms::usual(), packet, text)
+}

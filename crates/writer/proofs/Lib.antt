@@ -1,0 +1,4 @@
+pub mod InPlace
+pub mod WriteAnswers
+pub mod WriteOnce
+pub mod WriteStages

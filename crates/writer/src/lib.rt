@@ -1,0 +1,99 @@
+// The writer: the entry point `write`.
+use codes::Stored;
+use header::Format;
+use header::Header;
+use header::WhichFormat;
+use refusals::WriteRefusal;
+use terms::Terms;
+ghost use mathlib.Core.List.{_++_};
+ghost use mathlib.Core.Path.{_≡_};
+ghost use Prim.Native.Nat.{_+_, _^_, _≤_, _<_};
+ghost use lib.ListN.{length, take, drop};
+ghost use Rattle.header.specs.Fields.{bytesOf};
+ghost use Rattle.checksum.specs.Checksum.{checksumBytes};
+ghost use Rattle.packet.specs.Packet.{packetOf, headerFor};
+ghost use Rattle.terms.specs.Terms.{MayBeNamed, usual};
+ghost use Rattle.writer.specs.Steps.Writing.{DataInPlace};
+ghost use Rattle.writer.specs.Writer.{Writes};
+
+pub enum WriteAnswer {
+    Written(usize),
+    Refused(WriteRefusal),
+}
+
+// Tests 9, 11 and 8; the data of the text in its place where they are passed. What is lent leaves four bytes before it and two behind.
+fn put_data(most: u16, format: Format, text: &[u8], packet: &mut [u8]) -> Stored
+    requires { ⌜ 0 < length (now text) ⌝ }
+    ensures { λ r. ⌜ DataInPlace most format (now (text .entry)) (now (packet .entry)) r (now (packet .exit)) ⌝ }
+{
+    if packet.len() < 6 {
+        return formats::write(format, text, most, &mut packet[..0]);
+    }
+    let end = packet.len() - 2;
+    formats::write(format, text, most, &mut packet[4..end])
+}
+
+// The four bytes of a header, at the front of the packet.
+fn put_header(header: u32, packet: &mut [u8])
+    requires { ⌜ 4 ≤ length (now packet) ⌝ }
+    ensures { λ r. ⌜ now (packet .exit) ≡ bytesOf header ++ drop 4 (now (packet .entry)) ⌝ }
+{
+    packet[0] = (header / 0x100_0000 % 256) as u8;
+    packet[1] = (header / 0x1_0000 % 256) as u8;
+    packet[2] = (header / 0x100 % 256) as u8;
+    packet[3] = (header % 256) as u8;
+}
+
+// The two checksum bytes of the n data bytes, behind them.
+fn put_sum(n: usize, packet: &mut [u8])
+    requires { ⌜ n + 6 ≤ length (now packet) ⌝ }
+    ensures { λ r. ⌜ now (packet .exit) ≡ take (n + 4) (now (packet .entry)) ++ (checksumBytes (take n (drop 4 (now (packet .entry)))) ++ drop (n + 6) (now (packet .entry))) ⌝ }
+{
+    let end = n + 4;
+    let sum = checksum::checksum(&packet[4..end]);
+    packet[end] = checksum::low_byte(sum);
+    packet[end + 1] = checksum::high_byte(sum);
+}
+
+// The checksum of the n data bytes behind them, and the header in front.
+fn put_frame(format: Format, sync: bool, n: usize, packet: &mut [u8])
+    requires { ⌜ (n < 2 ^ 14) × (n + 6 ≤ length (now packet)) ⌝ }
+    ensures { λ r. ⌜ now (packet .exit) ≡ packetOf (headerFor format sync n) (take n (drop 4 (now (packet .entry)))) ++ drop (n + 6) (now (packet .entry)) ⌝ }
+{
+    put_sum(n, packet);
+    put_header(
+        Header::from_fields(Header::number(format), sync, n as u16).to_bits(),
+        packet,
+    );
+}
+
+// A text written as a packet into a packet buffer, under terms.
+fn write_under(terms: Terms, format: u32, sync: bool, text: &[u8], packet: &mut [u8]) -> WriteAnswer
+    requires { ⌜ MayBeNamed terms ⌝ }
+    ensures { λ r. ⌜ Writes terms format sync (now (text .entry)) (now (packet .entry)) r (now (packet .exit)) ⌝ }
+{
+    let which = Header::format_of(format);
+    let WhichFormat::Ours(named) = which else {
+        return WriteAnswer::Refused(WriteRefusal::OtherFormat);
+    };
+    if text.len() == 0 {
+        return WriteAnswer::Refused(WriteRefusal::Empty);
+    }
+    let stored = put_data(terms.most, named, text, packet);
+    match stored {
+        Stored::NoCode(index) => WriteAnswer::Refused(WriteRefusal::NoCode(index)),
+        Stored::TooMany => WriteAnswer::Refused(WriteRefusal::TooLong),
+        Stored::NoRoom(n) => WriteAnswer::Refused(WriteRefusal::NoRoom(n + 6)),
+        Stored::Bytes(n) => {
+            put_frame(named, sync, n, packet);
+            WriteAnswer::Written(n + 6)
+        }
+    }
+}
+
+// Writes a text as a packet into a packet buffer.
+pub fn write(format: u32, sync: bool, text: &[u8], packet: &mut [u8]) -> WriteAnswer
+    ensures { λ r. ⌜ Writes usual format sync (now (text .entry)) (now (packet .entry)) r (now (packet .exit)) ⌝ }
+{
+    write_under(Terms::usual(), format, sync, text, packet)
+}
