@@ -1,6 +1,6 @@
 // Compact Full ASCII (001, 4.5), read: how long the text of its data is, or where the data is malformed; and the text. The table is in full_ascii.
 
-use codes::Buffer;
+use bit_buffer::Buffer;
 use codes::Measured;
 use full_ascii::Character;
 use full_ascii::Special;
@@ -122,7 +122,7 @@ fn skim_each(held: u64, have: u64) -> Skimmed
     let mut left = have;
     let mut count: usize = 0;
     while 9 <= left {
-        let c = first_code(codes::window(held, left));
+        let c = first_code(bit_buffer::window(held, left));
         left -= c.width;
         count += c.count;
     }
@@ -156,7 +156,7 @@ fn measure_words(s: &[u8]) -> Place
     let mut skip: u64 = 0;
     let mut n: usize = 0;
     while 8 <= s.len() - next {
-        let w = skim(codes::eight(s, next), 64 - skip);
+        let w = skim(bit_buffer::eight(s, next), 64 - skip);
         let passed = 64 - w.left;
         next += (passed / 8) as usize;
         skip = passed % 8;
@@ -173,7 +173,7 @@ fn last_bits(s: &[u8], place: Place) -> Buffer
     let mut held: u64 = 0;
     let mut next = place.next;
     while next < s.len() {
-        held = codes::push(held, s[next] as u64, 8);
+        held = bit_buffer::push(held, s[next] as u64, 8);
         next += 1;
     }
     Buffer {
@@ -191,10 +191,10 @@ fn measure_last(held: u64, have: u64) -> Measured
     let mut left = have;
     let mut n: usize = 0;
     loop {
-        if codes::at_end(held, left) {
+        if bit_buffer::at_end(held, left) {
             return Measured::Text(n);
         }
-        let c = first_code(codes::window(held, left));
+        let c = first_code(bit_buffer::window(held, left));
         if left < c.width {
             return Measured::Malformed((have - left) as usize);
         }
@@ -254,7 +254,7 @@ fn put_each(held: u64, have: u64, out: &mut [u8], n: usize) -> Skimmed
     let mut left = have;
     let mut count: usize = 0;
     while 9 <= left {
-        let c = first_code(codes::window(held, left));
+        let c = first_code(bit_buffer::window(held, left));
         put(out, n + count, c);
         left -= c.width;
         count += c.count;
@@ -282,7 +282,7 @@ fn read_words(s: &[u8], out: &mut [u8]) -> Place
     let mut skip: u64 = 0;
     let mut n: usize = 0;
     while 8 <= s.len() - next {
-        let w = put_word(codes::eight(s, next), 64 - skip, out, n);
+        let w = put_word(bit_buffer::eight(s, next), 64 - skip, out, n);
         let passed = 64 - w.left;
         next += (passed / 8) as usize;
         skip = passed % 8;
@@ -299,10 +299,10 @@ fn read_last(held: u64, have: u64, out: &mut [u8], n: usize) -> usize
     let mut left = have;
     let mut at = n;
     loop {
-        if codes::at_end(held, left) {
+        if bit_buffer::at_end(held, left) {
             return at;
         }
-        let c = first_code(codes::window(held, left));
+        let c = first_code(bit_buffer::window(held, left));
         put(out, at, c);
         left -= c.width;
         at += c.count;

@@ -227,14 +227,14 @@ pub fn put_data(text: &[u8], out: &mut [u8]) -> usize
     let mut n: usize = 0;
     while i < text.len() {
         let next = next_codes(text, i);
-        held = codes::push(held, next.bits, next.width);
+        held = bit_buffer::push(held, next.bits, next.width);
         have += next.width;
         i += next.count;
         if 32 <= have {
-            codes::spill(out, n, held, have);
+            bit_buffer::spill(out, n, held, have);
             have -= 32;
             n += 4;
         }
     }
-    codes::flush(out, n, held, have)
+    bit_buffer::flush(out, n, held, have)
 }

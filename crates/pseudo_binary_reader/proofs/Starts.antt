@@ -16,7 +16,7 @@ use Rattle.codes.specs.Steps.BitBuffer.{ahead, Window}
 use Rattle.codes.specs.Chain.{Fill}
 use Rattle.codes.specs.Pack.{low}
 use Rattle.codes.specs.Steps.EightBytes.{eightAt}
-use Rattle.codes.specs.declared.Buffer.{Buffer}
+use Rattle.bit_buffer.specs.declared.Buffer.{Buffer}
 use Rattle.codes.proofs.BitBuffer.{ahead-byte, ahead-last}
 use Rattle.codes.proofs.LowBits.{length-low, low-mod, low-add}
 use Rattle.codes.proofs.BitsInBytes.{length-bits, drop-bits}

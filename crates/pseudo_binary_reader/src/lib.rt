@@ -1,6 +1,6 @@
 // Compact Pseudo Binary read: the data measured, and its text put into a buffer.
 
-use codes::Buffer;
+use bit_buffer::Buffer;
 use codes::Measured;
 ghost use mathlib.Core.Path.{_≡_};
 ghost use mathlib.Core.List.{List};
@@ -109,7 +109,7 @@ fn top_at(s: &[u8], at: usize) -> u64
     requires { ⌜ at / 8 + 8 ≤ length (now s) ⌝ }
     ensures { λ r. ⌜ Top (drop at (bits (now (s .entry)))) r ⌝ }
 {
-    codes::eight(s, at / 8) << (at % 8) as u64
+    bit_buffer::eight(s, at / 8) << (at % 8) as u64
 }
 
 // How far data was read: the bit, and how many characters it said.
@@ -159,10 +159,10 @@ pub fn measure(s: &[u8]) -> Measured
     let mut n = most.n;
     loop {
         let b = buffer_at(s, at);
-        if codes::at_end(b.held, b.have) {
+        if bit_buffer::at_end(b.held, b.have) {
             return Measured::Text(n);
         }
-        let indicator = first_indicator(codes::window(b.held, b.have));
+        let indicator = first_indicator(bit_buffer::window(b.held, b.have));
         if end - at < indicator.width {
             return Measured::Malformed(at);
         }
@@ -191,7 +191,7 @@ fn eight_characters(s: &[u8], first: usize, behind: u64) -> u64
     requires { ⌜ (first + 8 ≤ length (now s)) × (behind ≤ 16) ⌝ }
     ensures { λ r. ⌜ ((at : ℕ) → at + behind ≡ first * 8 + 16 → Eight (drop at (bits (now (s .entry)))) r) ⌝ }
 {
-    spread((codes::eight(s, first) >> behind) % 0x1_0000_0000_0000)
+    spread((bit_buffer::eight(s, first) >> behind) % 0x1_0000_0000_0000)
 }
 
 // Eight characters out of the bytes of a number, from place n on.
@@ -199,8 +199,8 @@ fn put_eight(out: &mut [u8], n: usize, word: u64)
     requires { ⌜ n + 8 ≤ length (now out) ⌝ }
     ensures { λ r. ⌜ ((bs : List ℕ) → Eight bs word → now (out .exit) ≡ laid (now (out .entry)) n (charactersIn 8 bs)) ⌝ }
 {
-    codes::spill(out, n, word, 64);
-    codes::spill(out, n + 4, word, 32);
+    bit_buffer::spill(out, n, word, 64);
+    bit_buffer::spill(out, n + 4, word, 32);
 }
 
 // Fewer than eight of them.
@@ -388,10 +388,10 @@ pub fn put_text(s: &[u8], out: &mut [u8]) -> usize
     let mut n = most.n;
     loop {
         let b = buffer_at(s, at);
-        if codes::at_end(b.held, b.have) {
+        if bit_buffer::at_end(b.held, b.have) {
             return n;
         }
-        let run = first_indicator(codes::window(b.held, b.have));
+        let run = first_indicator(bit_buffer::window(b.held, b.have));
         repeat(out, n, run.count, run.character);
         n += run.count;
         at += run.width;

@@ -95,7 +95,7 @@ fn others_at(text: &[u8], i: usize) -> u64
     requires { ⌜ i + 8 ≤ length (now text) ⌝ }
     ensures { λ r. ⌜ Alike values (take (leadingZeros 64 r / 8) (drop i (now (text .entry)))) ⌝ }
 {
-    (codes::eight(text, i) & 0xC0C0_C0C0_C0C0_C0C0) ^ 0x4040_4040_4040_4040
+    (bit_buffer::eight(text, i) & 0xC0C0_C0C0_C0C0_C0C0) ^ 0x4040_4040_4040_4040
 }
 
 // A number of values that stand in a row at place i: up to seven more may stand at the end of the text, or where `most` comes near.
@@ -261,7 +261,7 @@ fn gathered(text: &[u8], i: usize) -> u64
     requires { ⌜ i + 8 ≤ length (now text) ⌝ }
     ensures { λ r. ⌜ r ≡ fourValues (now (text .entry)) i * 4294967296 + fourValues (now (text .entry)) (i + 4) ⌝ }
 {
-    let word = codes::eight(text, i);
+    let word = bit_buffer::eight(text, i);
     let pairs = (word & 0x3f00_3f00_3f00_3f00) / 4 + (word & 0x003f_003f_003f_003f);
     (pairs & 0x0fff_0000_0fff_0000) / 16 + (pairs & 0x0000_0fff_0000_0fff)
 }
@@ -279,12 +279,12 @@ fn send(out: &mut [u8], b: Held, bits: u64, width: u64) -> Held
     ensures { λ r. ⌜ SendsBits (now (out .entry)) (now (out .exit)) b (low width bits) r ⌝ }
 {
     let n = b.n;
-    let held = codes::push(b.held, bits, width);
+    let held = bit_buffer::push(b.held, bits, width);
     let have = b.have + width;
     if have < 32 {
         return Held { n, held, have };
     }
-    codes::spill(out, n, held, have);
+    bit_buffer::spill(out, n, held, have);
     Held {
         n: n + 4,
         held,
@@ -326,5 +326,5 @@ pub fn put_data(text: &[u8], out: &mut [u8]) -> usize
             announced = next.values;
         }
     }
-    codes::flush(out, b.n, b.held, b.have)
+    bit_buffer::flush(out, b.n, b.held, b.have)
 }

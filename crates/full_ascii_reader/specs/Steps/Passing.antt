@@ -8,7 +8,7 @@ use Rattle.bits.specs.Row.{bits}
 use Rattle.codes.specs.Steps.Laid.{Readable}
 use Rattle.codes.specs.Pack.{low}
 use Rattle.codes.specs.Steps.Passed as Passed
-use Rattle.codes.specs.declared.Buffer.{Buffer}
+use Rattle.bit_buffer.specs.declared.Buffer.{Buffer}
 use Rattle.full_ascii.specs.Table.{scheme}
 use Rattle.full_ascii_reader.specs.declared.Place.{Place}
 use Rattle.full_ascii_reader.specs.declared.Skimmed.{Skimmed}

@@ -8,7 +8,7 @@ use Rattle.bits.specs.Row.{bits}
 use Rattle.codes.specs.Steps.BitBuffer.{ahead}
 use Rattle.codes.specs.Chain.{Entry, In, Begins}
 use Rattle.codes.specs.Pack.{low, value}
-use Rattle.codes.specs.declared.Buffer.{Buffer}
+use Rattle.bit_buffer.specs.declared.Buffer.{Buffer}
 use Rattle.pseudo_binary.specs.Table.{characterOf, tables}
 use Rattle.pseudo_binary_reader.specs.declared.Indicator.{Indicator}
 

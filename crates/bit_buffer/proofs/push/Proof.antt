@@ -1,9 +1,9 @@
--- `codes::push` meets its contract. Assumes nothing.
+-- `bit_buffer::push` meets its contract. Assumes nothing.
 use native.Mathlib.Omega.{arith}
 use Rattle.codes.proofs.PushedBits.{pushed}
 use borrow.Author.Needs.{needs}
-use Rattle.codes.proofs.push.Statement.{statement}
-use Rattle.codes.proofs.push.Tie as tie
+use Rattle.bit_buffer.proofs.push.Statement.{statement}
+use Rattle.bit_buffer.proofs.push.Tie as tie
 
 shl-result : tie.Need-shl-result
 shl-result c = search needs

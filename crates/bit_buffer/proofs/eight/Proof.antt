@@ -1,11 +1,11 @@
--- `codes::eight` meets its contract. Assumes nothing.
+-- `bit_buffer::eight` meets its contract. Assumes nothing.
 use Prim.Native.Nat.{_+_}
 use native.Mathlib.Omega.{arith}
 use Rattle.codes.specs.Steps.EightBytes.{fourAt, eightAt}
 use Rattle.codes.proofs.EightBytes.{four-at}
 use borrow.Author.Needs.{needs}
-use Rattle.codes.proofs.eight.Statement.{statement}
-use Rattle.codes.proofs.eight.Tie as tie
+use Rattle.bit_buffer.proofs.eight.Statement.{statement}
+use Rattle.bit_buffer.proofs.eight.Tie as tie
 
 shared-slice-read-word : tie.Need-shared-slice-read-word
 shared-slice-read-word c = search needs

@@ -1,13 +1,13 @@
--- `codes::window` meets its contract. Assumes nothing.
+-- `bit_buffer::window` meets its contract. Assumes nothing.
 use mathlib.Core.Path.{subst⁻¹}
 use Prim.Native.Nat.{ℕ, _-_}
 use native.Mathlib.Omega.{arith}
 use lib.Pow.{pow-pos, pow-mono}
 use Rattle.codes.specs.Steps.BitBuffer.{Window}
 use Rattle.codes.proofs.BitBuffer.{window-whole, window-short, one-shifted, held-shifted}
 use borrow.Author.Needs.{needs}
-use Rattle.codes.proofs.window.Statement.{statement}
-use Rattle.codes.proofs.window.Tie as tie
+use Rattle.bit_buffer.proofs.window.Statement.{statement}
+use Rattle.bit_buffer.proofs.window.Tie as tie
 
 shr-result : tie.Need-shr-result
 shr-result c = search needs

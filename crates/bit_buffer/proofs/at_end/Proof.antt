@@ -1,10 +1,10 @@
--- `codes::at_end` meets its contract. Assumes nothing.
+-- `bit_buffer::at_end` meets its contract. Assumes nothing.
 use native.Mathlib.Omega.{arith}
 use Rattle.codes.proofs.LowBits.{length-low}
 use Rattle.codes.proofs.BitBuffer.{window-fill, fill-window}
 use borrow.Author.Needs.{needs}
-use Rattle.codes.proofs.at_end.Statement.{statement}
-use Rattle.codes.proofs.at_end.Tie as tie
+use Rattle.bit_buffer.proofs.at_end.Statement.{statement}
+use Rattle.bit_buffer.proofs.at_end.Tie as tie
 
 returns : tie.Need-returns
 returns c f = omega (arith, f .few, length-low (c .before .args .have) (c .before .args .held))

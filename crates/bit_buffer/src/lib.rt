@@ -1,0 +1,107 @@
+// Bits taken out of bytes and put in, through a number that holds some of them. The definitions and laws are those of codes.
+
+ghost use mathlib.Core.Path.{_≡_};
+ghost use mathlib.Core.List.{_++_};
+ghost use Prim.Native.Nat.{ℕ, _+_, _*_, _/_, _^_, _≤_, _<_};
+ghost use lib.ListN.{length, getD};
+ghost use Rattle.bits.specs.Says.{Says};
+ghost use Rattle.codes.specs.Chain.{Fill};
+ghost use Rattle.codes.specs.Pack.{low};
+ghost use Rattle.codes.specs.Steps.BitBuffer.{Window};
+ghost use Rattle.codes.specs.Steps.EightBytes.{eightAt, spilled};
+ghost use Rattle.codes.specs.Steps.Laid.{Flushed};
+
+// The bits that are still to be read: the lowest `have` bits of `held`, then those of the bytes from `next` on.
+pub struct Buffer {
+    pub held: u64,
+    pub have: u64,
+    pub next: usize,
+}
+
+fn wide(b: u8) -> u64
+    ensures { λ r. ⌜ (r ≡ b) × (r < 256) ⌝ }
+{
+    b as u64
+}
+
+// Four bytes in a row as one number.
+fn word(a: u8, b: u8, c: u8, d: u8) -> u64
+    ensures { λ r. ⌜ (r ≡ (a * 256 + b) * 65536 + (c * 256 + d)) × (r < 4294967296) ⌝ }
+{
+    ((wide(a) * 256 + wide(b)) * 256 + wide(c)) * 256 + wide(d)
+}
+
+// Eight bytes in a row, from place `at` on, as one number.
+pub fn eight(s: &[u8], at: usize) -> u64
+    requires { ⌜ at + 8 ≤ length (now s) ⌝ }
+    ensures { λ r. ⌜ (r ≡ eightAt (now (s .entry)) at) × ((i : ℕ) → getD (now (s .entry)) i 0 < 256) ⌝ }
+{
+    let upper = word(s[at], s[at + 1], s[at + 2], s[at + 3]);
+    let lower = word(s[at + 4], s[at + 5], s[at + 6], s[at + 7]);
+    upper * 4294967296 + lower
+}
+
+// The next nine bits, with ones for those that are not there.
+pub fn window(held: u64, have: u64) -> u64
+    requires { ⌜ have ≤ 64 ⌝ }
+    ensures { λ r. ⌜ Window held have r ⌝ }
+{
+    if 9 <= have {
+        return (held >> (have - 9)) % 512;
+    }
+    let short = 9 - have;
+    (held << short) % 512 + ((1 << short) - 1)
+}
+
+// Whether the lowest `have` bits of `held` are a fill, where seven bits may be unused.
+pub fn at_end(held: u64, have: u64) -> bool
+    requires { ⌜ have ≤ 64 ⌝ }
+    ensures { λ r. ⌜ Says r (Fill 7 (low have held)) ⌝ }
+{
+    if 7 < have {
+        return false;
+    }
+    if window(held, have) == 511 {
+        return true;
+    }
+    false
+}
+
+// `width` bits put in at the lower end.
+pub fn push(held: u64, bits: u64, width: u64) -> u64
+    requires { ⌜ (width ≤ 32) × (bits < 2 ^ width) ⌝ }
+    ensures { λ r. ⌜ ((n : ℕ) → n + width ≤ 64 → low (n + width) r ≡ low n held ++ low width bits) ⌝ }
+{
+    (held << width) | bits
+}
+
+// The upper four bytes of the lowest `have` bits of `held`, from place n on.
+pub fn spill(out: &mut [u8], n: usize, held: u64, have: u64)
+    requires { ⌜ (32 ≤ have) × (have ≤ 64) × (n + 4 ≤ length (now out)) ⌝ }
+    ensures { λ r. ⌜ now (out .exit) ≡ spilled 4 (now (out .entry)) n held have ⌝ }
+{
+    let four = held >> (have - 32);
+    out[n] = (four / 0x100_0000 % 256) as u8;
+    out[n + 1] = (four / 0x1_0000 % 256) as u8;
+    out[n + 2] = (four / 0x100 % 256) as u8;
+    out[n + 3] = (four % 256) as u8;
+}
+
+// The lowest `have` bits of `held`, then ones up to the byte's end, from place `at` on; the place after them.
+pub fn flush(out: &mut [u8], at: usize, held: u64, have: u64) -> usize
+    requires { ⌜ (have ≤ 64) × (at + (have + 7) / 8 ≤ length (now out)) ⌝ }
+    ensures { λ r. ⌜ Flushed (low have held) (now (out .entry)) (now (out .exit)) at r ⌝ }
+{
+    let mut left = have;
+    let mut n = at;
+    while 8 <= left {
+        left -= 8;
+        out[n] = ((held >> left) % 256) as u8;
+        n += 1;
+    }
+    if left == 0 {
+        return n;
+    }
+    out[n] = (window(held, left) / 2) as u8;
+    n + 1
+}
