@@ -1,8 +1,10 @@
 pub mod Beginning
 pub mod BitBuffer
 pub mod BitsInBytes
+pub mod ByteTests
 pub mod CodedTexts
 pub mod DataInBuffer
+pub mod EachAfter
 pub mod EightBytes
 pub mod EveryElement
 pub mod Fill
