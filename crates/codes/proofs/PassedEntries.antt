@@ -14,7 +14,7 @@ row-append : (scheme : Scheme) (m k n : ℕ) (es ds : List Entry) → Row scheme
 row-append scheme m k n [] ds r q = subst (λ (j : ℕ). Row scheme j ds n) (sym r) q
 row-append scheme m k n (e ∷ es) ds r q = (r .0, row-append scheme (stateAfter m e) k n es ds (r .1) q)
 
-codes-append : (es ds : List Entry) → codes (es ++ ds) ≡ codes es ++ codes ds
+pub codes-append : (es ds : List Entry) → codes (es ++ ds) ≡ codes es ++ codes ds
 unfolding codes
 codes-append [] ds = refl
 codes-append (e ∷ es) ds =

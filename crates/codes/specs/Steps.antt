@@ -7,3 +7,4 @@ pub mod Measure
 pub mod Passed
 pub mod Pending
 pub mod Size
+pub mod Summed

@@ -1,1 +1,2 @@
+pub mod InFour
 pub mod Table
