@@ -8,6 +8,7 @@ pub mod EveryElement
 pub mod Fill
 pub mod LaidRows
 pub mod LastBytes
+pub mod JoinedCodes
 pub mod LeastCost
 pub mod LowBits
 pub mod NonemptyText
@@ -17,6 +18,7 @@ pub mod OneReading
 pub mod PassedEntries
 pub mod PendingBytes
 pub mod PushedBits
+pub mod PutSoFar
 pub mod ReadSoFar
 pub mod ReadingAgrees
 pub mod SchemeLaws

@@ -6,4 +6,5 @@ pub mod Laid
 pub mod Measure
 pub mod Passed
 pub mod Pending
+pub mod Sending
 pub mod Size
