@@ -1,5 +1,7 @@
 // Bits taken out of bytes and put in, through a number that holds some of them. The definitions and laws are those of codes.
 
+use codes::Held;
+use codes::Sent;
 ghost use mathlib.Core.Path.{_≡_};
 ghost use mathlib.Core.List.{_++_};
 ghost use Prim.Native.Nat.{ℕ, _+_, _*_, _/_, _^_, _≤_, _<_};
@@ -10,6 +12,7 @@ ghost use Rattle.codes.specs.Pack.{low};
 ghost use Rattle.codes.specs.Steps.BitBuffer.{Window};
 ghost use Rattle.codes.specs.Steps.EightBytes.{eightAt, spilled};
 ghost use Rattle.codes.specs.Steps.Laid.{Flushed};
+ghost use Rattle.codes.specs.Steps.Sending.{Joinable, Joined, FourJoined, Sends};
 
 // The bits that are still to be read: the lowest `have` bits of `held`, then those of the bytes from `next` on.
 pub struct Buffer {
@@ -85,6 +88,47 @@ pub fn spill(out: &mut [u8], n: usize, held: u64, have: u64)
     out[n + 1] = (four / 0x1_0000 % 256) as u8;
     out[n + 2] = (four / 0x100 % 256) as u8;
     out[n + 3] = (four % 256) as u8;
+}
+
+// `width` bits more, and if four bytes or more are held then, the upper four of them into the buffer.
+pub fn send(out: &mut [u8], b: Held, bits: u64, width: u64) -> Held
+    requires { ⌜ (b .have < 32) × (width ≤ 32) × (bits < 2 ^ width) × (b .n + (b .have + width) / 8 ≤ length (now out)) ⌝ }
+    ensures { λ r. ⌜ Sends (now (out .entry)) (now (out .exit)) b width bits r ⌝ }
+{
+    let n = b.n;
+    let held = push(b.held, bits, width);
+    let have = b.have + width;
+    if have < 32 {
+        return Held { n, held, have };
+    }
+    spill(out, n, held, have);
+    Held {
+        n: n + 4,
+        held,
+        have: have - 32,
+    }
+}
+
+// Codes and those that come next, as one number.
+fn joined(first: Sent, next: Sent) -> Sent
+    requires { ⌜ Joinable 16 first × Joinable 16 next ⌝ }
+    ensures { λ r. ⌜ Joined first next r ⌝ }
+{
+    Sent {
+        bits: (first.bits << next.width) | next.bits,
+        width: first.width + next.width,
+        count: first.count + next.count,
+    }
+}
+
+// The codes of four characters in a row, as one number.
+pub fn four_joined(first: Sent, second: Sent, third: Sent, fourth: Sent) -> Sent
+    requires { ⌜ Joinable 8 first × Joinable 8 second × Joinable 8 third × Joinable 8 fourth ⌝ }
+    ensures { λ r. ⌜ FourJoined first second third fourth r ⌝ }
+{
+    let left = joined(first, second);
+    let right = joined(third, fourth);
+    joined(left, right)
 }
 
 // The lowest `have` bits of `held`, then ones up to the byte's end, from place `at` on; the place after them.

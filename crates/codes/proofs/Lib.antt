@@ -11,6 +11,7 @@ pub mod Fill
 pub mod FoundEntries
 pub mod LaidRows
 pub mod LastBytes
+pub mod JoinedCodes
 pub mod LeastCost
 pub mod LowBits
 pub mod NonemptyText
@@ -20,6 +21,7 @@ pub mod OneReading
 pub mod PassedEntries
 pub mod PendingBytes
 pub mod PushedBits
+pub mod PutSoFar
 pub mod ReadSoFar
 pub mod ReadingAgrees
 pub mod SchemeLaws

@@ -6,5 +6,6 @@ pub mod Laid
 pub mod Measure
 pub mod Passed
 pub mod Pending
+pub mod Sending
 pub mod Size
 pub mod Summed
