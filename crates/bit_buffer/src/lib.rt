@@ -1,13 +1,16 @@
-// Bits taken out of bytes and put in, through a number that holds some of them. The definitions and laws are those of codes.
+// Bits taken out of bytes and put in, through a number that holds some of them; and what the loops over a text that is written ask of it. The definitions and
+// laws are those of codes.
 
 use codes::Held;
 use codes::Sent;
 ghost use mathlib.Core.Path.{_≡_};
+ghost use mathlib.Core.Logic.{_⊎_};
 ghost use mathlib.Core.List.{_++_};
 ghost use Prim.Native.Nat.{ℕ, _+_, _*_, _/_, _^_, _≤_, _<_};
-ghost use lib.ListN.{length, getD};
+ghost use lib.ListN.{length, take, getD};
 ghost use Rattle.bits.specs.Says.{Says};
 ghost use Rattle.codes.specs.Chain.{Fill};
+ghost use Rattle.codes.specs.Coded.{lastOf};
 ghost use Rattle.codes.specs.Pack.{low};
 ghost use Rattle.codes.specs.Steps.BitBuffer.{Window};
 ghost use Rattle.codes.specs.Steps.EightBytes.{eightAt, spilled};
@@ -148,4 +151,27 @@ pub fn flush(out: &mut [u8], at: usize, held: u64, have: u64) -> usize
     }
     out[n] = (window(held, left) / 2) as u8;
     n + 1
+}
+
+// The character before the one at i. None stands before the first: 0 stands for it.
+pub fn before_at(text: &[u8], i: usize) -> u8
+    requires { ⌜ i ≤ length (now text) ⌝ }
+    ensures { λ r. ⌜ r ≡ lastOf (take i (now (text .entry))) ⌝ }
+{
+    if i == 0 {
+        return 0;
+    }
+    text[i - 1]
+}
+
+// Where the next characters end whose bits are counted together: 7,000 have fewer than 2^16, at nine each, and numbers of 16 bits are added twice as many at
+// once as those of 32.
+pub fn block_end(from: usize, length: usize) -> usize
+    requires { ⌜ from < length ⌝ }
+    ensures { λ r. ⌜ (from < r) × (r ≤ length) × (r ≤ from + 7000) × ((r ≡ length) ⊎ (r ≡ from + 7000)) ⌝ }
+{
+    if length - from < 7000 {
+        return length;
+    }
+    from + 7000
 }

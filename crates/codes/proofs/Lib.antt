@@ -13,6 +13,7 @@ pub mod LaidRows
 pub mod LastBytes
 pub mod JoinedCodes
 pub mod LeastCost
+pub mod LineEnds
 pub mod LowBits
 pub mod NonemptyText
 pub mod NumberRanges

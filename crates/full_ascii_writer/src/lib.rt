@@ -15,8 +15,9 @@ ghost use Rattle.codes.specs.Coded.{alone};
 ghost use Rattle.codes.specs.Chain.{codes};
 ghost use Rattle.codes.specs.Pack.{written};
 ghost use Rattle.codes.specs.Steps.Size.{Needs};
+ghost use Rattle.codes.specs.Steps.Summed.{SumUpTo};
 ghost use Rattle.full_ascii.specs.Writer.{coded, AllCoded, ours, LineEnd};
-ghost use Rattle.full_ascii_writer.specs.Steps.Sending.{OwnOf, FirstCodesOf, bitsFor, BitsUpTo, FourPlain, PutsOurs};
+ghost use Rattle.full_ascii_writer.specs.Steps.Sending.{OwnOf, FirstCodesOf, bitsFor, FourPlain, PutsOurs};
 
 // The code of a character by itself: a match over its ranges and the control codes picks number and width (RULES, Forms of the code).
 fn own_code(c: u8) -> Sent
@@ -106,22 +107,10 @@ fn bits_for(before: u8, c: u8) -> u16
     code.width as u16
 }
 
-// Where the next characters end that are counted together: 7,000 have fewer than 2^16 bits, and numbers of 16 bits are added twice as many at once as
-// those of 32.
-fn block_end(from: usize, length: usize) -> usize
-    requires { ⌜ from < length ⌝ }
-    ensures { λ r. ⌜ (from < r) × (r ≤ length) × (r ≤ from + 7000) ⌝ }
-{
-    if length - from < 7000 {
-        return length;
-    }
-    from + 7000
-}
-
 // How many bits our data has for the characters from one place up to another.
 fn block_bits(text: &[u8], from: usize, to: usize) -> u16
     requires { ⌜ AllCoded (now text) × (1 ≤ from) × (from ≤ to) × (to ≤ length (now text)) × (to ≤ from + 7000) ⌝ }
-    ensures { λ r. ⌜ (r ≤ 9 * (to - from)) × BitsUpTo (now (text .entry)) from to r ⌝ }
+    ensures { λ r. ⌜ (r ≤ 9 * (to - from)) × SumUpTo bitsFor (now (text .entry)) from to r ⌝ }
 {
     let mut n: u16 = 0;
     let mut i = from;
@@ -143,7 +132,7 @@ fn code_bits(text: &[u8]) -> u32
     let mut n = bits_for(0, text[0]) as u32;
     let mut i: usize = 1;
     while i < text.len() {
-        let to = block_end(i, text.len());
+        let to = bit_buffer::block_end(i, text.len());
         n += block_bits(text, i, to) as u32;
         i = to;
     }
