@@ -99,7 +99,8 @@ module _ (text : List ℕ) where
   pub ours-length : length (codes (ours text)) ≡ 4 * (length (baseOf text) + length (baseOf text) % 2)
   unfolding ours sentFor inFour
   ours-length =
-      in-four-length (sentFor text) (every-append isBase (baseOf text) (evened (length (baseOf text))) (base-of-base text) (evened-base (length (baseOf text))))
+      in-four-length (sentFor text)
+      (every-append isBase (baseOf text) (evened (length (baseOf text))) (base-of-base text) (evened-base (length (baseOf text))))
       ∙ ap (λ (n : ℕ). 4 * n)
       (length-append (baseOf text) (evened (length (baseOf text))) ∙ ap (λ (n : ℕ). length (baseOf text) + n) (evened-length (length (baseOf text))))
 

@@ -1,12 +1,12 @@
 -- What goes for a text as the writer sends it: for a character, for the next ones, and the space at the end.
 -- Assumes nothing.
-use mathlib.Core.Path.{_≡_, refl, sym, ap, ap₂, subst, subst⁻¹, subst₂, _∙_}
-use mathlib.Core.Bool.{Bool, true, false, cond, not, _&&_, _||_, true≢false}
+use mathlib.Core.Path.{_≡_, refl, sym, ap, subst, subst₂, _∙_}
+use mathlib.Core.Bool.{Bool, true, false, not, _&&_, _||_}
 use mathlib.Core.List.{List, [], _∷_, _++_, append-nil}
-use Prim.Native.Nat.{ℕ, zero, suc, _+_, _-_, _*_, _/_, _%_, _^_, _≤_, _<_}
+use Prim.Native.Nat.{ℕ, zero, suc, _+_, _*_, _/_, _%_, _^_, _≤_, _<_}
 use native.Mathlib.Omega.{arith}
-use lib.Dec.{T, leb, ltb, eqb, leb→le, ltb→lt, eqb→eq, lit≤, lit<}
-use lib.ListN.{length, take, getD}
+use lib.Dec.{T, leb, ltb, eqb, leb→le, ltb→lt, lit≤, lit<}
+use lib.ListN.{length, getD}
 use borrow.Author.Tests.{ne-eqb, eqb-true}
 use Rattle.bits.specs.Word.{bit}
 use Rattle.codes.specs.Chain.{Entry, codes}
@@ -16,7 +16,6 @@ use Rattle.codes.specs.Lookup.{same, found, saying}
 use Rattle.codes.specs.Pack.{low, numbers, written}
 use Rattle.codes.specs.Steps.Sending.{Sends, PutSoFar}
 use Rattle.codes.specs.declared.Held.{Held}
-use Rattle.codes.specs.declared.Sent.{Sent}
 use Rattle.bits.proofs.Said.{and-left, and-right}
 use Rattle.codes.proofs.ByteTests.{every-below, implied-below}
 use Rattle.codes.proofs.EveryElement.{every}
@@ -48,7 +47,7 @@ abbrev goes : ℕ → ℕ → Bool
 goes c packed = same (bitsFor 0 c) (low (packed / 256) (packed % 256)) && (ltb (packed % 256) (2 ^ (packed / 256)) && leb (packed / 256) 8)
 
 all-go : T (every (λ (k : ℕ). goes (getD rows k 0) (getD going k 0)) (numbers 0 22))
-unfolding bitsFor inFour own eachAfter translation itself specials sent table consecutive codeFor characters numbers ended saying same found codes low bit every
+unfolding bitsFor inFour own eachAfter translation itself specials sent table consecutive codeFor characters numbers ended saying same codes low bit every
 all-go = tt
 
 own-goes : (c packed : ℕ) → T (goes c packed) → Packed c packed
@@ -149,7 +148,9 @@ module _ (t entry out : List ℕ) (b : Held) (i : ℕ) (held : length (written (
       )
 
   pad-space : b .have % 8 ≡ 4 → PutSoFar (ours t) entry out b (low 4 10 ++ [])
-  pad-space h = subst (PutSoFar (ours t) entry out b) (bits-end t i end ∙ pad-odd size (odd (b .have) (size % 2) whole (omega arith) h) ∙ sym (append-nil (low 4 10))) p
+  pad-space h =
+      subst (PutSoFar (ours t) entry out b)
+      (bits-end t i end ∙ pad-odd size (odd (b .have) (size % 2) whole (omega arith) h) ∙ sym (append-nil (low 4 10))) p
 
   pub pad-nothing : (b .have % 8 ≡ 4 → ⊥) → PutSoFar (ours t) entry out b []
   pad-nothing h = subst (PutSoFar (ours t) entry out b) (bits-end t i end ∙ pad-even size (even (b .have) (size % 2) whole (omega arith) h)) p
