@@ -12,7 +12,7 @@ use lib.Bits.{bitAnd, and-le-l, and-le-r}
 use lib.Dec.{T, eqb, lit≤, lit<}
 use lib.ListN.{length, take, drop, getD, drop-of-length-le}
 use lib.Seq.{drop-cons}
-use Rattle.codes.specs.Chain.{Entry, codes}
+use Rattle.codes.specs.Chain.{codes}
 use Rattle.codes.specs.Coded.{lastOf}
 use Rattle.codes.specs.LineEnds.{eachAfter}
 use Rattle.codes.specs.Pack.{Binary, low, value}
