@@ -19,8 +19,8 @@ use Rattle.codes.specs.Pack.{Binary, low, value}
 use Rattle.codes.specs.Steps.Sending.{Joinable, FourJoined}
 use Rattle.codes.specs.declared.Sent.{Sent}
 use Rattle.codes.proofs.BitsInBytes.{binary-append}
-use Rattle.codes.proofs.EachAfter.{last-taken, each-codes}
-use Rattle.codes.proofs.JoinedCodes.{first-four}
+use Rattle.codes.proofs.EachAfter.{each-codes, each-next}
+use Rattle.codes.proofs.FirstOfText.{four-own}
 use Rattle.codes.proofs.LowBits.{low-value, value-lt}
 use Rattle.shef.specs.Writer.{coded, AllCoded, own, ours}
 use Rattle.shef_writer.specs.Steps.Sending.{CodeOf, OwnOf, codesFrom, FirstCodesOf, entryOf}
@@ -29,7 +29,7 @@ use Rattle.shef_writer.proofs.Telling.{own-none, own-same, width-told, 
 -- the code of a character
 pub sends-none : (before c : ℕ) → (eqb before 13 && eqb c 10) ≡ true → OwnOf before c (record { bits = 0; width = 0; count = 1 })
 unfolding low
-sends-none before c e = record { code = own-none before c e; fits = lit< tt; long = lit≤ tt; count = refl }
+sends-none before c e = record { same = own-none before c e; fits = lit< tt; long = lit≤ tt; count = refl }
 
 pub sends-own : (before c entry : ℕ) (r : Sent) → c < 256 → T (coded c) → (eqb before 13 && eqb c 10) ≡ false → entry % 64 ≡ value (codes (own 0 c))
     → CodeOf entry r → OwnOf before c r
@@ -38,7 +38,7 @@ sends-own before c entry r h t e x o =
     let bits : r .bits ≡ value row = o .number ∙ x in
     let wide : length row ≡ r .width = width-told c h t ∙ ap (λ (n : ℕ). 5 + n / 32) (sym bits) ∙ sym (o .width) in
     record {
-      code = ap codes (own-same before c e) ∙ sym (low-value row (own-binary 0 c)) ∙ ap₂ (λ (n v : ℕ). low n v) wide (sym bits);
+      same = ap codes (own-same before c e) ∙ sym (low-value row (own-binary 0 c)) ∙ ap₂ (λ (n v : ℕ). low n v) wide (sym bits);
       fits = subst₂ (λ (v n : ℕ). v < 2 ^ n) (sym bits) wide (value-lt row (own-binary 0 c));
       long = omega (arith, wide, bits-few c h t);
       count = o .count;
@@ -73,44 +73,18 @@ pub codes-whole : (t : List ℕ) → codes (ours t) ≡ codesFrom t 0
 unfolding ours lastOf
 codes-whole t = refl
 
-pub codes-end : (t : List ℕ) (i : ℕ) → length t ≤ i → codesFrom t i ≡ []
-unfolding eachAfter codes
-codes-end t i h = ap (λ (l : List ℕ). codes (eachAfter own (lastOf (take i t)) l)) (drop-of-length-le t h)
-
--- the character before a place
-last-at : (t : List ℕ) (j k : ℕ) → j < length t → k ≡ j + 1 → getD t j 0 ≡ lastOf (take k t)
-last-at t j k h e = ap (λ (n : ℕ). getD t n 0) (let x : j ≡ k - 1 = omega arith in x) ∙ sym (last-taken t k (omega arith) (omega arith))
-
--- the first of them, and the first four
-module _ (t : List ℕ) where
-  pub first-own : (i most before : ℕ) (r : Sent) → i < length t → 6 ≤ most → before ≡ lastOf (take i t) → OwnOf before (getD t i 0) r
-      → FirstCodesOf t i most r
-  first-own i most before r h few b o =
-      let c : ℕ = getD t i 0 in
-      record {
-        same = ap₂ (λ (x : ℕ) (l : List ℕ). codes (eachAfter own x l)) (sym b) (drop-cons t i 0 h)
-            ∙ each-codes own before c (drop (suc i) t)
-            ∙ ap₂ (λ (x y : List ℕ). x ++ y) (o .code)
-            (ap₂ (λ (x k : ℕ). codes (eachAfter own x (drop k t))) (last-at t i (i + 1) h refl) (sym (add-one i)))
-            ∙ ap (λ (k : ℕ). low (r .width) (r .bits) ++ codesFrom t (i + k)) (sym (o .count));
-        fits = o .fits;
-        long = omega (arith, o .long);
-        some = omega (arith, o .count);
-        within = omega (arith, o .count);
-      }
-
-  -- by their entries
-  pub four-entries : (i a b c d : ℕ) (p q s u r : Sent) → AllCoded t → ((k : ℕ) → getD t k 0 < 256) → i + 4 ≤ length t
-      → a ≡ entryOf (getD t i 0) → b ≡ entryOf (getD t (i + 1) 0) → c ≡ entryOf (getD t (i + 2) 0) → d ≡ entryOf (getD t (i + 3) 0)
-      → 64 ≤ bitAnd a (bitAnd b (bitAnd c d)) → CodeOf a p → CodeOf b q → CodeOf c s → CodeOf d u → FourJoined p q s u r → FirstCodesOf t i 24 r
-  four-entries i a b c d p q s u r all bytes there ea eb ec ed plain op oq os ou j =
+-- the first four, by their entries
+module _ (t : List ℕ) (i : ℕ) (all : AllCoded t) (bytes : (k : ℕ) → getD t k 0 < 256) where
+  pub four-entries : (a b c d : ℕ) (p q s u r : Sent) → i + 4 ≤ length t → a ≡ entryOf (getD t i 0) → b ≡ entryOf (getD t (i + 1) 0)
+      → c ≡ entryOf (getD t (i + 2) 0) → d ≡ entryOf (getD t (i + 3) 0) → 64 ≤ bitAnd a (bitAnd b (bitAnd c d)) → CodeOf a p → CodeOf b q → CodeOf c s
+      → CodeOf d u → FourJoined p q s u r → FirstCodesOf t i 24 r
+  four-entries a b c d p q s u r there ea eb ec ed plain op oq os ou =
       let three : ℕ = bitAnd b (bitAnd c d) in
       let two : ℕ = bitAnd c d in
-      let first : (k e : ℕ) (x : Sent) → k < length t → e ≡ entryOf (getD t k 0) → 64 ≤ e → CodeOf e x → FirstCodesOf t k 6 x =
-      λ k e x h y m o. first-own k 6 (lastOf (take k t)) x h (lit≤ tt) refl (sends-entry (lastOf (take k t)) (getD t k 0) e x (bytes k) (all k h) y m o) in
-      first-four (codesFrom t) (length t) i (i + 1) (i + 2) (i + 3) 6 p q s u r
-      (first i a p (omega arith) ea (omega (arith, and-le-l a three)) op)
-      (first (i + 1) b q (omega arith) eb (omega (arith, and-le-r a three, and-le-l b two)) oq)
-      (first (i + 2) c s (omega arith) ec (omega (arith, and-le-r a three, and-le-r b two, and-le-l c d)) os)
-      (first (i + 3) d u (omega arith) ed (omega (arith, and-le-r a three, and-le-r b two, and-le-r c d)) ou)
-      (omega (arith, op .count)) (omega (arith, oq .count)) (omega (arith, os .count)) j
+      let own-at : (before k e : ℕ) (x : Sent) → k < length t → e ≡ entryOf (getD t k 0) → 64 ≤ e → CodeOf e x → OwnOf before (getD t k 0) x =
+      λ before k e x h. sends-entry before (getD t k 0) e x (bytes k) (all k h) in
+      four-own t (λ (x y : ℕ). codes (own x y)) (codesFrom t) (each-next own t) 6 i (lastOf (take i t)) p q s u r there refl
+      (own-at (lastOf (take i t)) i a p (omega arith) ea (omega (arith, and-le-l a three)) op)
+      (own-at (getD t i 0) (i + 1) b q (omega arith) eb (omega (arith, and-le-r a three, and-le-l b two)) oq)
+      (own-at (getD t (i + 1) 0) (i + 2) c s (omega arith) ec (omega (arith, and-le-r a three, and-le-r b two, and-le-l c d)) os)
+      (own-at (getD t (i + 2) 0) (i + 3) d u (omega arith) ed (omega (arith, and-le-r a three, and-le-r b two, and-le-r c d)) ou)

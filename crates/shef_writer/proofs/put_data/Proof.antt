@@ -13,12 +13,13 @@ use Rattle.codes.specs.LineEnds.{ended}
 use Rattle.codes.specs.Lookup.{same, found, saying}
 use Rattle.codes.specs.Pack.{low, value, numbers}
 use Rattle.codes.specs.Steps.Sending.{PutSoFar}
+use Rattle.codes.proofs.EachAfter.{each-end}
 use Rattle.codes.proofs.PutSoFar.{put-none, put-length, first-ready, first-sent, put-flush-room, put-flushed}
 use Rattle.numeric.specs.Table.{characters}
 use Rattle.shef.specs.Table.{table}
 use Rattle.shef.specs.Writer.{coded, own, ours}
 use Rattle.shef_writer.specs.Steps.Sending.{codesFrom, entryOf, entries}
-use Rattle.shef_writer.proofs.Sending.{ours-binary, codes-whole, codes-end}
+use Rattle.shef_writer.proofs.Sending.{ours-binary, codes-whole}
 use Rattle.shef_writer.proofs.put_data.Statement.{statement}
 use Rattle.shef_writer.proofs.put_data.Tie as tie
 
@@ -79,7 +80,7 @@ all-sent l =
     let a = l .before in
     let e = a .before .before .before .before in
     subst (PutSoFar (ours (e .args .text .now)) (e .args .out .now) (a .loop .out) (a .loop .b))
-    (codes-end (e .args .text .now) (a .loop .i) (l .loop-test .left)) (a .loop .inv .2)
+    (each-end own (e .args .text .now) (a .loop .i) (l .loop-test .left)) (a .loop .inv .2)
 
 flush-requires : tie.Need-flush-requires Inv-loop μ-loop
 flush-requires c κs =
