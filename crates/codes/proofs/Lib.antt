@@ -9,6 +9,8 @@ pub mod Fill
 pub mod LaidRows
 pub mod LastBytes
 pub mod LeastCost
+pub mod LineTables
+pub mod Lookup
 pub mod LowBits
 pub mod NonemptyText
 pub mod NumberRanges
@@ -16,6 +18,7 @@ pub mod OneAnswer
 pub mod OneReading
 pub mod PassedEntries
 pub mod PendingBytes
+pub mod Pieces
 pub mod PushedBits
 pub mod ReadSoFar
 pub mod ReadingAgrees
