@@ -1,6 +1,7 @@
 pub mod Beginning
 pub mod BitBuffer
 pub mod BitsInBytes
+pub mod CodedBehind
 pub mod CodedTexts
 pub mod DataInBuffer
 pub mod EightBytes

@@ -77,7 +77,7 @@ module _ (cut : ℕ → ℕ → List ℕ) (table : List Entry) (pieces : (e : En
   pieces-kept es h b = each-said (λ (u : List ℕ). u) refl es h b ∙ id-said es
 
   -- no entry says nothing
-  piece-long : (u : List ℕ) → Piece cut u → 0 < length u
+  pub piece-long : (u : List ℕ) → Piece cut u → 0 < length u
   piece-long u (inl p) = omega (arith, ap length (p .1))
   piece-long u (inr p) = omega (arith, ap length (p .2))
 

@@ -1,1 +1,3 @@
+pub mod Clashes
 pub mod Table
+pub mod Translation
