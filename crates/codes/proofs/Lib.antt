@@ -3,7 +3,9 @@ pub mod BitBuffer
 pub mod BitsInBytes
 pub mod CodedBehind
 pub mod CodedTexts
+pub mod ConsecutiveCodes
 pub mod DataInBuffer
+pub mod DataLaws
 pub mod EightBytes
 pub mod EveryElement
 pub mod Fill

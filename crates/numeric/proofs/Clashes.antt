@@ -143,6 +143,11 @@ sign-apart : (c : ℕ) → T (not (sign c)) → (base : List ℕ) → Apart (c �
 sign-apart c t [] = tt
 sign-apart c t (b ∷ base) = no-sign c b t
 
+-- where a text begins nothing clashes
+pub start-clear : (base : List ℕ) → T (not (clashes 0 base))
+unfolding sign
+start-clear base = clear-apart 0 base (sign-apart 0 tt base)
+
 two-apart : (e : Entry) → In e specials → (rest : List ℕ) → Apart (e .code) rest
 two-apart e m rest = let w = special-two e m in subst⁻¹ (λ (v : List ℕ). Apart v rest) (w .2) tt
 

@@ -1,3 +1,5 @@
 pub mod Clashes
+pub mod Data
 pub mod Table
 pub mod Translation
+pub mod Writer
