@@ -18,6 +18,7 @@ pub mod LowBits
 pub mod NonemptyText
 pub mod NumberRanges
 pub mod OneAnswer
+pub mod OneBuilding
 pub mod OneReading
 pub mod PassedEntries
 pub mod PendingBytes

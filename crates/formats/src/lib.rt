@@ -26,6 +26,8 @@ fn has_code(format: Format, text: &[u8], i: usize) -> bool
     match format {
         Format::Open => true,
         Format::PseudoBinary => pseudo_binary_writer::is_coded(text[i]),
+        Format::Numeric => numeric_writer::is_coded(text, i),
+        Format::Shef => shef_writer::is_coded(text[i]),
         Format::FullAscii => full_ascii_writer::is_coded(text[i]),
     }
 }
@@ -78,6 +80,8 @@ fn coded_length(format: Format, text: &[u8], most: u16) -> Needed
     match format {
         Format::Open => open_length(text, most),
         Format::PseudoBinary => pseudo_binary_writer::coded_length(text, most),
+        Format::Numeric => numeric_writer::coded_length(text, most),
+        Format::Shef => shef_writer::coded_length(text, most),
         Format::FullAscii => full_ascii_writer::coded_length(text, most),
     }
 }
@@ -101,6 +105,8 @@ fn put_data(format: Format, text: &[u8], out: &mut [u8]) -> usize
     match format {
         Format::Open => bytes::copy(text, out),
         Format::PseudoBinary => pseudo_binary_writer::put_data(text, out),
+        Format::Numeric => numeric_writer::put_data(text, out),
+        Format::Shef => shef_writer::put_data(text, out),
         Format::FullAscii => full_ascii_writer::put_data(text, out),
     }
 }
@@ -130,6 +136,8 @@ fn measure(format: Format, data: &[u8]) -> Measured
     match format {
         Format::Open => Measured::Text(data.len()),
         Format::PseudoBinary => pseudo_binary_reader::measure(data),
+        Format::Numeric => Measured::Text(numeric_reader::measure(data)),
+        Format::Shef => shef_reader::measure(data),
         Format::FullAscii => full_ascii_reader::measure(data),
     }
 }
@@ -156,6 +164,8 @@ pub fn put_text(format: Format, data: &[u8], out: &mut [u8]) -> usize
     match format {
         Format::Open => bytes::copy(data, out),
         Format::PseudoBinary => pseudo_binary_reader::put_text(data, out),
+        Format::Numeric => numeric_reader::put_text(data, out),
+        Format::Shef => shef_reader::put_text(data, out),
         Format::FullAscii => full_ascii_reader::put_text(data, out),
     }
 }

@@ -10,7 +10,7 @@ use native.Mathlib.Omega.{arith}
 use lib.Dec.{T, T-not, eqb, eqb→eq, lit<}
 use lib.ListN.{length, length-append, take, getD}
 use borrow.Author.Tests.{eqb-false}
-use Rattle.bits.specs.Row.{bits}
+use Rattle.bits.specs.Row.{bits, Bytes}
 use Rattle.codes.specs.Chain as chain
 use Rattle.codes.specs.Chain.{Entry, In, Row, codes, texts, Malformed}
 use Rattle.codes.specs.Coded.{lastOf, alone, CodedBelow}
@@ -26,6 +26,7 @@ use Rattle.codes.proofs.DataLaws.{DataLaws}
 use Rattle.codes.proofs.EveryElement.{every, every-at}
 use Rattle.codes.proofs.LineTables.{ended-some, line-pieces, line-whole, lines-kept}
 use Rattle.codes.proofs.Lookup.{unlike, meant}
+use Rattle.codes.proofs.OneBuilding.{same-data}
 use Rattle.codes.proofs.OneReading.{one-place}
 use Rattle.codes.proofs.PassedEntries.{codes-append, texts-append}
 use Rattle.codes.proofs.Pieces.{AllIn, row-all, all-row, all-append, Piece}
@@ -277,6 +278,17 @@ same-base t carried h b =
 no-fewer-bytes : (t carried : List ℕ) → AllCoded t → Built (comesBack t) carried → length (written (ours t)) ≤ length carried
 no-fewer-bytes t carried h b =
     omega (arith, length-written (ours t), ours-size t h, two-each (b .base) carried (b .codes), ap length (same-base t carried h b))
+
+-- so there are no two buildings of a text
+pub one-building : (text a b : List ℕ) → Bytes a → Bytes b → Built text a → Built text b → a ≡ b
+one-building text a b h k p q =
+    let c = p .codes in
+    let d = q .codes in
+    let base = one-sending (p .base) text (p .translates) ∙ sym (one-sending (q .base) text (q .translates)) in
+    same-data (lit< tt) a b c d
+    (pieces.one-row itsOwn table own-pieces distinct-texts (c .entries) (d .entries) (row-all table 0 0 0 (c .entries) (c .row)) (row-all table 0 0 0 (d .entries) (d .row))
+      (c .says ∙ base ∙ sym (d .says)))
+    h k
 
 -- Texts that are carried
 

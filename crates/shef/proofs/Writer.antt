@@ -6,8 +6,9 @@ use Prim.Native.Nat.{ℕ}
 use native.Mathlib.Nat.{le-of-eq}
 use lib.Dec.{T, lit<}
 use lib.ListN.{length}
+use Rattle.bits.specs.Row.{Bytes}
 use Rattle.bits.specs.Word.{bit}
-use Rattle.codes.specs.Chain.{Entry, Row, codes, texts}
+use Rattle.codes.specs.Chain.{Entry, Row, codes, texts, Built}
 use Rattle.codes.specs.Coded.{alone}
 use Rattle.codes.specs.Consecutive.{codeFor, consecutive}
 use Rattle.codes.specs.LineEnds.{LF, CR, eachAfter, ended, lineEnds}
@@ -17,6 +18,7 @@ use Rattle.codes.proofs.BitsInBytes.{gap-few}
 use Rattle.codes.proofs.EveryElement.{every}
 use Rattle.codes.proofs.LineTables.{lined, onePiece, ended-some, line-pieces, line-whole, lines-kept}
 use Rattle.codes.proofs.Lookup.{unlike}
+use Rattle.codes.proofs.OneBuilding.{same-data}
 use Rattle.codes.proofs.Pieces.{AllIn, row-all, all-row}
 use Rattle.codes.proofs.Pieces as pieces
 use Rattle.codes.proofs.WriterLaws as writing
@@ -53,6 +55,10 @@ ours-says t h = pieces.pieces-says ended table (line-pieces table lines) distinc
 -- no text has two rows
 pub one-row : (es ds : List Entry) → Row scheme 0 es 0 → Row scheme 0 ds 0 → texts es ≡ texts ds → es ≡ ds
 one-row es ds r q = pieces.one-row ended table (line-pieces table lines) distinct es ds (in-table es r) (in-table ds q)
+
+-- nor two buildings
+pub one-building : (text a b : List ℕ) → Bytes a → Bytes b → Built scheme text a → Built scheme text b → a ≡ b
+one-building text a b h k p q = same-data (lit< tt) a b p q (one-row (p .entries) (q .entries) (p .row) (q .row) (p .says ∙ sym (q .says))) h k
 
 ours-row : (t : List ℕ) → Row scheme 0 (ours t) 0
 ours-row t = all-row table mutes 7 (ours t) (ours-in t)
