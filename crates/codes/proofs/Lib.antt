@@ -15,6 +15,7 @@ pub mod NumberRanges
 pub mod OneAnswer
 pub mod OneReading
 pub mod PassedEntries
+pub mod PassedWords
 pub mod PendingBytes
 pub mod PushedBits
 pub mod ReadSoFar
@@ -23,4 +24,5 @@ pub mod SchemeLaws
 pub mod SingleTable
 pub mod SizeBounds
 pub mod TableSearch
+pub mod TakenCodes
 pub mod WriterLaws
