@@ -1,5 +1,8 @@
 // Bits taken out of bytes and put in, through a number that holds some of them. The definitions and laws are those of codes.
 
+use codes::Code;
+use codes::Measured;
+use codes::Place;
 ghost use mathlib.Core.Path.{_≡_};
 ghost use mathlib.Core.List.{_++_};
 ghost use Prim.Native.Nat.{ℕ, _+_, _*_, _/_, _^_, _≤_, _<_};
@@ -9,7 +12,10 @@ ghost use Rattle.codes.specs.Chain.{Fill};
 ghost use Rattle.codes.specs.Pack.{low};
 ghost use Rattle.codes.specs.Steps.BitBuffer.{Window};
 ghost use Rattle.codes.specs.Steps.EightBytes.{eightAt, spilled};
-ghost use Rattle.codes.specs.Steps.Laid.{Flushed};
+ghost use Rattle.codes.specs.Steps.Laid.{laid, Flushed};
+ghost use Rattle.codes.specs.Steps.Measure.{withFront, FrontFits};
+ghost use Rattle.codes.specs.Steps.Taken.{charactersOf};
+ghost use Rattle.codes.specs.Steps.Words.{NearEnd, Last};
 
 // The bits that are still to be read: the lowest `have` bits of `held`, then those of the bytes from `next` on.
 pub struct Buffer {
@@ -73,6 +79,46 @@ pub fn push(held: u64, bits: u64, width: u64) -> u64
     ensures { λ r. ⌜ ((n : ℕ) → n + width ≤ 64 → low (n + width) r ≡ low n held ++ low width bits) ⌝ }
 {
     (held << width) | bits
+}
+
+// The last bits in a buffer: those of fewer than eight bytes.
+pub fn last_bits(s: &[u8], place: Place) -> Buffer
+    requires { ⌜ NearEnd (now s) place ⌝ }
+    ensures { λ r. ⌜ Last (now (s .entry)) place (r .held) (r .have) ⌝ }
+{
+    let mut held: u64 = 0;
+    let mut next = place.next;
+    while next < s.len() {
+        held = push(held, s[next] as u64, 8);
+        next += 1;
+    }
+    Buffer {
+        held,
+        have: (next - place.next) as u64 * 8 - place.skip,
+        next,
+    }
+}
+
+// What the last bits come to, told of the whole: `at` bits stand before them, which say n characters.
+pub fn with_front(last: Measured, n: usize, at: usize) -> Measured
+    requires { ⌜ FrontFits n at last ⌝ }
+    ensures { λ r. ⌜ r ≡ withFront n at last ⌝ }
+{
+    match last {
+        Measured::Text(k) => Measured::Text(n + k),
+        Measured::Malformed(i) => Measured::Malformed(at + i),
+    }
+}
+
+// The one or two characters of a code, from place n on.
+pub fn put(out: &mut [u8], n: usize, c: Code)
+    requires { ⌜ (1 ≤ c .count) × (c .count ≤ 2) × (n + c .count ≤ length (now out)) ⌝ }
+    ensures { λ r. ⌜ now (out .exit) ≡ laid (now (out .entry)) n (charactersOf c) ⌝ }
+{
+    out[n] = c.first;
+    if c.count == 2 {
+        out[n + 1] = c.second;
+    }
 }
 
 // The upper four bytes of the lowest `have` bits of `held`, from place n on.

@@ -21,6 +21,7 @@ pub mod OneAnswer
 pub mod OneBuilding
 pub mod OneReading
 pub mod PassedEntries
+pub mod PassedWords
 pub mod PendingBytes
 pub mod Pieces
 pub mod PushedBits
@@ -30,4 +31,5 @@ pub mod SchemeLaws
 pub mod SingleTable
 pub mod SizeBounds
 pub mod TableSearch
+pub mod TakenCodes
 pub mod WriterLaws

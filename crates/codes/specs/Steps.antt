@@ -7,3 +7,5 @@ pub mod Measure
 pub mod Passed
 pub mod Pending
 pub mod Size
+pub mod Taken
+pub mod Words

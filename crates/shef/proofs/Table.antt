@@ -13,6 +13,7 @@ use Rattle.codes.proofs.NonemptyText.{Speaks, heard, said, speaks}
 use Rattle.codes.proofs.ReadingAgrees.{Agrees, agrees}
 use Rattle.codes.proofs.SchemeLaws.{Laws, parted, apart, unfilled, tested}
 use Rattle.codes.proofs.SingleTable.{mute}
+use Rattle.codes.proofs.SizeBounds.{brief}
 use Rattle.numeric.specs.Table.{characters}
 use Rattle.shef.specs.Table.{table, scheme}
 
@@ -35,3 +36,8 @@ mutes = tt
 pub all-bits : (m : ℕ) → T (every binary (scheme .table m))
 unfolding table consecutive codeFor characters numbers low bit every binary
 all-bits m = tt
+
+-- no entry says more characters than it has bits
+pub briefs : (m : ℕ) → T (every (brief 1) (scheme .table m))
+unfolding table consecutive codeFor characters numbers low bit every brief
+briefs m = tt

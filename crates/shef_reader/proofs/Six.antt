@@ -1,0 +1,198 @@
+-- Six bits that are not all ones begin a code; six ones begin none.
+-- Assumes nothing.
+use mathlib.Core.Path.{_≡_, refl, sym, ap, subst, subst⁻¹, _∙_}
+use mathlib.Core.Bool.{Bool, true, false, cond, _&&_}
+use mathlib.Core.Logic.{by-cases}
+use mathlib.Core.Option.{Option, none, some}
+use mathlib.Core.List.{List, [], _∷_, _++_, append-assoc, append-nil}
+use Prim.Native.Nat.{ℕ, zero, suc, _+_, _-_, _*_, _/_, _%_, _^_, _≤_, _<_, zero-le}
+use native.Mathlib.Decide.{decLe, decLt}
+use native.Mathlib.Omega.{arith}
+use lib.Dec.{T, eqb, eqb→eq, lit≤}
+use lib.ListN.{length, length-append}
+use Rattle.bits.specs.Word.{bit}
+use Rattle.bits.proofs.Said.{and-left, and-right}
+use Rattle.codes.specs.Chain.{Entry, Fill, Begins}
+use Rattle.codes.specs.Consecutive.{codeFor, consecutive}
+use Rattle.codes.specs.Pack.{low, numbers}
+use Rattle.codes.specs.Steps.BitBuffer.{Window}
+use Rattle.codes.specs.Steps.Laid.{Readable}
+use Rattle.codes.specs.Steps.Taken.{FirstCode, charactersOf}
+use Rattle.codes.specs.declared.Code.{Code}
+use Rattle.codes.proofs.Beginning.{begun, begun-begins}
+use Rattle.codes.proofs.BitBuffer.{window-whole, window-top, window-begins, begins-window}
+use Rattle.codes.proofs.EightBytes.{top-bits}
+use Rattle.codes.proofs.EveryElement.{every, every-at}
+use Rattle.codes.proofs.LowBits.{length-low, low-add}
+use Rattle.codes.proofs.OneReading.{Halts, stuck-here, never-both}
+use Rattle.codes.proofs.SchemeLaws.{parted, parted-never}
+use Rattle.codes.proofs.TableSearch.{find, Found, found}
+use Rattle.numeric.specs.Table.{characters}
+use Rattle.shef.specs.Table.{table, scheme}
+use Rattle.shef.proofs.Table.{laws}
+use Rattle.shef_reader.specs.Steps.Taken.{Says, behind, Takes}
+
+-- the entry that was found has the bits that the first of six tells, and says the text
+unfoldable pub tells : ℕ → List ℕ → Option Entry → Bool
+tells six text none = false
+tells six text (some e) = eqb (length (e .code)) (5 + six / 32) && (eqb (length (e .says)) (length text) && begun (e .says) text)
+
+unfoldable pub right : ℕ → ℕ → Bool
+right six c = tells six (c ∷ behind six) (find table (low 6 six))
+
+empty : (l : List ℕ) → length l ≡ 0 → l ≡ []
+empty [] e = refl
+empty (x ∷ l) e = absurd (let no′ : ⊥ = omega arith in no′)
+
+same-text : (a b : List ℕ) → T (eqb (length a) (length b) && begun a b) → a ≡ b
+same-text a b t =
+    let p : Begins a b = begun-begins a b (and-right (eqb (length a) (length b)) (begun a b) t) in
+    let size : length a ≡ length b = eqb→eq (length a) (length b) (and-left (eqb (length a) (length b)) (begun a b) t) in
+    sym (p .1 ∙ ap (λ (l : List ℕ). a ++ l) (empty (p .0) (omega (arith, size, ap length (p .1), length-append a (p .0)))) ∙ append-nil a)
+
+told : (six : ℕ) (text : List ℕ) (o : Option Entry) → Found table (low 6 six) o → T (tells six text o) → Says six text
+unfolding tells
+told six text none f t = absurd t
+told six text (some e) f t =
+    let wide : Bool = eqb (length (e .code)) (5 + six / 32) in
+    let said : Bool = eqb (length (e .says)) (length text) && begun (e .says) text in
+    record {
+      entry = e;
+      legal = f .0;
+      begins = f .1;
+      width = eqb→eq (length (e .code)) (5 + six / 32) (and-left wide said t);
+      says = same-text (e .says) text (and-right wide said t);
+    }
+
+-- a row of the match
+pub row : {six c : ℕ} (k : ℕ) → six ≡ k → T (right k c) → six < 63 → Says six (c ∷ behind six)
+unfolding right
+row {six} {c} k e t h =
+    subst⁻¹ (λ (n : ℕ). Says n (c ∷ behind n)) e (told k (c ∷ behind k) (find table (low 6 k)) (found table (low 6 k)) t)
+
+-- none of the rows below k
+abbrev pub NoRow : ℕ → ℕ → Type 0
+NoRow zero x = Unit {0}
+NoRow (suc k) x = NoRow k x × (x ≡ k → ⊥)
+
+pub past-rows : (k x : ℕ) → NoRow k x → k ≤ x
+past-rows zero x n = zero-le
+past-rows (suc k) x n = omega (arith, past-rows k x (n .0), n .1)
+
+-- the code of the text is the one that begins any nine bits that begin with the six
+pub says-code : {six : ℕ} {text : List ℕ} (w : ℕ) (r : Code) → Says six text → six < 64 → w / 8 ≡ six → r .width ≡ 5 + six / 32
+    → charactersOf r ≡ text → length text ≡ r .count → 1 ≤ r .count → r .count ≤ 2 → FirstCode table w r
+says-code w r s h e wide chars counts least most = record {
+  entry = s .entry;
+  legal = s .legal;
+  begins = (
+    s .begins .0 ++ low 3 w,
+    low-add 6 3 w
+        ∙ ap (λ (n : ℕ). low 6 n ++ low 3 w) e
+        ∙ ap (λ (l : List ℕ). l ++ low 3 w) (s .begins .1)
+        ∙ append-assoc (s .entry .code) (s .begins .0) (low 3 w),
+  );
+  width = wide ∙ sym (s .width);
+  says = s .says ∙ sym chars;
+  counts = ap length (s .says) ∙ counts;
+  short = omega arith;
+  long = omega arith;
+  some = least;
+  few = most;
+}
+
+pub line-end : {six c : ℕ} → six ≡ 58 → six < 64 → (six < 63 → Says six (c ∷ behind six))
+    → Takes six (record { width = 5 + six / 32; count = 2; first = c; second = 10 })
+unfolding charactersOf
+line-end {six} {c} e h says = record {
+  width = refl;
+  some = lit≤ tt;
+  few = lit≤ tt;
+  first = λ j w x. says-code w (record { width = 5 + six / 32; count = 2; first = c; second = 10 }) (says j) h x refl
+      (ap (λ (n : ℕ). c ∷ behind n) (sym e)) (ap (λ (n : ℕ). length (c ∷ behind n)) e) (lit≤ tt) (lit≤ tt);
+}
+
+alone : (six : ℕ) → (six ≡ 58 → ⊥) → behind six ≡ []
+alone six no-end = pick (eqb six 58) refl
+  where
+    pick : (b : Bool) → eqb six 58 ≡ b → cond {A = List ℕ} b (10 ∷ []) [] ≡ []
+    pick true x = absurd (no-end (eqb→eq six 58 (subst⁻¹ T x tt)))
+    pick false x = refl
+
+pub one-character : {six c : ℕ} → (six ≡ 58 → ⊥) → six < 64 → (six < 63 → Says six (c ∷ behind six))
+    → Takes six (record { width = 5 + six / 32; count = 1; first = c; second = 10 })
+unfolding charactersOf
+one-character {six} {c} no-end h says = record {
+  width = refl;
+  some = lit≤ tt;
+  few = lit≤ tt;
+  first = λ j w x. says-code w (record { width = 5 + six / 32; count = 1; first = c; second = 10 }) (says j) h x refl
+      (ap (λ (l : List ℕ). c ∷ l) (sym (alone six no-end))) (ap (λ (l : List ℕ). length (c ∷ l)) (alone six no-end)) (lit≤ tt) (lit≤ tt);
+}
+
+-- six ones, as if they were a code
+ones : Entry
+ones = codeFor 6 63 []
+
+no-ones : T (every (parted ones) table)
+unfolding ones table consecutive codeFor characters numbers low bit every parted begun
+no-ones = tt
+
+ones-halt : (bs : List ℕ) → Begins (ones .code) bs → Halts scheme 0 bs
+ones-halt bs b e h d = parted-never ones e (every-at (parted ones) table no-ones e h) bs b d
+
+module _ (held have w : ℕ) (v : Window held have w) (six : w / 8 ≡ 63) where
+  begin-nine : Begins (ones .code) (low 9 w)
+  unfolding ones codeFor
+  begin-nine = (low 3 w, low-add 6 3 w ∙ ap (λ (n : ℕ). low 6 n ++ low 3 w) six)
+
+  begin-bits : 6 ≤ have → Begins (ones .code) (low have held)
+  unfolding ones codeFor
+  begin-bits h =
+      (low (have - length (ones .code)) held, window-begins held have w (ones .code) v begin-nine (omega (arith, length-low 6 63)))
+
+  -- where they come next, no code does, whatever follows
+  pub ones-stuck : 6 ≤ have → (more : List ℕ) → Halts scheme 0 (low have held ++ more)
+  ones-stuck h more =
+      let b = begin-bits h in
+      ones-halt (low have held ++ more) (b .0 ++ more, ap (λ (l : List ℕ). l ++ more) (b .1) ∙ append-assoc (ones .code) (b .0) more)
+
+  pub ones-last : Halts scheme 0 (low have held)
+  ones-last =
+      by-cases (decLe 6 have) (λ h. ones-halt (low have held) (begin-bits h))
+      (λ h e j d.
+      ones-halt (low 9 w) begin-nine e j
+      (begins-window held have w (e .code) v d (omega (arith, length-low have held, ap length (d .1), length-append (e .code) (d .0)))))
+
+-- so they do not come next in what can be read
+module _ (held have w : ℕ) (v : Window held have w) where
+  pub readable-word : (more : List ℕ) {room : ℕ} → 9 ≤ have → Readable scheme (low have held ++ more) room → w / 8 < 63
+  readable-word more h f =
+      by-cases (decLt (w / 8) 63) (λ l. l)
+      (λ l. absurd (never-both laws (f .reads)
+      (stuck-here (ones-stuck held have w v (omega (arith, v .small)) (omega arith) more)
+      (λ e fill. let no′ : ⊥ = omega (arith, fill .few, length-append (low have held) more, length-low have held) in no′))))
+
+  pub readable-last : {room : ℕ} → Readable scheme (low have held) room → (Fill 7 (low have held) → ⊥) → w / 8 < 63
+  readable-last f no-fill =
+      by-cases (decLt (w / 8) 63) (λ l. l)
+      (λ l. absurd (never-both laws (f .reads) (stuck-here (ones-last held have w v (omega (arith, v .small))) (λ e. no-fill))))
+
+-- the six bits at the top of a word to which the lowest `left` bits of a number are shifted are the first of the window
+module _ (held left top : ℕ) (h : 9 ≤ left) (k : left ≤ 64) (e : top ≡ held * 2 ^ (64 - left) % 2 ^ 64) where
+  window : ℕ
+  window = held / 2 ^ (left - 9) % 512
+
+  six-top : window / 8 ≡ top / 2 ^ 58
+  unfolding window
+  six-top = window-top held left 6 (lit≤ tt) h ∙ sym (top-bits held left top 6 (omega arith) k e)
+
+  -- what is taken of them is taken of the window, where they are not all ones
+  pub six-takes : (r : Code) → Takes (top / 2 ^ 58) r → top / 2 ^ 58 < 63 → (w : ℕ) × Window held left w × FirstCode table w r
+  unfolding window
+  six-takes r t l = (window, window-whole held left h, t .first l window six-top)
+
+  -- and in what can be read they are not
+  pub readable-top : (more : List ℕ) {room : ℕ} → Readable scheme (low left held ++ more) room → top / 2 ^ 58 < 63
+  unfolding window
+  readable-top more f = subst (λ (n : ℕ). n < 63) six-top (readable-word held left window (window-whole held left h) more h f)
