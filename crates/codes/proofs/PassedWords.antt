@@ -60,18 +60,18 @@ module _ (s : List ℕ) (next held : ℕ) (here : next + 8 ≤ length s) (bytes 
         counting-on c (subst₂ (λ (a b : List ℕ). CountedSoFar scheme a b count) beyond-here (beyond-left left h) (counting-front d after))
 
     -- and no code comes next, whatever follows the number
-    pub stuck-word : {scheme : Scheme} (n left count : ℕ) → left ≤ 64 → scheme .unused < left → CountedSoFar scheme (bits s) (beyond s next skip) n
+    pub stuck-word : {scheme : Scheme} {at : ℕ} (n left count : ℕ) → at ≡ next * 8 + (64 - left) → left ≤ 64 → scheme .unused < left → CountedSoFar scheme (bits s) (beyond s next skip) n
         → CountedSoFar scheme (low (64 - skip) held) (low left held) count → ((more : List ℕ) → Halts scheme 0 (low left held ++ more))
-        → Measures scheme (bits s) (Malformed (next * 8 + (64 - left)))
+        → Measures scheme (bits s) (Malformed at)
     unfolding after
-    stuck-word {scheme} n left count h k c d halts =
+    stuck-word {scheme} {at} n left count e h k c d halts =
         let size : length (low left held ++ after) ≡ left + (length s - (next + 8)) * 8 =
         length-append (low left held) after
         ∙ ap₂ (λ (a b : ℕ). a + b) (length-low left held)
         (length-bits (drop (next + 8) s) ∙ ap (λ (a : ℕ). a * 8) (length-drop (next + 8) s)) in
         counting-stuck
         (counting-on c (subst (λ (a : List ℕ). CountedSoFar scheme a (low left held ++ after) count) beyond-here (counting-front d after)))
-        (next * 8 + (64 - left)) (omega (arith, size, length-bits s)) (halts after)
+        at (omega (arith, size, length-bits s)) (halts after)
         (λ f. let no′ : ⊥ = omega (arith, f .few, size) in no′)
 
     pub laying-word : {scheme : Scheme} (bs entry out exit : List ℕ) (n left count : ℕ) → left ≤ 64 → n ≤ length entry
