@@ -1,6 +1,6 @@
 -- Eight bytes of the data passed as one number: what is still to be read after them; and the last bytes. It holds of every scheme.
 -- Assumes nothing.
-use mathlib.Core.Path.{_≡_, sym, ap, ap₂, subst, subst₂, subst⁻¹, _∙_}
+use mathlib.Core.Path.{_≡_, sym, ap, ap₂, subst, subst₂, _∙_}
 use mathlib.Core.List.{List, _++_, append-assoc, append-nil}
 use Prim.Native.Nat.{ℕ, suc, _+_, _-_, _*_, _/_, _%_, _≤_, _<_}
 use native.Mathlib.Numerals.{add-one}
@@ -60,18 +60,18 @@ module _ (s : List ℕ) (next held : ℕ) (here : next + 8 ≤ length s) (bytes 
         counting-on c (subst₂ (λ (a b : List ℕ). CountedSoFar scheme a b count) beyond-here (beyond-left left h) (counting-front d after))
 
     -- and no code comes next, whatever follows the number
-    pub stuck-word : {scheme : Scheme} (n left count : ℕ) → left ≤ 64 → scheme .unused < left → CountedSoFar scheme (bits s) (beyond s next skip) n
+    pub stuck-word : {scheme : Scheme} {at : ℕ} (n left count : ℕ) → at ≡ next * 8 + (64 - left) → left ≤ 64 → scheme .unused < left → CountedSoFar scheme (bits s) (beyond s next skip) n
         → CountedSoFar scheme (low (64 - skip) held) (low left held) count → ((more : List ℕ) → Halts scheme 0 (low left held ++ more))
-        → Measures scheme (bits s) (Malformed (next * 8 + (64 - left)))
+        → Measures scheme (bits s) (Malformed at)
     unfolding after
-    stuck-word {scheme} n left count h k c d halts =
+    stuck-word {scheme} {at} n left count e h k c d halts =
         let size : length (low left held ++ after) ≡ left + (length s - (next + 8)) * 8 =
         length-append (low left held) after
         ∙ ap₂ (λ (a b : ℕ). a + b) (length-low left held)
         (length-bits (drop (next + 8) s) ∙ ap (λ (a : ℕ). a * 8) (length-drop (next + 8) s)) in
         counting-stuck
         (counting-on c (subst (λ (a : List ℕ). CountedSoFar scheme a (low left held ++ after) count) beyond-here (counting-front d after)))
-        (next * 8 + (64 - left)) (omega (arith, size, length-bits s)) (halts after)
+        at (omega (arith, size, length-bits s)) (halts after)
         (λ f. let no′ : ⊥ = omega (arith, f .few, size) in no′)
 
     pub laying-word : {scheme : Scheme} (bs entry out exit : List ℕ) (n left count : ℕ) → left ≤ 64 → n ≤ length entry
@@ -102,15 +102,15 @@ last-held s held next skip end have h e size =
     ∙ ap (drop skip) (sym (ap (λ (l : List ℕ). low ((end - next) * 8) held ++ bits l) (drop-of-length-le s h) ∙ append-nil (low ((end - next) * 8) held)) ∙ e)
 
 -- what the last bits come to, told of the whole
-module _ {scheme : Scheme} (s : List ℕ) (place : Place) (held have at : ℕ) (counted : CountedTo scheme s place) (last : Last s place held have)
-    (size : at + have ≡ length s * 8) (m : Measured) (comes : Measures scheme (low have held) m) where
-  pub last-fits : ((n : ℕ) → T (every (brief 1) (scheme .table n))) → length s < countable → FrontFits (place .n) at m
+module _ {scheme : Scheme} (s : List ℕ) (place : Place) (held have n at : ℕ) (counted : CountedTo scheme s place) (last : Last s place held have)
+    (said : n ≡ place .n) (size : at + have ≡ length s * 8) (m : Measured) (comes : Measures scheme (low have held) m) where
+  pub last-fits : ((k : ℕ) → T (every (brief 1) (scheme .table k))) → length s < countable → FrontFits n at m
   last-fits briefs h =
       let near : (place .next ≤ length s) × (place .skip ≤ (length s - place .next) * 8) = (counted .0 .within, counted .0 .skips) in
-      front-fits scheme briefs (low have held) (place .n) at m comes (omega (arith, near, counted .1, last .size, length-low have held))
+      front-fits scheme briefs (low have held) n at m comes (omega (arith, near, counted .1, last .size, length-low have held))
       (omega (arith, length-low have held))
 
-  pub last-whole : Measures scheme (bits s) (withFront (place .n) at m)
+  pub last-whole : Measures scheme (bits s) (withFront n at m)
   last-whole =
-      counting-whole (subst⁻¹ (λ (l : List ℕ). CountedSoFar scheme (bits s) l (place .n)) (last .same) (counted .2)) at
+      counting-whole (subst₂ (CountedSoFar scheme (bits s)) (sym (last .same)) (sym said) (counted .2)) at
       (omega (arith, length-low have held, length-bits s)) m comes

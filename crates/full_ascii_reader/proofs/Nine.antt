@@ -1,7 +1,7 @@
 -- Any nine bits begin a code: which one, by what number they are.
 -- Assumes nothing.
-use mathlib.Core.Path.{_≡_, refl, sym, ap, subst, subst₂, subst⁻¹, _∙_}
-use mathlib.Core.List.{List, [], _++_}
+use mathlib.Core.Path.{_≡_, refl, sym, ap, ap₂, subst, subst₂, subst⁻¹, _∙_}
+use mathlib.Core.List.{List, [], _∷_, _++_}
 use Prim.Native.Nat.{ℕ, _+_, _/_, _≤_, _<_}
 use native.Mathlib.Omega.{arith}
 use lib.Dec.{T, lit≤}
@@ -73,17 +73,18 @@ pub takes-feed : (w : ℕ) → w ≡ 510 → FirstCode table w (oneCharacter 9 L
 unfolding own coded special low bit
 takes-feed w e = subst⁻¹ (λ (n : ℕ). FirstCode table n (oneCharacter 9 LF)) e (takes-own 510 LF 9 tt ([], refl) refl (lit≤ tt) (lit≤ tt))
 
-pub takes-pair : (w : ℕ) → w ≡ 511 → FirstCode table w (record { width = 9; count = 2; first = CR; second = LF })
+pub takes-pair : {first second : ℕ} (w : ℕ) → w ≡ 511 → first ≡ CR → second ≡ LF
+    → FirstCode table w (record { width = 9; count = 2; first = first; second = second })
 unfolding pair special low bit charactersOf
-takes-pair w e = subst⁻¹ (λ (n : ℕ). FirstCode table n (record { width = 9; count = 2; first = CR; second = LF })) e (record {
+takes-pair {first} {second} w e f s = record {
   entry = pair;
   legal = pair-in;
-  begins = ([], refl);
+  begins = ([], ap (low 9) e);
   width = refl;
-  says = refl;
+  says = ap₂ (λ (a b : ℕ). a ∷ b ∷ []) (sym f) (sym s);
   counts = refl;
   short = lit≤ tt;
   long = lit≤ tt;
   some = lit≤ tt;
   few = lit≤ tt;
-})
+}

@@ -1,6 +1,6 @@
 -- Six bits that are not all ones begin a code; six ones begin none.
 -- Assumes nothing.
-use mathlib.Core.Path.{_≡_, refl, sym, ap, subst, subst⁻¹, _∙_}
+use mathlib.Core.Path.{_≡_, refl, sym, ap, ap₂, subst, subst⁻¹, _∙_}
 use mathlib.Core.Bool.{Bool, true, false, cond, _&&_}
 use mathlib.Core.Logic.{by-cases}
 use mathlib.Core.Option.{Option, none, some}
@@ -9,7 +9,7 @@ use Prim.Native.Nat.{ℕ, zero, suc, _+_, _-_, _*_, _/_, _%_, _^_, _≤_, _<_, z
 use native.Mathlib.Decide.{decLe, decLt}
 use native.Mathlib.Omega.{arith}
 use lib.Dec.{T, eqb, eqb→eq, lit≤}
-use lib.ListN.{length, length-append}
+use lib.ListN.{length, take, length-append}
 use Rattle.bits.specs.Word.{bit}
 use Rattle.bits.proofs.Said.{and-left, and-right}
 use Rattle.codes.specs.Chain.{Entry, Fill, Begins}
@@ -101,16 +101,23 @@ says-code w r s h e wide chars counts least most = record {
   few = most;
 }
 
-pub line-end : {six c : ℕ} → six ≡ 58 → six < 64 → (six < 63 → Says six (c ∷ behind six))
-    → Takes six (record { width = 5 + six / 32; count = 2; first = c; second = 10 })
-unfolding charactersOf
-line-end {six} {c} e h says = record {
-  width = refl;
-  some = lit≤ tt;
-  few = lit≤ tt;
-  first = λ j w x. says-code w (record { width = 5 + six / 32; count = 2; first = c; second = 10 }) (says j) h x refl
-      (ap (λ (n : ℕ). c ∷ behind n) (sym e)) (ap (λ (n : ℕ). length (c ∷ behind n)) e) (lit≤ tt) (lit≤ tt);
+-- what is taken of the six bits: the width that the first tells, and the characters of the code
+taken : (six c : ℕ) (r : Code) → six < 64 → (six < 63 → Says six (c ∷ behind six)) → r .width ≡ 5 + six / 32 → charactersOf r ≡ c ∷ behind six
+    → length (c ∷ behind six) ≡ r .count → 1 ≤ r .count → r .count ≤ 2 → Takes six r
+taken six c r h says wide chars counts least most = record {
+  width = wide;
+  some = least;
+  few = most;
+  first = λ j w e. says-code w r (says j) h e wide chars counts least most;
 }
+
+pub line-end : {six c count second : ℕ} → six ≡ 58 → count ≡ 2 → second ≡ 10 → six < 64 → (six < 63 → Says six (c ∷ behind six))
+    → Takes six (record { width = 5 + six / 32; count = count; first = c; second = second })
+unfolding charactersOf
+line-end {six} {c} {count} {second} e two feed h says =
+    taken six c (record { width = 5 + six / 32; count = count; first = c; second = second }) h says refl
+    (ap₂ (λ (k d : ℕ). take k (c ∷ d ∷ [])) two feed ∙ ap (λ (n : ℕ). c ∷ behind n) (sym e))
+    (ap (λ (n : ℕ). length (c ∷ behind n)) e ∙ sym two) (omega arith) (omega arith)
 
 alone : (six : ℕ) → (six ≡ 58 → ⊥) → behind six ≡ []
 alone six no-end = pick (eqb six 58) refl
@@ -119,16 +126,13 @@ alone six no-end = pick (eqb six 58) refl
     pick true x = absurd (no-end (eqb→eq six 58 (subst⁻¹ T x tt)))
     pick false x = refl
 
-pub one-character : {six c : ℕ} → (six ≡ 58 → ⊥) → six < 64 → (six < 63 → Says six (c ∷ behind six))
-    → Takes six (record { width = 5 + six / 32; count = 1; first = c; second = 10 })
+pub one-character : {six c count second : ℕ} → (six ≡ 58 → ⊥) → count ≡ 1 → six < 64 → (six < 63 → Says six (c ∷ behind six))
+    → Takes six (record { width = 5 + six / 32; count = count; first = c; second = second })
 unfolding charactersOf
-one-character {six} {c} no-end h says = record {
-  width = refl;
-  some = lit≤ tt;
-  few = lit≤ tt;
-  first = λ j w x. says-code w (record { width = 5 + six / 32; count = 1; first = c; second = 10 }) (says j) h x refl
-      (ap (λ (l : List ℕ). c ∷ l) (sym (alone six no-end))) (ap (λ (l : List ℕ). length (c ∷ l)) (alone six no-end)) (lit≤ tt) (lit≤ tt);
-}
+one-character {six} {c} {count} {second} no-end once h says =
+    taken six c (record { width = 5 + six / 32; count = count; first = c; second = second }) h says refl
+    (ap (λ (k : ℕ). take k (c ∷ second ∷ [])) once ∙ ap (λ (l : List ℕ). c ∷ l) (sym (alone six no-end)))
+    (ap (λ (l : List ℕ). length (c ∷ l)) (alone six no-end) ∙ sym once) (omega arith) (omega arith)
 
 -- six ones, as if they were a code
 ones : Entry

@@ -64,7 +64,7 @@ returns-5 c =
 
 returns-6 : tie.Need-returns-6
 returns-6 c =
-    takes-pair (c .before .before .before .args .w) (omega (arith, c .match .rest .1, c .match .rest .0 .1, c .match .rest .0 .0 .1))
+    takes-pair (c .before .before .before .args .w) (omega (arith, c .match .rest .1, c .match .rest .0 .1, c .match .rest .0 .0 .1)) (omega arith) (omega arith)
 
 pub first-code-spec : {M : Type 1} → statement M
 first-code-spec =

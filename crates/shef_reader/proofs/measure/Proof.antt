@@ -55,7 +55,7 @@ returns c =
     let held = f .before .eight .result in
     let ones = r .stuck (c .if1 .taken) in
     stuck-word s (a .loop .next) held (omega arith) (f .before .eight .ensures .1) (f .before .eight .ensures .0) (a .loop .skip) (a .loop .inv .0)
-    (a .loop .n) left (f .skim .result .count) (omega (arith, r .brief)) (omega arith) (a .loop .inv .3) (r .counted)
+    (a .loop .n) left (f .skim .result .count) (omega arith) (omega (arith, r .brief)) (omega arith) (a .loop .inv .3) (r .counted)
     (ones-stuck held left (ones .0) (ones .1) (ones .2) (omega arith))
 
 add-next : tie.Need-add-next Inv-loop μ-loop
