@@ -139,7 +139,7 @@ filled-whole bs = omega (arith, length-filled bs)
 unfoldable pub binary : Entry → Bool
 binary e = every (λ (b : ℕ). ltb b 2) (e .code)
 
-every-binary : (bs : List ℕ) → T (every (λ (b : ℕ). ltb b 2) bs) → Binary bs
+pub every-binary : (bs : List ℕ) → T (every (λ (b : ℕ). ltb b 2) bs) → Binary bs
 unfolding every
 every-binary [] t = tt
 every-binary (b ∷ bs) t =

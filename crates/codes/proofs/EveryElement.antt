@@ -26,3 +26,9 @@ module _ {A : Type 0} where
   every-front f (x ∷ xs) ys t =
       and-both (f x) (every f xs) (and-left (f x) (every f (xs ++ ys)) t)
       (every-front f xs ys (and-right (f x) (every f (xs ++ ys)) t))
+
+  pub every-append : (f : A → Bool) (xs ys : List A) → T (every f xs) → T (every f ys) → T (every f (xs ++ ys))
+  unfolding every
+  every-append f [] ys t u = u
+  every-append f (x ∷ xs) ys t u =
+      and-both (f x) (every f (xs ++ ys)) (and-left (f x) (every f xs) t) (every-append f xs ys (and-right (f x) (every f xs) t) u)

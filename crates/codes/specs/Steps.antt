@@ -6,6 +6,8 @@ pub mod Laid
 pub mod Measure
 pub mod Passed
 pub mod Pending
+pub mod Sending
 pub mod Size
+pub mod Summed
 pub mod Taken
 pub mod Words

@@ -60,3 +60,17 @@ pub struct Place {
     pub skip: u64,
     pub n: usize,
 }
+
+// A code to be sent, or some in a row: the bits as a number, how many they are, and the characters that they take.
+pub struct Sent {
+    pub bits: u64,
+    pub width: u64,
+    pub count: usize,
+}
+
+// What is not yet in the buffer, the lowest `have` bits of `held`, and where the next byte goes.
+pub struct Held {
+    pub n: usize,
+    pub held: u64,
+    pub have: u64,
+}

@@ -1,3 +1,3 @@
 pub mod Counting
-pub mod Joining
+pub mod FourPlain
 pub mod Sending

@@ -14,10 +14,11 @@ use Rattle.bits.specs.Word.{bit}
 use Rattle.codes.specs.Chain.{Entry, codes}
 use Rattle.codes.specs.Pack.{low}
 use Rattle.full_ascii.specs.Table.{HT, LF, CR, six, seven, special, pair}
-use Rattle.full_ascii.specs.Writer.{coded, own, ours, LineEnd}
+use Rattle.full_ascii.specs.Writer.{coded, AllCoded, own, ours, LineEnd}
+use Rattle.codes.specs.Steps.Sending.{Joinable}
+use Rattle.codes.specs.declared.Sent.{Sent}
 use Rattle.codes.proofs.LowBits.{length-low}
-use Rattle.full_ascii_writer.specs.Steps.Sending.{OwnOf, FirstCodesOf}
-use Rattle.full_ascii_writer.specs.declared.Sent.{Sent}
+use Rattle.full_ascii_writer.specs.Steps.Sending.{OwnOf, codesFrom, FirstCodesOf}
 use Rattle.full_ascii.proofs.Entries.{Kind, kind, tab, feed, return, lower, upper, own-lower, own-upper}
 use Rattle.full_ascii.proofs.Writer.{line-end}
 
@@ -89,6 +90,10 @@ plain-short c r t h o = short (kind c t)
     short (return e) = omega (arith, e)
     short (lower j k) = omega (arith, wide, ap (λ (e : Entry). length (e .code)) (own-lower c j k))
     short (upper j k) = omega (arith, wide, ap (λ (e : Entry). length (e .code)) (own-upper c j))
+
+pub plain-joinable : (t : List ℕ) (i : ℕ) (r : Sent) → AllCoded t → i < length t → 32 ≤ getD t i 0 → OwnOf (getD t i 0) r → Joinable 8 r
+plain-joinable t i r all h p o =
+    record { fits = o .fits; long = omega (arith, plain-short (getD t i 0) r (all i h) p o); count = omega (arith, o .count) }
 
 -- a line end at place i of the text
 module _ (t : List ℕ) (i : ℕ) where
@@ -163,6 +168,6 @@ module _ (t : List ℕ) (i : ℕ) (r : Sent) (h : i < length t) (o : OwnOf (getD
       let first = first-own (λ e. omega (arith, end-first t i e)) in
       record { same = first .same; fits = first .fits; long = plain-short (getD t i 0) r c p o; some = first .some; within = first .within }
 
-pub ours-end : (t : List ℕ) (i : ℕ) → length t ≤ i → ours (drop i t) ≡ []
-unfolding ours
-ours-end t i h = ap ours (drop-of-length-le t h)
+pub codes-end : (t : List ℕ) (i : ℕ) → length t ≤ i → codesFrom t i ≡ []
+unfolding ours codes
+codes-end t i h = ap (λ (l : List ℕ). codes (ours l)) (drop-of-length-le t h)

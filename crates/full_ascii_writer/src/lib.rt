@@ -1,7 +1,9 @@
 // Compact Full ASCII (001, 4.5), written: whether a character has a code, how long the data of a text is, and the data. What our writer builds is in
 // full_ascii.
 
+use codes::Held;
 use codes::Needed;
+use codes::Sent;
 use full_ascii::Character;
 use full_ascii::Special;
 ghost use mathlib.Core.Path.{_≡_};
@@ -14,14 +16,7 @@ ghost use Rattle.codes.specs.Chain.{codes};
 ghost use Rattle.codes.specs.Pack.{written};
 ghost use Rattle.codes.specs.Steps.Size.{Needs};
 ghost use Rattle.full_ascii.specs.Writer.{coded, AllCoded, ours, LineEnd};
-ghost use Rattle.full_ascii_writer.specs.Steps.Sending.{OwnOf, FirstCodesOf, bitsFor, BitsUpTo, FourPlain, Joinable, Joined, PutsOurs};
-
-// A code to be sent, or some in a row: the bits as a number, how many they are, and the characters that they take.
-struct Sent {
-    pub bits: u64,
-    pub width: u64,
-    pub count: usize,
-}
+ghost use Rattle.full_ascii_writer.specs.Steps.Sending.{OwnOf, FirstCodesOf, bitsFor, BitsUpTo, FourPlain, PutsOurs};
 
 // The code of a character by itself: a match over its ranges and the control codes picks number and width (RULES, Forms of the code).
 fn own_code(c: u8) -> Sent
@@ -111,18 +106,6 @@ fn bits_for(before: u8, c: u8) -> u16
     code.width as u16
 }
 
-// Where the next characters end that are counted together: 7,000 have fewer than 2^16 bits, and numbers of 16 bits are added twice as many at once as
-// those of 32.
-fn block_end(from: usize, length: usize) -> usize
-    requires { ⌜ from < length ⌝ }
-    ensures { λ r. ⌜ (from < r) × (r ≤ length) × (r ≤ from + 7000) ⌝ }
-{
-    if length - from < 7000 {
-        return length;
-    }
-    from + 7000
-}
-
 // How many bits our data has for the characters from one place up to another.
 fn block_bits(text: &[u8], from: usize, to: usize) -> u16
     requires { ⌜ AllCoded (now text) × (1 ≤ from) × (from ≤ to) × (to ≤ length (now text)) × (to ≤ from + 7000) ⌝ }
@@ -148,7 +131,7 @@ fn code_bits(text: &[u8]) -> u32
     let mut n = bits_for(0, text[0]) as u32;
     let mut i: usize = 1;
     while i < text.len() {
-        let to = block_end(i, text.len());
+        let to = bit_buffer::block_end(i, text.len());
         n += block_bits(text, i, to) as u32;
         i = to;
     }
@@ -183,26 +166,16 @@ fn four_plain(text: &[u8], i: usize) -> bool
     (32 <= text[i]) & ((32 <= text[i + 1]) & ((32 <= text[i + 2]) & (32 <= text[i + 3])))
 }
 
-// Codes and those that come next, as one number.
-fn joined(first: Sent, next: Sent) -> Sent
-    requires { ⌜ Joinable first × Joinable next ⌝ }
-    ensures { λ r. ⌜ Joined first next r ⌝ }
-{
-    Sent {
-        bits: (first.bits << next.width) | next.bits,
-        width: first.width + next.width,
-        count: first.count + next.count,
-    }
-}
-
 // The codes of four characters that are no control characters.
 fn four_codes(text: &[u8], i: usize) -> Sent
     requires { ⌜ AllCoded (now text) × FourPlain (now text) i ⌝ }
     ensures { λ r. ⌜ FirstCodesOf (now (text .entry)) i 28 r ⌝ }
 {
-    let left = joined(own_code(text[i]), own_code(text[i + 1]));
-    let right = joined(own_code(text[i + 2]), own_code(text[i + 3]));
-    joined(left, right)
+    let first = own_code(text[i]);
+    let second = own_code(text[i + 1]);
+    let third = own_code(text[i + 2]);
+    let fourth = own_code(text[i + 3]);
+    bit_buffer::four_joined(first, second, third, fourth)
 }
 
 // The first of our codes of the text from i on, or the first four.
@@ -221,20 +194,16 @@ pub fn put_data(text: &[u8], out: &mut [u8]) -> usize
     requires { ⌜ AllCoded (now text) × (length (written (ours (now text))) ≤ length (now out)) ⌝ }
     ensures { λ r. ⌜ PutsOurs (now (text .entry)) (now (out .entry)) (now (out .exit)) r ⌝ }
 {
-    let mut held: u64 = 0;
-    let mut have: u64 = 0;
+    let mut b = Held {
+        n: 0,
+        held: 0,
+        have: 0,
+    };
     let mut i: usize = 0;
-    let mut n: usize = 0;
     while i < text.len() {
         let next = next_codes(text, i);
-        held = bit_buffer::push(held, next.bits, next.width);
-        have += next.width;
+        b = bit_buffer::send(out, b, next.bits, next.width);
         i += next.count;
-        if 32 <= have {
-            bit_buffer::spill(out, n, held, have);
-            have -= 32;
-            n += 4;
-        }
     }
-    bit_buffer::flush(out, n, held, have)
+    bit_buffer::flush(out, b.n, b.held, b.have)
 }

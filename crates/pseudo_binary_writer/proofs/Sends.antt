@@ -10,10 +10,11 @@ use Rattle.codes.specs.Chain.{codes}
 use Rattle.codes.specs.Pack.{low}
 use Rattle.codes.proofs.LowBits.{length-low}
 use Rattle.codes.specs.Steps.Pending.{Pending}
+use Rattle.codes.specs.Steps.Sending.{SendsBits}
+use Rattle.codes.specs.declared.Held.{Held}
 use Rattle.pseudo_binary.specs.Table.{values}
 use Rattle.pseudo_binary.specs.Writer.{Alike, oursAfter}
-use Rattle.pseudo_binary_writer.specs.Steps.Sending.{NextOf, SendsBits, fourValues, eightValues}
-use Rattle.pseudo_binary_writer.specs.declared.Held.{Held}
+use Rattle.pseudo_binary_writer.specs.Steps.Sending.{NextOf, fourValues, eightValues}
 use Rattle.pseudo_binary_writer.specs.declared.Sent.{Sent}
 use Rattle.pseudo_binary_writer.proofs.Announced.{four-next}
 
@@ -36,9 +37,6 @@ pub record Proceeds (t : List ℕ) (i m : ℕ) (row : List ℕ) (j k : ℕ) : Ty
   pub alike : Alike values (take k (drop j t))
 
 module _ (t : List ℕ) (i m : ℕ) (row : List ℕ) (j k : ℕ) (f : Proceeds t i m row j k) where
-  pub row-next : (more : List ℕ) → codes (oursAfter m (drop i t)) ++ more ≡ row ++ (codes (oursAfter k (drop j t)) ++ more)
-  row-next more = ap (λ (l : List ℕ). l ++ more) (f .next) ∙ append-assoc row (codes (oursAfter k (drop j t))) more
-
   -- fewer bits are left
   pub row-fewer : length (codes (oursAfter k (drop j t))) < length (codes (oursAfter m (drop i t)))
   row-fewer = omega (arith, ap length (f .next), length-append row (codes (oursAfter k (drop j t))), f .some)

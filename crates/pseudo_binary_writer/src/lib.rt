@@ -1,5 +1,6 @@
 // Compact Pseudo Binary written: which characters have codes, how many bytes our data has, and the data.
 
+use codes::Held;
 use codes::Needed;
 ghost use mathlib.Core.Path.{_≡_};
 ghost use mathlib.Core.Logic.{_⊎_};
@@ -8,9 +9,10 @@ ghost use lib.Dec.{T};
 ghost use Prim.Native.Nat.{_+_, _*_, _/_, _≤_, _<_, _^_};
 ghost use lib.ListN.{length, take, drop, getD};
 ghost use Rattle.codes.specs.Coded.{alone};
-ghost use Rattle.codes.specs.Pack.{low, written};
+ghost use Rattle.codes.specs.Pack.{written};
+ghost use Rattle.codes.specs.Steps.Sending.{SendsBits};
 ghost use Rattle.codes.specs.Steps.Size.{Needs};
-ghost use Rattle.pseudo_binary_writer.specs.Steps.Sending.{Between, FirstIndicatorOf, PutsOurs, ExtentOf, NextOf, SendsBits, twoValues, fourValues, eightValues};
+ghost use Rattle.pseudo_binary_writer.specs.Steps.Sending.{Between, FirstIndicatorOf, PutsOurs, ExtentOf, NextOf, twoValues, fourValues, eightValues};
 ghost use Rattle.pseudo_binary.specs.Table.{Kind, coded, AllCoded, values};
 ghost use Rattle.pseudo_binary.specs.Writer.{run, ours, Alike};
 
@@ -266,40 +268,14 @@ fn gathered(text: &[u8], i: usize) -> u64
     (pairs & 0x0fff_0000_0fff_0000) / 16 + (pairs & 0x0000_0fff_0000_0fff)
 }
 
-// What is not yet in the buffer, the lowest `have` bits of `held`, and where the next byte goes.
-struct Held {
-    pub n: usize,
-    pub held: u64,
-    pub have: u64,
-}
-
-// `width` bits more, and if four bytes or more are held then, the upper four of them into the buffer.
-fn send(out: &mut [u8], b: Held, bits: u64, width: u64) -> Held
-    requires { ⌜ (b .have < 32) × (width ≤ 24) × (bits < 2 ^ width) × (b .n + (b .have + width) / 8 ≤ length (now out)) ⌝ }
-    ensures { λ r. ⌜ SendsBits (now (out .entry)) (now (out .exit)) b (low width bits) r ⌝ }
-{
-    let n = b.n;
-    let held = bit_buffer::push(b.held, bits, width);
-    let have = b.have + width;
-    if have < 32 {
-        return Held { n, held, have };
-    }
-    bit_buffer::spill(out, n, held, have);
-    Held {
-        n: n + 4,
-        held,
-        have: have - 32,
-    }
-}
-
 // The values of eight characters in a row, from place i on, sent at once.
 fn send_eight(text: &[u8], i: usize, out: &mut [u8], b: Held) -> Held
     requires { ⌜ (i + 8 ≤ length (now text)) × (b .have < 32) × (b .n + (b .have + 48) / 8 ≤ length (now out)) ⌝ }
     ensures { λ r. ⌜ SendsBits (now (out .entry)) (now (out .exit)) b (eightValues (now (text .entry)) i) r ⌝ }
 {
     let values = gathered(text, i);
-    let first = send(out, b, values / 0x1_0000_0000, 24);
-    send(out, first, values % 0x1_0000_0000, 24)
+    let first = bit_buffer::send(out, b, values / 0x1_0000_0000, 24);
+    bit_buffer::send(out, first, values % 0x1_0000_0000, 24)
 }
 
 // What our writer builds of the text, at the front of the buffer; how many bytes it is.
@@ -321,7 +297,7 @@ pub fn put_data(text: &[u8], out: &mut [u8]) -> usize
             announced -= 8;
         } else {
             let next = next_codes(text, i, announced);
-            b = send(out, b, next.bits, next.width);
+            b = bit_buffer::send(out, b, next.bits, next.width);
             i += next.count;
             announced = next.values;
         }

@@ -1,7 +1,7 @@
 -- `full_ascii_writer::four_plain` meets its contract. Assumes nothing.
 use native.Mathlib.Omega.{arith}
 use borrow.Author.Needs.{needs}
-use Rattle.full_ascii_writer.proofs.Joining.{says-four}
+use Rattle.full_ascii_writer.proofs.FourPlain.{says-four}
 use Rattle.full_ascii_writer.proofs.four_plain.Statement.{statement}
 use Rattle.full_ascii_writer.proofs.four_plain.Tie as tie
 

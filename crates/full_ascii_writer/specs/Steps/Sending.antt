@@ -2,16 +2,17 @@
 -- Assumes nothing.
 use mathlib.Core.Path.{_≡_}
 use mathlib.Core.Bool.{cond, _&&_}
-use mathlib.Core.List.{List, [], _∷_, _++_}
+use mathlib.Core.List.{List, [], _∷_}
 use Prim.Native.Nat.{ℕ, _+_, _-_, _^_, _≤_, _<_}
 use lib.Dec.{eqb}
 use lib.ListN.{length, drop, getD}
 use Rattle.codes.specs.Chain.{codes}
-use Rattle.codes.specs.Steps.Laid.{Fronted}
 use Rattle.codes.specs.Pack.{low, written}
+use Rattle.codes.specs.Steps.Laid.{Fronted}
+use Rattle.codes.specs.Steps.Sending.{FirstOf}
+use Rattle.codes.specs.declared.Sent.{Sent}
 use Rattle.full_ascii.specs.Table.{LF, CR}
 use Rattle.full_ascii.specs.Writer.{own, ours}
-use Rattle.full_ascii_writer.specs.declared.Sent.{Sent}
 
 -- the character's own code: its number and its width
 pub record OwnOf (c : ℕ) (r : Sent) : Type 0 where
@@ -20,26 +21,13 @@ pub record OwnOf (c : ℕ) (r : Sent) : Type 0 where
   pub long : r .width ≤ 9
   pub count : r .count ≡ 1
 
--- the first of our codes of the text from place i on, at most so many bits of them; then come those of the characters that they leave
-pub record FirstCodesOf (text : List ℕ) (i most : ℕ) (r : Sent) : Type 0 where
-  pub same : codes (ours (drop i text)) ≡ low (r .width) (r .bits) ++ codes (ours (drop (i + r .count) text))
-  pub fits : r .bits < 2 ^ r .width
-  pub long : r .width ≤ most
-  pub some : 1 ≤ r .count
-  pub within : i + r .count ≤ length text
+-- our codes of the text from place i on
+abbrev pub codesFrom : List ℕ → ℕ → List ℕ
+codesFrom text i = codes (ours (drop i text))
 
--- so few bits and characters that two such may be joined: those of two plain characters at most
-pub record Joinable (r : Sent) : Type 0 where
-  pub fits : r .bits < 2 ^ r .width
-  pub long : r .width ≤ 14
-  pub count : r .count ≤ 2
-
--- the bits of both, one after the other
-pub record Joined (first next r : Sent) : Type 0 where
-  pub same : low (r .width) (r .bits) ≡ low (first .width) (first .bits) ++ low (next .width) (next .bits)
-  pub fits : r .bits < 2 ^ r .width
-  pub width : r .width ≡ first .width + next .width
-  pub count : r .count ≡ first .count + next .count
+-- the first of them, at most so many bits; then come those of the characters that they leave
+abbrev pub FirstCodesOf : List ℕ → ℕ → ℕ → Sent → Type 0
+FirstCodesOf text = FirstOf (codesFrom text) (length text)
 
 -- how many bits a character adds that comes after `before`: those of its own code, and none where the two are a line end, whose code has as many bits
 -- as that of CR alone

@@ -6,15 +6,12 @@ use mathlib.Core.List.{List, _∷_, _++_}
 use Prim.Native.Nat.{ℕ, _+_, _*_, _%_, _^_, _≤_, _<_}
 use lib.Dec.{leb}
 use lib.ListN.{length, take, drop, getD}
-use Rattle.bits.specs.Row.{Bytes}
 use Rattle.codes.specs.Chain.{Entry, codes}
 use Rattle.codes.specs.Steps.Laid.{Fronted}
 use Rattle.codes.specs.Pack.{low, written}
-use Rattle.codes.specs.Steps.Pending.{Pending}
 use Rattle.pseudo_binary.specs.Table.{Kind, values, isOf}
 use Rattle.pseudo_binary.specs.Writer.{Alike, oursAfter, ours}
 use Rattle.pseudo_binary_writer.specs.declared.Sent.{Sent}
-use Rattle.pseudo_binary_writer.specs.declared.Held.{Held}
 use Rattle.pseudo_binary_writer.specs.declared.Extent.{Extent}
 
 -- the characters of kind k are those from a to b
@@ -64,13 +61,6 @@ pub record NextOf (m : ℕ) (text : List ℕ) (r : Sent) : Type 0 where
   pub long : r .width ≤ 24
   pub within : r .count + r .values ≤ length text
   pub alike : Alike values (take (r .values) (drop (r .count) text))
-
--- these bits come next, and are sent: what was pending after them is pending, with less than four bytes of it held
-pub record SendsBits (entry exit : List ℕ) (b : Held) (row : List ℕ) (r : Held) : Type 0 where
-  pub few : r .have < 32
-  pub place : r .n * 8 + r .have ≡ b .n * 8 + b .have + length row
-  pub same : (w front : List ℕ) (m : ℕ) (rest : List ℕ) → Bytes w → m + length w ≤ length front
-      → Pending w front entry m (b .n) (b .held) (b .have) (row ++ rest) → Pending w front exit m (r .n) (r .held) (r .have) rest
 
 -- what our writer builds of the text stands at the front of the buffer, r bytes, and nothing else changed
 abbrev pub PutsOurs : List ℕ → List ℕ → List ℕ → ℕ → Type 0

@@ -1,0 +1,120 @@
+-- What our writer builds of a text, in bits: character by character, and how many.
+-- Assumes nothing.
+use mathlib.Core.Path.{_≡_, refl, sym, ap, ap₂, _∙_}
+use mathlib.Core.Bool.{Bool, true, false, cond}
+use mathlib.Core.List.{List, [], _∷_, _++_, append-assoc}
+use Prim.Native.Nat.{ℕ, suc, _+_, _*_, _/_, _%_, _≤_, _<_}
+use native.Mathlib.Numerals.{add-one}
+use native.Mathlib.Omega.{arith}
+use lib.Dec.{T, eqb}
+use lib.ListN.{length, take, drop, getD, length-append, drop-of-length-le}
+use lib.Seq.{take-suc, drop-cons}
+use borrow.Author.Tests.{eqb-true, eqb-false}
+use Rattle.bits.specs.Word.{bit}
+use Rattle.codes.specs.Chain.{Entry, codes}
+use Rattle.codes.specs.Coded.{lastOf}
+use Rattle.codes.specs.Consecutive.{codeFor, consecutive}
+use Rattle.codes.specs.LineEnds.{eachAfter, ended}
+use Rattle.codes.specs.Lookup.{same, found, saying}
+use Rattle.codes.specs.Pack.{Binary, low, numbers, written}
+use Rattle.codes.proofs.BitsInBytes.{binary, length-written}
+use Rattle.codes.proofs.EachAfter.{last-append, each-append, each-codes, each-every}
+use Rattle.codes.proofs.EveryElement.{every, every-append}
+use Rattle.codes.proofs.FoundEntries.{wide, saying-every, codes-every, codes-binary, codes-width, each-found}
+use Rattle.codes.proofs.PassedEntries.{codes-append}
+use Rattle.numeric.specs.Table.{characters, table}
+use Rattle.numeric.specs.Translation.{sent, itself, specials, translation}
+use Rattle.numeric.specs.Writer.{own, baseOf, evened, sentFor, ours}
+use Rattle.numeric.specs.Steps.InFour.{inFour, bitsFor, bitsFrom}
+
+-- ---- base characters in four bits
+
+pub in-four-append : (a b : List ℕ) → inFour (a ++ b) ≡ inFour a ++ inFour b
+unfolding inFour
+in-four-append a b =
+    ap codes (each-append (λ (c : ℕ). saying table (c ∷ [])) 0 a b)
+    ∙ codes-append (eachAfter (λ before c. saying table (c ∷ [])) 0 a) (eachAfter (λ before c. saying table (c ∷ [])) 0 b)
+
+-- a base character
+unfoldable isBase : ℕ → Bool
+isBase c = found (saying table (c ∷ []))
+
+in-four-length : (base : List ℕ) → T (every isBase base) → length (inFour base) ≡ 4 * length base
+unfolding inFour isBase table consecutive codeFor characters numbers low bit wide every
+in-four-length base t =
+    codes-width 4 (eachAfter (λ before c. saying table (c ∷ [])) 0 base)
+    (each-every (wide 4) (λ before c. saying table (c ∷ [])) (λ b c. saying-every (wide 4) table tt (c ∷ [])) 0 base)
+    ∙ ap (λ (n : ℕ). 4 * n) (each-found table 0 base t)
+
+-- what goes for a text are base characters
+base-of-base : (text : List ℕ) → T (every isBase (baseOf text))
+unfolding baseOf own isBase translation itself specials sent table consecutive codeFor characters numbers saying same found every
+base-of-base text =
+    codes-every isBase (eachAfter own 0 text)
+    (each-every (λ (e : Entry). every isBase (e .code)) own
+    (λ b c. saying-every (λ (e : Entry). every isBase (e .code)) translation tt (ended b c)) 0 text)
+
+evened-base : (n : ℕ) → T (every isBase (evened n))
+unfolding evened isBase table consecutive codeFor characters numbers saying same found every
+evened-base n = pick (eqb (n % 2) 1)
+  where
+    pick : (b : Bool) → T (every isBase (cond b (32 ∷ []) []))
+    pick true = tt
+    pick false = tt
+
+pub evened-length : (n : ℕ) → length (evened n) ≡ n % 2
+unfolding evened
+evened-length n = pick (eqb (n % 2) 1) refl
+  where
+    pick : (b : Bool) → eqb (n % 2) 1 ≡ b → length {A = ℕ} (cond b (32 ∷ []) []) ≡ n % 2
+    pick true e = sym (eqb-true (n % 2) 1 e)
+    pick false e =
+        let no′ : n % 2 ≡ 1 → ⊥ = eqb-false (n % 2) 1 e in
+        let none : 0 ≡ n % 2 = omega arith in none
+
+-- ---- what our writer builds
+
+module _ (text : List ℕ) where
+  pub ours-binary : Binary (codes (ours text))
+  unfolding ours table consecutive codeFor characters numbers low bit binary every
+  ours-binary =
+      codes-binary (ours text) (each-every binary (λ before c. saying table (c ∷ [])) (λ b c. saying-every binary table tt (c ∷ [])) 0 (sentFor text))
+
+  pub ours-bits : codes (ours text) ≡ bitsFrom text 0
+  unfolding ours sentFor baseOf bitsFrom inFour lastOf
+  ours-bits = in-four-append (baseOf text) (evened (length (baseOf text)))
+
+  pub ours-length : length (codes (ours text)) ≡ 4 * (length (baseOf text) + length (baseOf text) % 2)
+  unfolding ours sentFor inFour
+  ours-length =
+      in-four-length (sentFor text) (every-append isBase (baseOf text) (evened (length (baseOf text))) (base-of-base text) (evened-base (length (baseOf text))))
+      ∙ ap (λ (n : ℕ). 4 * n)
+      (length-append (baseOf text) (evened (length (baseOf text))) ∙ ap (λ (n : ℕ). length (baseOf text) + n) (evened-length (length (baseOf text))))
+
+  pub data-length : length (written (ours text)) ≡ (length (baseOf text) + 1) / 2
+  data-length =
+      let pairs : length (baseOf text) + length (baseOf text) % 2 ≡ 2 * ((length (baseOf text) + 1) / 2) = omega arith in
+      omega (arith, length-written (ours text), ours-length)
+
+  -- the bits of the text's characters, one by one, and the end
+  pub bits-next : (i : ℕ) → i < length text → bitsFrom text i ≡ bitsFor (lastOf (take i text)) (getD text i 0) ++ bitsFrom text (i + 1)
+  unfolding bitsFrom bitsFor
+  bits-next i h =
+      let before : ℕ = lastOf (take i text) in
+      let c : ℕ = getD text i 0 in
+      let later : List ℕ = codes (eachAfter own (lastOf (take (i + 1) text)) (drop (i + 1) text)) in
+      let pad : List ℕ = inFour (evened (length (baseOf text))) in
+      let behind : c ≡ lastOf (take (i + 1) text) =
+      sym (ap (λ (k : ℕ). lastOf (take k text)) (add-one i) ∙ ap lastOf (take-suc text i 0 h) ∙ last-append (take i text) c) in
+      let split : codes (eachAfter own before (drop i text)) ≡ codes (own before c) ++ later =
+      ap (λ (l : List ℕ). codes (eachAfter own before l)) (drop-cons text i 0 h)
+      ∙ each-codes own before c (drop (suc i) text)
+      ∙ ap₂ (λ (b k : ℕ). codes (own before c) ++ codes (eachAfter own b (drop k text))) behind (sym (add-one i)) in
+      ap (λ (l : List ℕ). inFour l ++ pad) split
+      ∙ ap (λ (l : List ℕ). l ++ pad) (in-four-append (codes (own before c)) later)
+      ∙ append-assoc (inFour (codes (own before c))) (inFour later) pad
+
+  pub bits-end : (i : ℕ) → length text ≤ i → bitsFrom text i ≡ inFour (evened (length (baseOf text)))
+  unfolding bitsFrom inFour eachAfter codes
+  bits-end i h =
+      ap (λ (l : List ℕ). inFour (codes (eachAfter own (lastOf (take i text)) l)) ++ inFour (evened (length (baseOf text)))) (drop-of-length-le text h)

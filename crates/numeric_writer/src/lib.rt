@@ -1,0 +1,139 @@
+// Compact Numeric ASCII (001, 4.3), written: whether a character has a code where it stands, how long the data of a text is, and the data. What our writer
+// builds is in numeric.
+
+use codes::Needed;
+ghost use mathlib.Core.Path.{_≡_};
+ghost use Prim.Native.Nat.{_+_, _-_, _*_, _^_, _<_, _≤_};
+ghost use lib.Dec.{T};
+ghost use lib.ListN.{length, take, getD};
+ghost use Rattle.codes.specs.Chain.{codes};
+ghost use Rattle.codes.specs.Coded.{lastOf};
+ghost use Rattle.codes.specs.Pack.{written};
+ghost use Rattle.codes.specs.Steps.Size.{Needs};
+ghost use Rattle.codes.specs.Steps.Summed.{SumUpTo};
+ghost use Rattle.numeric.specs.Writer.{own, baseOf, clashes, codedBehind, coded, AllCoded, ours};
+ghost use Rattle.numeric_writer.specs.Steps.Sending.{stands, ofSigns, codesFor};
+
+// The character before the one at i; none stands before the first, and 0 stands for it.
+fn before_at(text: &[u8], i: usize) -> u8
+    requires { ⌜ i ≤ length (now text) ⌝ }
+    ensures { λ r. ⌜ r ≡ lastOf (take i (now (text .entry))) ⌝ }
+{
+    if i == 0 {
+        return 0;
+    }
+    text[i - 1]
+}
+
+// Whether two signs go for a character: no branch here, nor in the three that follow, so that a loop over a text is done for many characters at once.
+fn of_signs(c: u8) -> bool
+    ensures { λ r. ⌜ r ≡ ofSigns c ⌝ }
+{
+    (c == b'\r') | ((c == b'\n') | ((c == b'#') | ((c == b'=') | (c == b'E'))))
+}
+
+// Whether a character stands in one of the tables.
+fn in_tables(c: u8) -> bool
+    ensures { λ r. ⌜ r ≡ stands c ⌝ }
+{
+    of_signs(c) | ((c == b' ') | ((b'+' <= c) & (c <= b':')))
+}
+
+// Whether the character before is a base character that would make a sequence of Table 5 with the first that goes for this one.
+fn clashing(before: u8, c: u8) -> bool
+    ensures { λ r. ⌜ r ≡ clashes before (codes (own before c)) ⌝ }
+{
+    let sign = of_signs(c) | ((c == b'+') | (c == b'-'));
+    let point = (c == b'.') | (c == b':');
+    (((before == b'+') | (before == b'-')) & sign) | ((before == b'.') & point)
+}
+
+// Whether a character that comes after `before` has a code.
+fn coded_after(before: u8, c: u8) -> bool
+    ensures { λ r. ⌜ r ≡ codedBehind before c ⌝ }
+{
+    in_tables(c) & !clashing(before, c)
+}
+
+// Whether the character at i has a code where it stands.
+pub fn is_coded(text: &[u8], i: usize) -> bool
+    requires { ⌜ i < length (now text) ⌝ }
+    ensures { λ r. ⌜ r ≡ coded (take i (now (text .entry))) (getD (now (text .entry)) i 0) ⌝ }
+{
+    coded_after(before_at(text, i), text[i])
+}
+
+// How many base characters go for a character that comes after `before`.
+fn codes_for(before: u8, c: u8) -> u16
+    requires { ⌜ T (stands c) ⌝ }
+    ensures { λ r. ⌜ (r ≡ codesFor before c) × (r ≤ 2) ⌝ }
+{
+    if (before == b'\r') & (c == b'\n') {
+        return 0;
+    }
+    if of_signs(c) | (c == b':') {
+        return 2;
+    }
+    1
+}
+
+// Where the next characters end that are counted together: 7,000 have fewer than 2^16 codes, and numbers of 16 bits are added twice as many at once as
+// those of 32.
+fn block_end(from: usize, length: usize) -> usize
+    requires { ⌜ from < length ⌝ }
+    ensures { λ r. ⌜ (from < r) × (r ≤ length) × (r ≤ from + 7000) ⌝ }
+{
+    if length - from < 7000 {
+        return length;
+    }
+    from + 7000
+}
+
+// How many base characters go for the characters from one place up to another.
+fn block_codes(text: &[u8], from: usize, to: usize) -> u16
+    requires { ⌜ AllCoded (now text) × (1 ≤ from) × (from ≤ to) × (to ≤ length (now text)) × (to ≤ from + 7000) ⌝ }
+    ensures { λ r. ⌜ (r ≤ 2 * (to - from)) × SumUpTo codesFor (now (text .entry)) from to r ⌝ }
+{
+    let mut n: u16 = 0;
+    let mut i = from;
+    while i < to {
+        n += codes_for(text[i - 1], text[i]);
+        i += 1;
+    }
+    n
+}
+
+// How many base characters go for the text. No character comes before the first: 0 stands for it.
+fn base_length(text: &[u8]) -> u32
+    requires { ⌜ AllCoded (now text) × (2 * length (now text) < 2 ^ 32) ⌝ }
+    ensures { λ r. ⌜ r ≡ length (baseOf (now (text .entry))) ⌝ }
+{
+    if text.len() == 0 {
+        return 0;
+    }
+    let mut n = codes_for(0, text[0]) as u32;
+    let mut i: usize = 1;
+    while i < text.len() {
+        let to = block_end(i, text.len());
+        n += block_codes(text, i, to) as u32;
+        i = to;
+    }
+    n
+}
+
+// How many bytes our data of the text has, or that they are more than the most that may be. A text has a code a character or more, since two go for a
+// line end of two: one that is certainly too long is not looked at.
+pub fn coded_length(text: &[u8], most: u16) -> Needed
+    requires { ⌜ AllCoded (now text) ⌝ }
+    ensures { λ r. ⌜ Needs most coded (now (text .entry)) (written (ours (now (text .entry)))) r ⌝ }
+{
+    let room = most as usize * 2;
+    if room < text.len() {
+        return Needed::TooMany;
+    }
+    let n = base_length(text) as usize;
+    if room < n {
+        return Needed::TooMany;
+    }
+    Needed::Bytes((n + 1) / 2)
+}

@@ -1,0 +1,172 @@
+// Compact SHEF Alphanumeric ASCII (001, 4.4), written: whether a character has a code, how long the data of a text is, and the data. What our writer builds is
+// in shef.
+
+use codes::Held;
+use codes::Needed;
+use codes::Sent;
+ghost use mathlib.Core.Path.{_≡_};
+ghost use Prim.Native.Nat.{_+_, _-_, _*_, _^_, _<_, _≤_};
+ghost use lib.Dec.{T};
+ghost use lib.ListN.{length, take, getD};
+ghost use Rattle.codes.specs.Chain.{codes};
+ghost use Rattle.codes.specs.Coded.{alone, lastOf};
+ghost use Rattle.codes.specs.Pack.{value, written};
+ghost use Rattle.codes.specs.Steps.Laid.{Fronted};
+ghost use Rattle.codes.specs.Steps.Size.{Needs};
+ghost use Rattle.codes.specs.Steps.Summed.{SumUpTo};
+ghost use Rattle.shef.specs.Writer.{coded, AllCoded, own, ours};
+ghost use Rattle.shef_writer.specs.Steps.Sending.{OwnOf, FirstCodesOf, bitsFor};
+
+// Whether the character has a code: no branch, so that a loop over a text is done for many characters at once.
+pub fn is_coded(c: u8) -> bool
+    ensures { λ r. ⌜ r ≡ coded c ⌝ }
+{
+    let line_end = (c == b'\r') | (c == b'\n');
+    let single = (c == b' ') | ((c == b'#') | (c == b'='));
+    line_end | (single | (((b'+' <= c) & (c <= b';')) | ((b'A' <= c) & (c <= b'Z'))))
+}
+
+// The number that is a character's code, for CR and LF that of a line end: a match over its ranges and single characters.
+fn number_of(c: u8) -> u8
+    requires { ⌜ T (coded c) ⌝ }
+    ensures { λ r. ⌜ r ≡ value (codes (own 0 c)) ⌝ }
+{
+    match c {
+        b'\r' => 58,
+        b'\n' => 58,
+        b' ' => 10,
+        b'#' => 59,
+        b'=' => 60,
+        b'+'..=b'/' => c - 32,
+        b'0'..=b'9' => c - 48,
+        b':'..=b';' => c + 3,
+        // A to Z
+        _ => c - 33,
+    }
+}
+
+// The code of a character that comes after `before`: five bits, or six if the highest is 1. LF right behind CR has none.
+fn own_code(before: u8, c: u8) -> Sent
+    requires { ⌜ T (coded c) ⌝ }
+    ensures { λ r. ⌜ OwnOf before c r ⌝ }
+{
+    if (before == b'\r') & (c == b'\n') {
+        return Sent {
+            bits: 0,
+            width: 0,
+            count: 1,
+        };
+    }
+    let number = number_of(c) as u64;
+    Sent {
+        bits: number,
+        width: 5 + number / 32,
+        count: 1,
+    }
+}
+
+// How many bits that code has: again no branch.
+fn bits_for(before: u8, c: u8) -> u16
+    requires { ⌜ T (coded c) ⌝ }
+    ensures { λ r. ⌜ (r ≡ bitsFor before c) × (r ≤ 6) ⌝ }
+{
+    if (before == b'\r') & (c == b'\n') {
+        return 0;
+    }
+    if (b':' <= c) | ((c == b'#') | ((c == b'\r') | (c == b'\n'))) {
+        return 6;
+    }
+    5
+}
+
+// How many bits our data has for the characters from one place up to another.
+fn block_bits(text: &[u8], from: usize, to: usize) -> u16
+    requires { ⌜ AllCoded (now text) × (1 ≤ from) × (from ≤ to) × (to ≤ length (now text)) × (to ≤ from + 7000) ⌝ }
+    ensures { λ r. ⌜ (r ≤ 6 * (to - from)) × SumUpTo bitsFor (now (text .entry)) from to r ⌝ }
+{
+    let mut n: u16 = 0;
+    let mut i = from;
+    while i < to {
+        n += bits_for(text[i - 1], text[i]);
+        i += 1;
+    }
+    n
+}
+
+// How many bits our codes of the text have together. No character comes before the first: 0 stands for it.
+fn code_bits(text: &[u8]) -> u32
+    requires { ⌜ AllCoded (now text) × (6 * length (now text) < 2 ^ 32) ⌝ }
+    ensures { λ r. ⌜ r ≡ length (codes (ours (now (text .entry)))) ⌝ }
+{
+    if text.len() == 0 {
+        return 0;
+    }
+    let mut n = bits_for(0, text[0]) as u32;
+    let mut i: usize = 1;
+    while i < text.len() {
+        let to = bit_buffer::block_end(i, text.len());
+        n += block_bits(text, i, to) as u32;
+        i = to;
+    }
+    n
+}
+
+// How many bytes our data of the text has, or that they are more than the most that may be. A text has three bits a character or more, since a line end has
+// six for two: one that is certainly too long is not looked at.
+pub fn coded_length(text: &[u8], most: u16) -> Needed
+    requires { ⌜ AllCoded (now text) ⌝ }
+    ensures { λ r. ⌜ Needs most (alone coded) (now (text .entry)) (written (ours (now (text .entry)))) r ⌝ }
+{
+    let room = most as usize * 8;
+    if room / 3 < text.len() {
+        return Needed::TooMany;
+    }
+    let n = code_bits(text) as usize;
+    if room < n {
+        return Needed::TooMany;
+    }
+    Needed::Bytes((n + 7) / 8)
+}
+
+// The codes of four characters, of which the first comes after `before`.
+fn four_codes(text: &[u8], i: usize, before: u8) -> Sent
+    requires { ⌜ AllCoded (now text) × (i + 4 ≤ length (now text)) × (before ≡ lastOf (take i (now text))) ⌝ }
+    ensures { λ r. ⌜ FirstCodesOf (now (text .entry)) i 24 r ⌝ }
+{
+    let first = own_code(before, text[i]);
+    let second = own_code(text[i], text[i + 1]);
+    let third = own_code(text[i + 1], text[i + 2]);
+    let fourth = own_code(text[i + 2], text[i + 3]);
+    bit_buffer::four_joined(first, second, third, fourth)
+}
+
+// The first of our codes of the text from i on, or the first four.
+fn next_codes(text: &[u8], i: usize) -> Sent
+    requires { ⌜ AllCoded (now text) × (i < length (now text)) ⌝ }
+    ensures { λ r. ⌜ FirstCodesOf (now (text .entry)) i 24 r ⌝ }
+{
+    let before = bit_buffer::before_at(text, i);
+    if 4 <= text.len() - i {
+        return four_codes(text, i, before);
+    }
+    own_code(before, text[i])
+}
+
+// What our writer builds of the text, at the front of the buffer; how many bytes it is.
+pub fn put_data(text: &[u8], out: &mut [u8]) -> usize
+    requires { ⌜ AllCoded (now text) × (length (written (ours (now text))) ≤ length (now out)) ⌝ }
+    ensures { λ r. ⌜ Fronted (written (ours (now (text .entry)))) (now (out .entry)) (now (out .exit)) r ⌝ }
+{
+    let mut b = Held {
+        n: 0,
+        held: 0,
+        have: 0,
+    };
+    let mut i: usize = 0;
+    while i < text.len() {
+        let next = next_codes(text, i);
+        b = bit_buffer::send(out, b, next.bits, next.width);
+        i += next.count;
+    }
+    bit_buffer::flush(out, b.n, b.held, b.have)
+}
