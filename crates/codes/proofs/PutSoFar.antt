@@ -6,7 +6,7 @@ use Prim.Native.Nat.{ℕ, _+_, _-_, _*_, _/_, _%_, _^_, _≤_, _<_}
 use native.Mathlib.Nat.{zero-add}
 use native.Mathlib.Omega.{arith}
 use lib.Dec.{lit<}
-use lib.ListN.{length, drop, replicate}
+use lib.ListN.{length, drop, replicate, length-append, length-replicate}
 use Rattle.bits.specs.Row.{Bytes}
 use Rattle.codes.specs.Chain.{Entry, codes}
 use Rattle.codes.specs.Pack.{Binary, low, gap, written}
@@ -16,7 +16,7 @@ use Rattle.codes.specs.Steps.Pending.{Pending}
 use Rattle.codes.specs.Steps.Sending.{FirstOf, Sends, SendsBits, PutSoFar}
 use Rattle.codes.specs.declared.Held.{Held}
 use Rattle.codes.specs.declared.Sent.{Sent}
-use Rattle.codes.proofs.BitsInBytes.{bits-written, written-bytes, gap-few}
+use Rattle.codes.proofs.BitsInBytes.{bits-written, written-bytes, gap-few, length-bits}
 use Rattle.codes.proofs.LastBytes.{flush-room, flushed}
 use Rattle.codes.proofs.LowBits.{length-low}
 use Rattle.codes.proofs.PendingBytes.{pending-none, pending-push, pending-length, pending-bytes, row-room}
@@ -56,6 +56,19 @@ module _ (es : List Entry) (entry : List ℕ) (binary : Binary (codes es)) (held
   module _ (out : List ℕ) (b : Held) where
     pub put-length : (rest : List ℕ) → PutSoFar es entry out b rest → length out ≡ length entry
     put-length rest p = pending-length (written es) entry 0 bytes room out (b .n) (b .held) (b .have) (rest ++ ones) (p .pending)
+
+    -- what is held and what is still to come, with the fill, are whole bytes
+    pub put-whole : (rest : List ℕ) → PutSoFar es entry out b rest → (b .have + length rest + gap (length (codes es))) % 8 ≡ 0
+    put-whole rest p =
+        omega (
+          arith,
+          ap length (p .pending .pending),
+          length-bits (drop (p .pending .count) (written es)),
+          length-append (low (b .have) (b .held)) (rest ++ ones),
+          length-append rest ones,
+          length-low (b .have) (b .held),
+          length-replicate {A = ℕ} (gap (length (codes es))) 1,
+        )
 
     -- the bits that come next
     module _ (row rest : List ℕ) (p : PutSoFar es entry out b (row ++ rest)) where

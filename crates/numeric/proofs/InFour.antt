@@ -9,7 +9,7 @@ use native.Mathlib.Omega.{arith}
 use lib.Dec.{T, eqb}
 use lib.ListN.{length, take, drop, getD, length-append, drop-of-length-le}
 use lib.Seq.{take-suc, drop-cons}
-use borrow.Author.Tests.{eqb-true, eqb-false}
+use borrow.Author.Tests.{eqb-true, eqb-false, eq-eqb, ne-eqb}
 use Rattle.bits.specs.Word.{bit}
 use Rattle.codes.specs.Chain.{Entry, codes}
 use Rattle.codes.specs.Coded.{lastOf}
@@ -62,7 +62,7 @@ evened-base n = pick (eqb (n % 2) 1)
     pick true = tt
     pick false = tt
 
-pub evened-length : (n : ℕ) → length (evened n) ≡ n % 2
+evened-length : (n : ℕ) → length (evened n) ≡ n % 2
 unfolding evened
 evened-length n = pick (eqb (n % 2) 1) refl
   where
@@ -71,6 +71,18 @@ evened-length n = pick (eqb (n % 2) 1) refl
     pick false e =
         let no′ : n % 2 ≡ 1 → ⊥ = eqb-false (n % 2) 1 e in
         let none : 0 ≡ n % 2 = omega arith in none
+
+-- the space's four bits where the number is odd
+pub pad-length : (n : ℕ) → length (inFour (evened n)) ≡ 4 * (n % 2)
+pad-length n = in-four-length (evened n) (evened-base n) ∙ ap (λ (k : ℕ). 4 * k) (evened-length n)
+
+pub pad-odd : (n : ℕ) → n % 2 ≡ 1 → inFour (evened n) ≡ low 4 10
+unfolding inFour evened eachAfter table consecutive codeFor characters numbers saying same codes low bit
+pad-odd n h = ap (λ (b : Bool). inFour (cond b (32 ∷ []) [])) (eq-eqb (n % 2) 1 h)
+
+pub pad-even : (n : ℕ) → n % 2 ≡ 0 → inFour (evened n) ≡ []
+unfolding inFour evened eachAfter codes
+pad-even n h = ap (λ (b : Bool). inFour (cond b (32 ∷ []) [])) (ne-eqb (n % 2) 1 (λ e. let no′ : ⊥ = omega arith in no′))
 
 -- ---- what our writer builds
 

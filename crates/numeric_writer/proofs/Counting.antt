@@ -48,7 +48,7 @@ own-other before c h = rw (ne-eqb before 13 h)
 abbrev count : ℕ → ℕ → ℕ
 count before c = cond (eqb before 13 && eqb c 10) 0 (cond (ofSigns c || eqb c 58) 2 1)
 
-implied : (a b : Bool) → T (not a || b) → T a → T b
+pub implied : (a b : Bool) → T (not a || b) → T a → T b
 implied true b t u = t
 implied false b t u = absurd u
 

@@ -1,7 +1,9 @@
 // Compact Numeric ASCII (001, 4.3), written: whether a character has a code where it stands, how long the data of a text is, and the data. What our writer
 // builds is in numeric.
 
+use codes::Held;
 use codes::Needed;
+use codes::Sent;
 ghost use mathlib.Core.Path.{_≡_};
 ghost use Prim.Native.Nat.{_+_, _-_, _*_, _^_, _<_, _≤_};
 ghost use lib.Dec.{T};
@@ -9,10 +11,11 @@ ghost use lib.ListN.{length, take, getD};
 ghost use Rattle.codes.specs.Chain.{codes};
 ghost use Rattle.codes.specs.Coded.{lastOf};
 ghost use Rattle.codes.specs.Pack.{written};
+ghost use Rattle.codes.specs.Steps.Laid.{Fronted};
 ghost use Rattle.codes.specs.Steps.Size.{Needs};
 ghost use Rattle.codes.specs.Steps.Summed.{SumUpTo};
 ghost use Rattle.numeric.specs.Writer.{own, baseOf, clashes, codedBehind, coded, AllCoded, ours};
-ghost use Rattle.numeric_writer.specs.Steps.Sending.{stands, ofSigns, codesFor};
+ghost use Rattle.numeric_writer.specs.Steps.Sending.{stands, ofSigns, codesFor, OwnOf, Packed, FirstCodesOf};
 
 // The character before the one at i; none stands before the first, and 0 stands for it.
 fn before_at(text: &[u8], i: usize) -> u8
@@ -136,4 +139,113 @@ pub fn coded_length(text: &[u8], most: u16) -> Needed
         return Needed::TooMany;
     }
     Needed::Bytes((n + 1) / 2)
+}
+
+// What goes for a character, by Table 4 and Table 5: how many bits, and in the lowest eight the codes. LLVM makes a table of the match, whose arms are
+// constants.
+fn packed_codes(c: u8) -> u16
+    requires { ⌜ T (stands c) ⌝ }
+    ensures { λ r. ⌜ Packed c r ⌝ }
+{
+    match c {
+        b'0' => 0x400,
+        b'1' => 0x401,
+        b'2' => 0x402,
+        b'3' => 0x403,
+        b'4' => 0x404,
+        b'5' => 0x405,
+        b'6' => 0x406,
+        b'7' => 0x407,
+        b'8' => 0x408,
+        b'9' => 0x409,
+        b' ' => 0x40A,
+        b'+' => 0x40B,
+        b',' => 0x40C,
+        b'-' => 0x40D,
+        b'.' => 0x40E,
+        b'/' => 0x40F,
+        b'#' => 0x8BD,
+        b'=' => 0x8DB,
+        b':' => 0x8EE,
+        b'E' => 0x8DD,
+        // CR and LF
+        _ => 0x8BB,
+    }
+}
+
+// What goes for a character that comes after `before`: nothing for LF right behind CR.
+fn own_codes(before: u8, c: u8) -> Sent
+    requires { ⌜ T (stands c) ⌝ }
+    ensures { λ r. ⌜ OwnOf before c r ⌝ }
+{
+    if (before == b'\r') & (c == b'\n') {
+        return Sent {
+            bits: 0,
+            width: 0,
+            count: 1,
+        };
+    }
+    let packed = packed_codes(c) as u64;
+    Sent {
+        bits: packed % 256,
+        width: packed / 256,
+        count: 1,
+    }
+}
+
+// The codes of the character at i.
+fn next_code(text: &[u8], i: usize) -> Sent
+    requires { ⌜ AllCoded (now text) × (i < length (now text)) ⌝ }
+    ensures { λ r. ⌜ FirstCodesOf (now (text .entry)) i 8 r ⌝ }
+{
+    own_codes(before_at(text, i), text[i])
+}
+
+// The codes of four characters, none of them the first of the text.
+fn four_codes(text: &[u8], i: usize) -> Sent
+    requires { ⌜ AllCoded (now text) × (1 ≤ i) × (i + 4 ≤ length (now text)) ⌝ }
+    ensures { λ r. ⌜ FirstCodesOf (now (text .entry)) i 32 r ⌝ }
+{
+    let first = own_codes(text[i - 1], text[i]);
+    let second = own_codes(text[i], text[i + 1]);
+    let third = own_codes(text[i + 1], text[i + 2]);
+    let fourth = own_codes(text[i + 2], text[i + 3]);
+    bit_buffer::four_joined(first, second, third, fourth)
+}
+
+// The codes of the character at i, or of four from there on.
+fn next_codes(text: &[u8], i: usize) -> Sent
+    requires { ⌜ AllCoded (now text) × (i < length (now text)) ⌝ }
+    ensures { λ r. ⌜ FirstCodesOf (now (text .entry)) i 32 r ⌝ }
+{
+    if i == 0 {
+        return next_code(text, i);
+    }
+    if text.len() - i < 4 {
+        return next_code(text, i);
+    }
+    four_codes(text, i)
+}
+
+// What our writer builds of the text, at the front of the buffer; how many bytes it is. Where half a byte is left at the end a space fills it.
+pub fn put_data(text: &[u8], out: &mut [u8]) -> usize
+    requires { ⌜ AllCoded (now text) × (length (written (ours (now text))) ≤ length (now out)) ⌝ }
+    ensures { λ r. ⌜ Fronted (written (ours (now (text .entry)))) (now (out .entry)) (now (out .exit)) r ⌝ }
+{
+    let mut b = Held {
+        n: 0,
+        held: 0,
+        have: 0,
+    };
+    let mut i: usize = 0;
+    while i < text.len() {
+        let next = next_codes(text, i);
+        b = bit_buffer::send(out, b, next.bits, next.width);
+        i += next.count;
+    }
+    if b.have % 8 == 4 {
+        let even = bit_buffer::send(out, b, 10, 4);
+        return bit_buffer::flush(out, even.n, even.held, even.have);
+    }
+    bit_buffer::flush(out, b.n, b.held, b.have)
 }

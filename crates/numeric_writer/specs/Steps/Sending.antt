@@ -1,14 +1,20 @@
 -- What goes for a character, as the writer tells and counts it.
 -- Assumes nothing.
+use mathlib.Core.Path.{_≡_}
 use mathlib.Core.Bool.{Bool, _||_}
-use Prim.Native.Nat.{ℕ}
+use mathlib.Core.List.{List}
+use Prim.Native.Nat.{ℕ, _/_, _%_, _^_, _≤_, _<_}
 use lib.Dec.{eqb}
 use lib.ListN.{length}
 use Rattle.codes.specs.Chain.{codes}
 use Rattle.codes.specs.LineEnds.{ended}
 use Rattle.codes.specs.Lookup.{found, saying}
+use Rattle.codes.specs.Pack.{low}
+use Rattle.codes.specs.Steps.Sending.{FirstOf}
+use Rattle.codes.specs.declared.Sent.{Sent}
 use Rattle.numeric.specs.Translation.{translation}
 use Rattle.numeric.specs.Writer.{own}
+use Rattle.numeric.specs.Steps.InFour.{bitsFor, bitsFrom}
 
 -- the character stands in one of the tables, or is a line end
 abbrev pub stands : ℕ → Bool
@@ -21,3 +27,20 @@ ofSigns c = eqb c 13 || (eqb c 10 || (eqb c 35 || (eqb c 61 || eqb c 69)))
 -- how many base characters go for a character that comes after another
 abbrev pub codesFor : ℕ → ℕ → ℕ
 codesFor before c = length (codes (own before c))
+
+-- what goes for a character that comes after another: its bits as a number
+pub record OwnOf (before c : ℕ) (r : Sent) : Type 0 where
+  pub same : bitsFor before c ≡ low (r .width) (r .bits)
+  pub fits : r .bits < 2 ^ r .width
+  pub long : r .width ≤ 8
+  pub count : r .count ≡ 1
+
+-- the same of a character that comes after no CR, in one number: how many bits, and in the lowest eight the codes
+pub record Packed (c packed : ℕ) : Type 0 where
+  pub same : bitsFor 0 c ≡ low (packed / 256) (packed % 256)
+  pub fits : packed % 256 < 2 ^ (packed / 256)
+  pub long : packed / 256 ≤ 8
+
+-- the first bits of the text from place i on, at most so many; then come those of the characters that they leave
+abbrev pub FirstCodesOf : List ℕ → ℕ → ℕ → Sent → Type 0
+FirstCodesOf text = FirstOf (bitsFrom text) (length text)

@@ -1,0 +1,206 @@
+-- What goes for a text as the writer sends it: for a character, for the next ones, and the space at the end.
+-- Assumes nothing.
+use mathlib.Core.Path.{_≡_, refl, sym, ap, ap₂, subst, subst⁻¹, subst₂, _∙_}
+use mathlib.Core.Bool.{Bool, true, false, cond, not, _&&_, _||_, true≢false}
+use mathlib.Core.Logic.{by-cases}
+use mathlib.Core.List.{List, [], _∷_, _++_, append-nil}
+use Prim.Native.Nat.{ℕ, zero, suc, _+_, _-_, _*_, _/_, _%_, _^_, _≤_, _<_}
+use native.Mathlib.Decide.{ℕ-discrete}
+use native.Mathlib.Omega.{arith}
+use lib.Dec.{T, leb, ltb, eqb, leb→le, ltb→lt, eqb→eq, lit≤, lit<}
+use lib.ListN.{length, take, getD}
+use borrow.Author.Tests.{ne-eqb, eqb-true}
+use Rattle.bits.specs.Word.{bit}
+use Rattle.codes.specs.Chain.{Entry, codes}
+use Rattle.codes.specs.Coded.{lastOf}
+use Rattle.codes.specs.Consecutive.{codeFor, consecutive}
+use Rattle.codes.specs.LineEnds.{eachAfter, ended}
+use Rattle.codes.specs.Lookup.{same, found, saying}
+use Rattle.codes.specs.Pack.{low, numbers, written}
+use Rattle.codes.specs.Steps.Sending.{Joinable, FourJoined, PutSoFar}
+use Rattle.codes.specs.declared.Held.{Held}
+use Rattle.codes.specs.declared.Sent.{Sent}
+use Rattle.bits.proofs.Said.{and-left, and-right}
+use Rattle.codes.proofs.ByteTests.{every-below}
+use Rattle.codes.proofs.EachAfter.{last-taken}
+use Rattle.codes.proofs.EveryElement.{every}
+use Rattle.codes.proofs.FoundEntries.{same-rows}
+use Rattle.codes.proofs.JoinedCodes.{first-four}
+use Rattle.codes.proofs.LastBytes.{gap-none}
+use Rattle.codes.proofs.PutSoFar.{put-whole}
+use Rattle.numeric.specs.Table.{characters, table}
+use Rattle.numeric.specs.Translation.{sent, itself, specials, translation}
+use Rattle.numeric.specs.Writer.{own, baseOf, ours}
+use Rattle.numeric.specs.Steps.InFour.{inFour, bitsFor, bitsFrom}
+use Rattle.numeric.proofs.InFour.{ours-binary, ours-length, pad-length, pad-odd, pad-even, bits-next, bits-end}
+use Rattle.numeric_writer.specs.Steps.Sending.{stands, OwnOf, Packed, FirstCodesOf}
+use Rattle.numeric_writer.proofs.Counting.{implied}
+
+-- ---- what goes for one character
+
+-- the characters of both tables, and what goes for each: how many bits, and in the lowest eight the codes
+abbrev rows : List ℕ
+rows = 48 ∷ 49 ∷ 50 ∷ 51 ∷ 52 ∷ 53 ∷ 54 ∷ 55 ∷ 56 ∷ 57 ∷ 32 ∷ 43 ∷ 44 ∷ 45 ∷ 46 ∷ 47 ∷ 35 ∷ 61 ∷ 58 ∷ 69 ∷ 13 ∷ 10 ∷ []
+
+abbrev going : List ℕ
+going =
+    0x400 ∷ 0x401 ∷ 0x402 ∷ 0x403 ∷ 0x404 ∷ 0x405 ∷ 0x406 ∷ 0x407 ∷ 0x408 ∷ 0x409 ∷ 0x40A ∷ 0x40B ∷ 0x40C ∷ 0x40D ∷ 0x40E ∷ 0x40F
+    ∷ 0x8BD ∷ 0x8DB ∷ 0x8EE ∷ 0x8DD ∷ 0x8BB ∷ 0x8BB ∷ []
+
+abbrev goes : ℕ → ℕ → Bool
+goes c packed = same (bitsFor 0 c) (low (packed / 256) (packed % 256)) && (ltb (packed % 256) (2 ^ (packed / 256)) && leb (packed / 256) 8)
+
+all-go : T (every (λ (k : ℕ). goes (getD rows k 0) (getD going k 0)) (numbers 0 22))
+unfolding bitsFor inFour own eachAfter translation itself specials sent table consecutive codeFor characters numbers ended saying same found codes low bit every
+all-go = tt
+
+own-goes : (c packed : ℕ) → T (goes c packed) → Packed c packed
+own-goes c packed t =
+    let bits : Bool = same (bitsFor 0 c) (low (packed / 256) (packed % 256)) in
+    let small : Bool = ltb (packed % 256) (2 ^ (packed / 256)) in
+    let few : Bool = leb (packed / 256) 8 in
+    let sizes : T (small && few) = and-right bits (small && few) t in
+    record {
+      same = same-rows (bitsFor 0 c) (low (packed / 256) (packed % 256)) (and-left bits (small && few) t);
+      fits = ltb→lt (packed % 256) (2 ^ (packed / 256)) (and-left small few sizes);
+      long = leb→le (packed / 256) 8 (and-right small few sizes);
+    }
+
+pub row-goes : (c k : ℕ) {packed : ℕ} → k < 22 → c ≡ getD rows k 0 → packed ≡ getD going k 0 → Packed c packed
+row-goes c k h e p =
+    subst₂ (λ (x y : ℕ). Packed x y) (sym e) (sym p)
+    (own-goes (getD rows k 0) (getD going k 0) (every-below 22 (λ (n : ℕ). goes (getD rows n 0) (getD going n 0)) all-go k h))
+
+-- what is left of them where the others are ruled out, the last first
+abbrev pub NoneOf : List ℕ → ℕ → Type 0
+NoneOf [] c = Unit
+NoneOf (k ∷ ks) c = NoneOf ks c × (c ≡ k → ⊥)
+
+abbrev others : List ℕ
+others = 69 ∷ 58 ∷ 61 ∷ 35 ∷ 47 ∷ 46 ∷ 45 ∷ 44 ∷ 43 ∷ 32 ∷ 57 ∷ 56 ∷ 55 ∷ 54 ∷ 53 ∷ 52 ∷ 51 ∷ 50 ∷ 49 ∷ 48 ∷ []
+
+abbrev either : ℕ → List ℕ → Bool
+either c [] = eqb c 13 || eqb c 10
+either c (k ∷ ks) = eqb c k || either c ks
+
+left-over : (ks : List ℕ) (c : ℕ) → NoneOf ks c → T (either c ks) → T (eqb c 13 || eqb c 10)
+left-over [] c n t = t
+left-over (k ∷ ks) c n t =
+    left-over ks c (n .0) (subst (λ (b : Bool). T (b || either c ks)) (ne-eqb c k (n .1)) t)
+
+one-of-all : T (every (λ (c : ℕ). not (stands c) || either c others) (numbers 0 256))
+unfolding translation itself specials sent characters numbers ended saying same found every
+one-of-all = tt
+
+pub end-goes : (c : ℕ) {packed : ℕ} → c < 256 → T (stands c) → NoneOf others c → packed ≡ 0x8BB → Packed c packed
+end-goes c {packed} h s n p = pick (eqb c 13) (eqb c 10) refl refl
+    (left-over others c n (implied (stands c) (either c others) (every-below 256 (λ (x : ℕ). not (stands x) || either x others) one-of-all c h) s))
+  where
+    pick : (a b : Bool) → eqb c 13 ≡ a → eqb c 10 ≡ b → T (a || b) → Packed c packed
+    pick true b e f t = row-goes c 20 (lit< tt) (eqb-true c 13 e) p
+    pick false true e f t = row-goes c 21 (lit< tt) (eqb-true c 10 f) p
+    pick false false e f t = absurd t
+
+-- ---- after another character
+
+pub own-none : (before c : ℕ) {bits width : ℕ} → (eqb before 13 && eqb c 10) ≡ true → bits ≡ 0 → width ≡ 0 → OwnOf before c (record { bits = bits; width = width; count = 1 })
+unfolding bitsFor inFour own eachAfter translation itself specials sent characters numbers ended saying same found codes low
+own-none before c e x y =
+    let both : T (eqb before 13 && eqb c 10) = subst⁻¹ T e tt in
+    let nothing : bitsFor 13 10 ≡ low 0 0 = refl in
+    subst₂ (λ (bits width : ℕ). OwnOf before c (record { bits = bits; width = width; count = 1 })) (sym x) (sym y)
+    (record {
+      same = ap₂ bitsFor (eqb→eq before 13 (and-left (eqb before 13) (eqb c 10) both)) (eqb→eq c 10 (and-right (eqb before 13) (eqb c 10) both)) ∙ nothing;
+      fits = lit< tt;
+      long = lit≤ tt;
+      count = refl;
+    })
+
+own-same : (before c : ℕ) → (eqb before 13 && eqb c 10) ≡ false → own before c ≡ own 0 c
+unfolding own ended
+own-same before c e =
+    ap (λ (text : List ℕ). saying translation (cond (eqb c 13) (13 ∷ 10 ∷ []) text)) (pick (eqb before 13) (eqb c 10) e)
+  where
+    pick : (r f : Bool) → (r && f) ≡ false → cond f (cond r [] (13 ∷ 10 ∷ [])) (c ∷ []) ≡ cond f (13 ∷ 10 ∷ []) (c ∷ [])
+    pick true true x = absurd (true≢false x)
+    pick true false x = refl
+    pick false true x = refl
+    pick false false x = refl
+
+pub own-some : (before c packed : ℕ) {bits width : ℕ} → (eqb before 13 && eqb c 10) ≡ false → Packed c packed → bits ≡ packed % 256 → width ≡ packed / 256
+    → OwnOf before c (record { bits = bits; width = width; count = 1 })
+unfolding bitsFor
+own-some before c packed e o x y =
+    subst₂ (λ (bits width : ℕ). OwnOf before c (record { bits = bits; width = width; count = 1 })) (sym x) (sym y)
+    (record {
+      same = ap (λ (es : List Entry). inFour (codes es)) (own-same before c e) ∙ o .same;
+      fits = o .fits;
+      long = o .long;
+      count = refl;
+    })
+
+-- ---- the next characters of a text
+
+module _ (t : List ℕ) (i : ℕ) (r : Sent) (h : i < length t) where
+  pub first-own : OwnOf (lastOf (take i t)) (getD t i 0) r → FirstCodesOf t i 8 r
+  first-own o = record {
+    same = bits-next t i h
+        ∙ ap₂ (λ (l : List ℕ) (k : ℕ). l ++ bitsFrom t (i + k)) (o .same) (sym (o .count));
+    fits = o .fits;
+    long = o .long;
+    some = omega (arith, o .count);
+    within = omega (arith, o .count);
+  }
+
+  -- behind the character at j
+  pub first-behind : (j : ℕ) → i ≡ j + 1 → OwnOf (getD t j 0) (getD t i 0) r → FirstCodesOf t i 8 r
+  first-behind j e o =
+      let here : i - 1 ≡ j = omega arith in
+      first-own (subst⁻¹ (λ (b : ℕ). OwnOf b (getD t i 0) r) (last-taken t i (omega arith) (omega arith) ∙ ap (λ (k : ℕ). getD t k 0) here) o)
+
+pub own-joinable : {before c : ℕ} {r : Sent} → OwnOf before c r → Joinable 8 r
+own-joinable o = record { fits = o .fits; long = o .long; count = omega (arith, o .count) }
+
+-- four of them, none the first of the text
+pub four-behind : (t : List ℕ) (i : ℕ) → 1 ≤ i → i + 4 ≤ length t → (a b c d r : Sent) → OwnOf (getD t (i - 1) 0) (getD t i 0) a
+    → OwnOf (getD t i 0) (getD t (i + 1) 0) b → OwnOf (getD t (i + 1) 0) (getD t (i + 2) 0) c → OwnOf (getD t (i + 2) 0) (getD t (i + 3) 0) d
+    → FourJoined a b c d r → FirstCodesOf t i 32 r
+four-behind t i h k a b c d r f g m n j =
+    first-four (bitsFrom t) (length t) i (i + 1) (i + 2) (i + 3) 8 a b c d r (first-behind t i a (omega arith) (i - 1) (omega arith) f)
+    (first-behind t (i + 1) b (omega arith) i (omega arith) g) (first-behind t (i + 2) c (omega arith) (i + 1) (omega arith) m)
+    (first-behind t (i + 3) d (omega arith) (i + 2) (omega arith) n) (omega (arith, f .count)) (omega (arith, g .count)) (omega (arith, m .count)) j
+
+-- ---- the space at the end
+
+odd : (have m : ℕ) → (have + 4 * m) % 8 ≡ 0 → m < 2 → have % 8 ≡ 4 → m ≡ 1
+odd have zero w l h = absurd (let no′ : ⊥ = omega arith in no′)
+odd have (suc zero) w l h = refl
+odd have (suc (suc m)) w l h = absurd (let no′ : ⊥ = omega arith in no′)
+
+even : (have m : ℕ) → (have + 4 * m) % 8 ≡ 0 → m < 2 → (have % 8 ≡ 4 → ⊥) → m ≡ 0
+even have zero w l h = refl
+even have (suc zero) w l h = absurd (h (let four : have % 8 ≡ 4 = omega arith in four))
+even have (suc (suc m)) w l h = absurd (let no′ : ⊥ = omega arith in no′)
+
+module _ (t entry out : List ℕ) (b : Held) (i : ℕ) (held : length (written (ours t)) ≤ length entry) (end : length t ≤ i)
+    (p : PutSoFar (ours t) entry out b (bitsFrom t i)) where
+  abbrev size : ℕ
+  size = length (baseOf t)
+
+  -- with what is held it makes whole bytes
+  whole : (b .have + 4 * (size % 2)) % 8 ≡ 0
+  whole =
+      let bytes : length (codes (ours t)) ≡ 8 * ((size + 1) / 2) = omega (arith, ours-length t) in
+      omega (
+        arith,
+        put-whole (ours t) entry (ours-binary t) held out b (bitsFrom t i) p,
+        ap length (bits-end t i end),
+        pad-length size,
+        gap-none (length (codes (ours t))) ((size + 1) / 2) bytes,
+      )
+
+  pub pad-space : b .have % 8 ≡ 4 → PutSoFar (ours t) entry out b (low 4 10 ++ [])
+  pad-space h = subst (PutSoFar (ours t) entry out b) (bits-end t i end ∙ pad-odd size (odd (b .have) (size % 2) whole (omega arith) h) ∙ sym (append-nil (low 4 10))) p
+
+  pub pad-nothing : (b .have % 8 ≡ 4 → ⊥) → PutSoFar (ours t) entry out b []
+  pad-nothing h = subst (PutSoFar (ours t) entry out b) (bits-end t i end ∙ pad-even size (even (b .have) (size % 2) whole (omega arith) h)) p
