@@ -1,0 +1,4 @@
+pub mod Pairs
+pub mod Passing
+pub mod Putting
+pub mod Reading
