@@ -186,9 +186,9 @@ static bool read_numeric(const uint8_t *data, size_t length, uint8_t *text, size
     size_t at = 0;
     *count = 0;
     while (at < bits) {
-        unsigned first = numeric_characters[bits_at(data, at, 4)];
-        unsigned second = bits - at > 4 ? numeric_characters[bits_at(data, at + 4, 4)] : 0;
-        unsigned meaning = meaning_of(first, second);
+        unsigned first = numeric_characters[bits_at(data, at, 4)], meaning = 0;
+        if ((first == '+' || first == '-' || first == '.') && bits - at > 4)
+            meaning = meaning_of(first, numeric_characters[bits_at(data, at + 4, 4)]);
         put_piece(text, count, meaning ? meaning : first);
         at += meaning ? 8 : 4;
     }
