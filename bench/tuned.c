@@ -13,12 +13,14 @@ static uint16_t check_table[4][256];   /* what each header byte leaves as remain
 static uint32_t mending_table[1024];   /* the at most two of 31 bits that leave a remainder */
 static uint8_t mending_count[1024];    /* how many those are, or NOT_MENDABLE */
 static uint8_t ascii_code[256], ascii_width[256];
-static uint8_t numeric_code[256], numeric_width[256], shef_code[256], shef_width[256];
+static uint8_t shef_code[256], shef_width[256];
 static uint8_t shef_character[64];     /* by six bits, of which a code has the first five or all; CONTROL for a line end and for six ones */
 static uint16_t shef_seen[256];        /* the width, and above it what is no plain character */
 static uint32_t numeric_next[256];     /* see text_of_numeric */
 static uint32_t numeric_text[4 * 256];
 static uint32_t numeric_seen[256];     /* see measure_text_numeric */
+static uint16_t numeric_number[256];   /* the characters that are not line ends, numbered from 1 */
+static uint32_t numeric_two[32 * 32];  /* the codes of one such character or two, and above them, from bit 16, their width */
 
 enum { CONTROL = 0, LINE_END = 58, SIX_ONES = 63, SHEF_OTHER = 0x100 };
 enum { IS_LF = 1, FIRST_SIGN = 8, FIRST_POINT = 16, NO_CODE = 32, ONE_CODE = 0x400, TWO_CODES = 0x800 };
@@ -87,6 +89,12 @@ static void prepare_numeric_byte(unsigned state, unsigned before, unsigned byte)
     numeric_next[byte] |= (at < count ? states[codes[at]] * 8 : 0) << 8 * state;
 }
 
+static void put_number(unsigned character, unsigned number, uint32_t codes)
+{
+    numeric_number[character] = number;
+    numeric_two[number] = codes;
+}
+
 static void prepare_numeric(void)
 {
     for (unsigned byte = 0; byte < 256; byte++) {
@@ -98,14 +106,13 @@ static void prepare_numeric(void)
     }
     for (unsigned i = 0; i < 16; i++) {
         unsigned character = base[i];
-        numeric_code[character] = i;
-        numeric_width[character] = 4;
+        put_number(character, 1 + i, i | 4 << 16);
         numeric_seen[character] = ONE_CODE | ANY;
     }
     for (unsigned i = 0; i < 5; i++) {
         unsigned character = special[i];
-        numeric_code[character] = special_code[i];
-        numeric_width[character] = 8;
+        if (character != '\r')
+            put_number(character, 16 + i, special_code[i] | 8 << 16);
         numeric_seen[character] = TWO_CODES | ANY | (character == ':' ? FIRST_POINT : FIRST_SIGN);
     }
     numeric_seen['+'] |= FIRST_SIGN | LAST_SIGN;
@@ -113,6 +120,11 @@ static void prepare_numeric(void)
     numeric_seen['.'] |= FIRST_POINT | LAST_POINT;
     numeric_seen['\n'] = numeric_seen['\r'] | IS_LF;
     numeric_seen['\r'] |= IS_CR;
+    for (unsigned i = 1; i < 21; i++)
+        for (unsigned k = 1; k < 21; k++) {
+            uint32_t left = numeric_two[i], right = numeric_two[k];
+            numeric_two[i << 5 | k] = (left & 0xffff) << (right >> 16) | (right & 0xffff) | ((left >> 16) + (right >> 16)) << 16;
+        }
 }
 
 void tuned_prepare(void)
@@ -696,15 +708,18 @@ static void data_of_numeric(const uint8_t *text, size_t length, uint8_t *data)
             uint32_t four;
             memcpy(&four, text + at, 4);
             if (likely(none_below_32(four))) {
-                put_four(&out, four, numeric_code, numeric_width);
+                uint32_t left = numeric_two[numeric_number[four & 255] << 5 | numeric_number[four >> 8 & 255]];
+                uint32_t right = numeric_two[numeric_number[four >> 16 & 255] << 5 | numeric_number[four >> 24]];
+                put(&out, (left & 0xffff) << (right >> 16) | (right & 0xffff), (left >> 16) + (right >> 16));
                 at += 4;
                 continue;
             }
         }
         unsigned character = text[at++];
-        if (likely(character >= 32))
-            put(&out, numeric_code[character], numeric_width[character]);
-        else {
+        if (likely(character >= 32)) {
+            uint32_t codes = numeric_two[numeric_number[character]];
+            put(&out, codes & 0xffff, codes >> 16);
+        } else {
             put(&out, 0xbb, 8);
             if (character == '\r' && at < length && text[at] == '\n')
                 at++;
