@@ -43,7 +43,7 @@ abbrev pub Sayer : List Entry → List ℕ → List Entry → Type 0
 Sayer table text l = (l ≡ []) ⊎ ((e : Entry) × In e table × (e .says ≡ text) × (l ≡ e ∷ []))
 
 pub sayer : (table : List Entry) (text : List ℕ) → Sayer table text (saying table text)
-unfolding saying
+unfolding saying first
 sayer table text =
     ⊎-elim (λ n. inl n) (λ o. inr (o .0, o .1, same-is (o .0 .says) text (o .2), o .3)) (searched table (λ (e : Entry). same (e .says) text))
 
@@ -52,7 +52,7 @@ abbrev pub Meant : List Entry → List ℕ → List Entry → Type 0
 Meant table code l = (l ≡ []) ⊎ ((e : Entry) × In e table × (e .code ≡ code) × (l ≡ e ∷ []))
 
 pub meant : (table : List Entry) (code : List ℕ) → Meant table code (meaning table code)
-unfolding meaning
+unfolding meaning first
 meant table code =
     ⊎-elim (λ n. inl n) (λ o. inr (o .0, o .1, same-is (o .0 .code) code (o .2), o .3)) (searched table (λ (e : Entry). same (e .code) code))
 
@@ -85,11 +85,11 @@ module _ (key : Entry → List ℕ) where
       (List·Memᴰ·cases-cons h)
 
 pub saying-own : (table : List Entry) → T (unlike (λ e. e .says) table) → (e : Entry) → In e table → saying table (e .says) ≡ e ∷ []
-unfolding saying
+unfolding saying first
 saying-own table t e h = own-found (λ (d : Entry). d .says) table t e h
 
 pub meaning-own : (table : List Entry) → T (unlike (λ e. e .code) table) → (e : Entry) → In e table → meaning table (e .code) ≡ e ∷ []
-unfolding meaning
+unfolding meaning first
 meaning-own table t e h = own-found (λ (d : Entry). d .code) table t e h
 
 -- something was found, or nothing

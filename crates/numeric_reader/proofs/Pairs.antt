@@ -14,7 +14,7 @@ use lib.ListN.{length, set, length-append}
 use borrow.Author.Tests.{ne-eqb, lt-ltb, le-ltb}
 use Rattle.codes.specs.Chain.{Entry, texts}
 use Rattle.codes.specs.LineEnds.{LF, CR}
-use Rattle.codes.specs.Lookup.{same, found, meaning}
+use Rattle.codes.specs.Lookup.{same, found, first, meaning}
 use Rattle.codes.specs.Steps.Laid.{laid}
 use Rattle.codes.proofs.LaidRows.{set-laid, set-laid-two}
 use Rattle.numeric.specs.Translation.{sent, specials, translated}
@@ -66,7 +66,7 @@ joined plain plain together alone = refl
 pub translated-two : (a b : ℕ) (base : List ℕ)
     → translated (a ∷ b ∷ base)
     ≡ cond (eqb (bitAnd (sign a) (sign b)) 0) (a ∷ translated (b ∷ base)) (paired (sign a) (sign b) ++ translated base)
-unfolding translated meaning specials same looked sign sent
+unfolding translated meaning specials same looked sign sent first
 translated-two a b base = joined (sort a) (sort b) (translated base) (a ∷ translated (b ∷ base))
 
 sign-e : sign 69 ≡ 0

@@ -14,7 +14,7 @@ use borrow.Author.Tests.{ne-eqb}
 use Rattle.codes.specs.Chain.{Entry, codes}
 use Rattle.codes.specs.Coded.{alone, CodedBelow}
 use Rattle.codes.specs.LineEnds.{ended}
-use Rattle.codes.specs.Lookup.{same, found, saying}
+use Rattle.codes.specs.Lookup.{same, found, first, saying}
 use Rattle.codes.specs.Pack.{numbers}
 use Rattle.codes.specs.Steps.Summed.{sumAfter}
 use Rattle.bits.proofs.Said.{and-left}
@@ -56,11 +56,11 @@ abbrev counted : ℕ → ℕ → Bool
 counted before c = not (stands c) || eqb (codesFor before c) (count before c)
 
 after-return : T (every (counted 13) (numbers 0 256))
-unfolding translation itself specials sent characters numbers ended saying same found own codes every
+unfolding translation itself specials sent characters numbers ended saying same found own codes every first
 after-return = tt
 
 after-none : T (every (counted 0) (numbers 0 256))
-unfolding translation itself specials sent characters numbers ended saying same found own codes every
+unfolding translation itself specials sent characters numbers ended saying same found own codes every first
 after-none = tt
 
 count-at : (before c : ℕ) → T (every (counted before) (numbers 0 256)) → c < 256 → T (stands c) → codesFor before c ≡ count before c
@@ -96,11 +96,11 @@ base-sum text = each-length own 0 text
 
 -- one a character or more: the LF behind a CR has none, and the CR has two
 return-two : (before : ℕ) → codesFor before 13 ≡ 2
-unfolding translation itself specials sent characters numbers ended saying same found own codes
+unfolding translation itself specials sent characters numbers ended saying same found own codes first
 return-two before = refl
 
 feed-one : (before : ℕ) → 1 ≤ codesFor before 10 + boolByte (eqb before 13)
-unfolding translation itself specials sent characters numbers ended saying same found own codes
+unfolding translation itself specials sent characters numbers ended saying same found own codes first
 feed-one before = by-cases (ℕ-discrete before 13) (λ e. behind e) (λ o. other o)
   where
     behind : before ≡ 13 → 1 ≤ codesFor before 10 + boolByte (eqb before 13)

@@ -15,7 +15,7 @@ use Rattle.codes.specs.Chain.{Entry, codes}
 use Rattle.codes.specs.Coded.{lastOf}
 use Rattle.codes.specs.Consecutive.{codeFor, consecutive}
 use Rattle.codes.specs.LineEnds.{eachAfter, ended}
-use Rattle.codes.specs.Lookup.{same, found, saying}
+use Rattle.codes.specs.Lookup.{same, found, first, saying}
 use Rattle.codes.specs.Pack.{low, numbers, written}
 use Rattle.codes.specs.Steps.Sending.{Joinable, FourJoined, PutSoFar}
 use Rattle.codes.specs.declared.Held.{Held}
@@ -51,7 +51,7 @@ abbrev goes : ℕ → ℕ → Bool
 goes c packed = same (bitsFor 0 c) (low (packed / 256) (packed % 256)) && (ltb (packed % 256) (2 ^ (packed / 256)) && leb (packed / 256) 8)
 
 all-go : T (every (λ (k : ℕ). goes (getD rows k 0) (getD going k 0)) (numbers 0 22))
-unfolding bitsFor inFour own eachAfter translation itself specials sent table consecutive codeFor characters numbers ended saying same found codes low bit every
+unfolding bitsFor inFour own eachAfter translation itself specials sent table consecutive codeFor characters numbers ended saying same found codes low bit every first
 all-go = tt
 
 own-goes : (c packed : ℕ) → T (goes c packed) → Packed c packed
@@ -89,7 +89,7 @@ left-over (k ∷ ks) c n t =
     left-over ks c (n .0) (subst (λ (b : Bool). T (b || either c ks)) (ne-eqb c k (n .1)) t)
 
 one-of-all : T (every (λ (c : ℕ). not (stands c) || either c others) (numbers 0 256))
-unfolding translation itself specials sent characters numbers ended saying same found every
+unfolding translation itself specials sent characters numbers ended saying same found every first
 one-of-all = tt
 
 pub end-goes : (c : ℕ) {packed : ℕ} → c < 256 → T (stands c) → NoneOf others c → packed ≡ 0x8BB → Packed c packed
@@ -104,7 +104,7 @@ end-goes c {packed} h s n p = pick (eqb c 13) (eqb c 10) refl refl
 -- ---- after another character
 
 pub own-none : (before c : ℕ) {bits width : ℕ} → (eqb before 13 && eqb c 10) ≡ true → bits ≡ 0 → width ≡ 0 → OwnOf before c (record { bits = bits; width = width; count = 1 })
-unfolding bitsFor inFour own eachAfter translation itself specials sent characters numbers ended saying same found codes low
+unfolding bitsFor inFour own eachAfter translation itself specials sent characters numbers ended saying same found codes low first
 own-none before c e x y =
     let both : T (eqb before 13 && eqb c 10) = subst⁻¹ T e tt in
     let nothing : bitsFor 13 10 ≡ low 0 0 = refl in
