@@ -27,7 +27,7 @@ use Rattle.mending.specs.declared.Mending.the-variants.{Mended}
 use Rattle.distance.specs.Distance.{distance, ValidWithin}
 use Rattle.mending.specs.Mends.{MendsWithin}
 use Rattle.distance.proofs.Search.{none-at, none-around}
-use Rattle.codes.specs.Chain.{Scheme, stateAfter, codes, Builds, Stuck}
+use Rattle.codes.specs.Chain.{Scheme, stateAfter, codes, texts, Builds, Stuck}
 use Rattle.codes.specs.Coded.{lastOf}
 use Rattle.codes.specs.Consecutive.{codeFor, consecutive}
 use Rattle.codes.specs.LineEnds.{eachAfter, ended, lineEnds}
@@ -232,8 +232,7 @@ tests (writes format text carried) = same (dataOf format text) carried ∷ comes
 tests (carries format text carried) = comes-to (reading format carried) text ∷ []
 tests (stops format carried bit) = stuck-at (reading format carried) bit ∷ []
 tests (lacks format text index) =
-    let has = λ (i : ℕ). coded format (take i text) (getD text i 0) in
-    ltb index (length text) ∷ all has index ∷ not (has index) ∷ []
+    ltb index (length text) ∷ all (λ (i : ℕ). coded format (take i text) (getD text i 0)) index ∷ not (coded format (take index text) (getD text index 0)) ∷ []
 
 Passed : List Bool → Type 0
 Passed [] = Unit {0}
@@ -288,7 +287,7 @@ rows-hold (e ∷ es) (p, t) = (row-holds e (passed (tests e) p), rows-hold es t)
 computed : Passed (every-row edges)
 unfolding Passed every-row every-test tests same other ours reading comes-to stuck-at none all valid flip onesIn Odd received distance differences
     flagIn checkIn checkOf informationIn lengthIn remainder generator bytesOf headerFor headerOf lowFlag parityFor fieldsIn messageTypeIn extendedTypeIn spareIn syncIn flagBits
-    bits bit low numbers every begun fills find answer stateAfter codes value bytes packed gap filled written
+    bits bit low numbers every begun fills find answer stateAfter codes texts value bytes packed gap filled written
     pseudo.isOf pseudo.valueOf pseudo.characterOf pseudo.indicator pseudo.most pseudo.indicators pseudo.six pseudo.tables
     pseudo-writer.kind pseudo-writer.run pseudo-writer.besides pseudo-writer.oursAfter pseudo-writer.ours
     codeFor consecutive lastOf eachAfter ended lineEnds found first saying meaning character spelled textOf
