@@ -9,7 +9,7 @@ use Prim.Native.Nat.{ℕ, zero, suc, _+_, _-_, _*_, _/_, _%_, _^_, _≤_, _<_, z
 use native.Mathlib.Decide.{decLe, decLt}
 use native.Mathlib.Omega.{arith}
 use lib.Dec.{T, eqb, eqb→eq, lit≤}
-use lib.ListN.{length, take, length-append}
+use lib.ListN.{length, take, getD, length-append}
 use Rattle.bits.specs.Word.{bit}
 use Rattle.bits.proofs.Said.{and-left, and-right}
 use Rattle.codes.specs.Chain.{Entry, Fill, Begins}
@@ -24,13 +24,14 @@ use Rattle.codes.proofs.BitBuffer.{window-whole, window-top, window-begins, beg
 use Rattle.codes.proofs.EightBytes.{top-bits}
 use Rattle.codes.proofs.EveryElement.{every, every-at}
 use Rattle.codes.proofs.LowBits.{length-low, low-add}
+use Rattle.codes.proofs.NumberRanges.{numbers-in}
 use Rattle.codes.proofs.OneReading.{Halts, stuck-here, never-both}
 use Rattle.codes.proofs.SchemeLaws.{parted, parted-never}
 use Rattle.codes.proofs.TableSearch.{find, Found, found}
 use Rattle.numeric.specs.Table.{characters}
 use Rattle.shef.specs.Table.{table, scheme}
 use Rattle.shef.proofs.Table.{laws}
-use Rattle.shef_reader.specs.Steps.Taken.{Says, behind, Takes}
+use Rattle.shef_reader.specs.Steps.Taken.{Says, behind, charactersIn, Characters}
 
 -- the entry that was found has the bits that the first of six tells, and says the text
 unfoldable pub tells : ℕ → List ℕ → Option Entry → Bool
@@ -64,23 +65,15 @@ told six text (some e) f t =
       says = same-text (e .says) text (and-right wide said t);
     }
 
--- a row of the match
-pub row : {six c : ℕ} (k : ℕ) → six ≡ k → T (right k c) → six < 63 → Says six (c ∷ behind six)
+-- a row of first characters, each of which passes the test
+pub every-right : (row : List ℕ) → T (every (λ (k : ℕ). right k (getD row k 0)) (numbers 0 63)) → Characters row
 unfolding right
-row {six} {c} k e t h =
-    subst⁻¹ (λ (n : ℕ). Says n (c ∷ behind n)) e (told k (c ∷ behind k) (find table (low 6 k)) (found table (low 6 k)) t)
-
--- none of the rows below k
-abbrev pub NoRow : ℕ → ℕ → Type 0
-NoRow zero x = Unit {0}
-NoRow (suc k) x = NoRow k x × (x ≡ k → ⊥)
-
-pub past-rows : (k x : ℕ) → NoRow k x → k ≤ x
-past-rows zero x n = zero-le
-past-rows (suc k) x n = omega (arith, past-rows k x (n .0), n .1)
+every-right row t six h =
+    told six (getD row six 0 ∷ behind six) (find table (low 6 six)) (found table (low 6 six))
+    (every-at (λ (k : ℕ). right k (getD row k 0)) (numbers 0 63) t six (numbers-in 0 63 six zero-le (omega arith)))
 
 -- the code of the text is the one that begins any nine bits that begin with the six
-pub says-code : {six : ℕ} {text : List ℕ} (w : ℕ) (r : Code) → Says six text → six < 64 → w / 8 ≡ six → r .width ≡ 5 + six / 32
+says-code : {six : ℕ} {text : List ℕ} (w : ℕ) (r : Code) → Says six text → six < 63 → w / 8 ≡ six → r .width ≡ 5 + six / 32
     → charactersOf r ≡ text → length text ≡ r .count → 1 ≤ r .count → r .count ≤ 2 → FirstCode table w r
 says-code w r s h e wide chars counts least most = record {
   entry = s .entry;
@@ -101,38 +94,53 @@ says-code w r s h e wide chars counts least most = record {
   few = most;
 }
 
--- what is taken of the six bits: the width that the first tells, and the characters of the code
-taken : (six c : ℕ) (r : Code) → six < 64 → (six < 63 → Says six (c ∷ behind six)) → r .width ≡ 5 + six / 32 → charactersOf r ≡ c ∷ behind six
-    → length (c ∷ behind six) ≡ r .count → 1 ≤ r .count → r .count ≤ 2 → Takes six r
-taken six c r h says wide chars counts least most = record {
-  width = wide;
-  some = least;
-  few = most;
-  first = λ j w e. says-code w r (says j) h e wide chars counts least most;
-}
+-- one character, or two at a line end
+some-characters : (b : Bool) (c : ℕ) → take (cond b 2 1) (c ∷ 10 ∷ []) ≡ c ∷ cond {A = List ℕ} b (10 ∷ []) []
+some-characters true c = refl
+some-characters false c = refl
 
-pub line-end : {six c count second : ℕ} → six ≡ 58 → count ≡ 2 → second ≡ 10 → six < 64 → (six < 63 → Says six (c ∷ behind six))
-    → Takes six (record { width = 5 + six / 32; count = count; first = c; second = second })
-unfolding charactersOf
-line-end {six} {c} {count} {second} e two feed h says =
-    taken six c (record { width = 5 + six / 32; count = count; first = c; second = second }) h says refl
-    (ap₂ (λ (k d : ℕ). take k (c ∷ d ∷ [])) two feed ∙ ap (λ (n : ℕ). c ∷ behind n) (sym e))
-    (ap (λ (n : ℕ). length (c ∷ behind n)) e ∙ sym two) (omega arith) (omega arith)
+one-or-two : (b : Bool) (c : ℕ) → (length (c ∷ cond {A = List ℕ} b (10 ∷ []) []) ≡ cond b 2 1) × (1 ≤ cond b 2 1) × (cond b 2 1 ≤ 2)
+one-or-two true c = (refl, lit≤ tt, lit≤ tt)
+one-or-two false c = (refl, lit≤ tt, lit≤ tt)
 
-alone : (six : ℕ) → (six ≡ 58 → ⊥) → behind six ≡ []
-alone six no-end = pick (eqb six 58) refl
+pub no-line-end : (six : ℕ) → (six ≡ 58 → ⊥) → charactersIn six ≡ 1
+no-line-end six other = pick (eqb six 58) refl
   where
-    pick : (b : Bool) → eqb six 58 ≡ b → cond {A = List ℕ} b (10 ∷ []) [] ≡ []
-    pick true x = absurd (no-end (eqb→eq six 58 (subst⁻¹ T x tt)))
+    pick : (b : Bool) → eqb six 58 ≡ b → cond {A = ℕ} b 2 1 ≡ 1
+    pick true x = absurd (other (eqb→eq six 58 (subst⁻¹ T x tt)))
     pick false x = refl
 
-pub one-character : {six c count second : ℕ} → (six ≡ 58 → ⊥) → count ≡ 1 → six < 64 → (six < 63 → Says six (c ∷ behind six))
-    → Takes six (record { width = 5 + six / 32; count = count; first = c; second = second })
+pub characters-few : (six : ℕ) → charactersIn six ≤ 2
+characters-few six = one-or-two (eqb six 58) 0 .2
+
+pub six-code : (six w : ℕ) (r : Code) → Says six (r .first ∷ behind six) → six < 63 → w / 8 ≡ six → r .width ≡ 5 + six / 32
+    → r .count ≡ charactersIn six → r .second ≡ 10 → FirstCode table w r
 unfolding charactersOf
-one-character {six} {c} {count} {second} no-end once h says =
-    taken six c (record { width = 5 + six / 32; count = count; first = c; second = second }) h says refl
-    (ap (λ (k : ℕ). take k (c ∷ second ∷ [])) once ∙ ap (λ (l : List ℕ). c ∷ l) (sym (alone six no-end)))
-    (ap (λ (l : List ℕ). length (c ∷ l)) (alone six no-end) ∙ sym once) (omega arith) (omega arith)
+six-code six w r s h e wide counts feed =
+    let b : Bool = eqb six 58 in
+    let n = one-or-two b (r .first) in
+    says-code w r s h e wide (ap₂ (λ (k d : ℕ). take k (r .first ∷ d ∷ [])) counts feed ∙ some-characters b (r .first)) (n .0 ∙ sym counts)
+    (subst⁻¹ (λ (k : ℕ). 1 ≤ k) counts (n .1)) (subst⁻¹ (λ (k : ℕ). k ≤ 2) counts (n .2))
+
+-- the row of first characters that the table gives: those of five bits twice, whatever the sixth is
+unfoldable pub twice : List ℕ → List ℕ
+twice [] = []
+twice (c ∷ cs) = c ∷ c ∷ twice cs
+
+unfoldable pub firsts : List ℕ
+firsts = twice characters ++ (numbers 65 26 ++ (13 ∷ 35 ∷ 61 ∷ 58 ∷ 59 ∷ []))
+
+pub firsts-right : Characters firsts
+unfolding firsts twice right tells find table consecutive codeFor characters numbers low bit begun every
+firsts-right = every-right firsts tt
+
+-- a code by its width and the number of its characters
+abbrev pub codeOf : ℕ → ℕ → ℕ → Code
+codeOf six width count = record { width = width; count = count; first = getD firsts six 0; second = 10 }
+
+pub any-code : {six width count : ℕ} (w : ℕ) → w / 8 ≡ six → six < 63 → width ≡ 5 + six / 32 → count ≡ charactersIn six
+    → FirstCode table w (codeOf six width count)
+any-code {six} {width} {count} w e h wide counts = six-code six w (codeOf six width count) (firsts-right six h) h e wide counts refl
 
 -- six ones, as if they were a code
 ones : Entry
@@ -184,19 +192,15 @@ module _ (held have w : ℕ) (v : Window held have w) where
 
 -- the six bits at the top of a word to which the lowest `left` bits of a number are shifted are the first of the window
 module _ (held left top : ℕ) (h : 9 ≤ left) (k : left ≤ 64) (e : top ≡ held * 2 ^ (64 - left) % 2 ^ 64) where
-  window : ℕ
-  window = held / 2 ^ (left - 9) % 512
+  pub six-window : (w : ℕ) × Window held left w × (w / 8 ≡ top / 2 ^ 58)
+  six-window = (
+    held / 2 ^ (left - 9) % 512,
+    window-whole held left h,
+    window-top held left 6 (lit≤ tt) h ∙ sym (top-bits held left top 6 (omega arith) k e),
+  )
 
-  six-top : window / 8 ≡ top / 2 ^ 58
-  unfolding window
-  six-top = window-top held left 6 (lit≤ tt) h ∙ sym (top-bits held left top 6 (omega arith) k e)
-
-  -- what is taken of them is taken of the window, where they are not all ones
-  pub six-takes : (r : Code) → Takes (top / 2 ^ 58) r → top / 2 ^ 58 < 63 → (w : ℕ) × Window held left w × FirstCode table w r
-  unfolding window
-  six-takes r t l = (window, window-whole held left h, t .first l window six-top)
-
-  -- and in what can be read they are not
+  -- in what can be read they are not all ones
   pub readable-top : (more : List ℕ) {room : ℕ} → Readable scheme (low left held ++ more) room → top / 2 ^ 58 < 63
-  unfolding window
-  readable-top more f = subst (λ (n : ℕ). n < 63) six-top (readable-word held left window (window-whole held left h) more h f)
+  readable-top more f =
+      let v = six-window in
+      subst (λ (n : ℕ). n < 63) (v .2) (readable-word held left (v .0) (v .1) more h f)

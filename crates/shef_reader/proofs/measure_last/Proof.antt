@@ -2,7 +2,7 @@
 -- Assumes nothing.
 use mathlib.Core.Path.{_≡_, refl, subst}
 use mathlib.Core.Bool.{Bool}
-use Prim.Native.Nat.{ℕ, _+_, _≤_}
+use Prim.Native.Nat.{ℕ, _+_, _/_, _≤_}
 use native.Mathlib.Omega.{arith}
 use Rattle.bits.specs.Says.{Says}
 use Rattle.codes.specs.Chain.{Fill}
@@ -17,7 +17,8 @@ use Rattle.codes.proofs.OneReading.{Halts}
 use Rattle.codes.proofs.TakenCodes.{counted-code, no-code}
 use Rattle.shef.specs.Table.{table, scheme}
 use Rattle.shef.proofs.Table.{laws, mutes}
-use Rattle.shef_reader.proofs.Six.{ones-last}
+use Rattle.shef_reader.specs.Steps.Taken.{charactersIn}
+use Rattle.shef_reader.proofs.Six.{codeOf, any-code, ones-last}
 use Rattle.shef_reader.proofs.measure_last.Statement.{statement}
 use Rattle.shef_reader.proofs.measure_last.Tie as tie
 
@@ -43,68 +44,69 @@ returns c =
 window-requires : tie.Need-window-requires Inv-loop μ-loop
 window-requires c κs = omega arith
 
-first-code-requires : tie.Need-first-code-requires Inv-loop μ-loop
-first-code-requires c κs = omega (arith, c .window .ensures .small)
-
 sub-t10 : tie.Need-sub-t10 Inv-loop μ-loop
 sub-t10 c = omega arith
 
 -- where no code is next, the bits are malformed here
-stuck : (f : tie.After-first-code Inv-loop μ-loop)
-    → Halts scheme 0 (low (f .before .before .before .before .loop .left) (f .before .before .before .before .before .args .held)) → {i : ℕ}
-    → i + f .before .before .before .before .loop .left ≡ f .before .before .before .before .before .args .have
-    → Measures scheme (low (f .before .before .before .before .before .args .have) (f .before .before .before .before .before .args .held)) (Malformed i)
-stuck f h {i} e =
-    let a = f .before .before .before .before in
+stuck : (v : tie.After-window Inv-loop μ-loop)
+    → Halts scheme 0 (low (v .before .before .before .loop .left) (v .before .before .before .before .args .held)) → {i : ℕ}
+    → i + v .before .before .before .loop .left ≡ v .before .before .before .before .args .have
+    → Measures scheme (low (v .before .before .before .before .args .have) (v .before .before .before .before .args .held)) (Malformed i)
+stuck v h {i} e =
+    let a = v .before .before .before in
     let held = a .before .args .held in
     counting-stuck (a .loop .inv .2) i
     (omega (arith, length-low (a .before .args .have) held, length-low (a .loop .left) held)) h
-    (subst (λ (b : Bool). Says b (Fill 7 (low (a .loop .left) held))) (f .before .before .if1 .left) (f .before .before .before .at-end .ensures))
+    (subst (λ (b : Bool). Says b (Fill 7 (low (a .loop .left) held))) (v .before .if1 .left) (v .before .before .at-end .ensures))
 
 returns-2 : tie.Need-returns-2 Inv-loop μ-loop
 returns-2 c =
-    let f = c .before in
-    let a = f .before .before .before .before in
-    stuck f
-    (ones-last (a .before .args .held) (a .loop .left) (f .before .window .result) (f .before .window .ensures) (c .if2 .taken))
-    (omega arith)
+    let v = c .before in
+    let a = v .before .before .before in
+    stuck v (ones-last (a .before .args .held) (a .loop .left) (v .window .result) (v .window .ensures) (c .if2 .taken)) (omega arith)
+
+width-of-requires : tie.Need-width-of-requires Inv-loop μ-loop
+width-of-requires c κs = tt
 
 -- the code is that of the window
-taken : (c : tie.Else2 Inv-loop μ-loop) → FirstCode table (c .before .before .window .result) (c .before .first-code .result)
-taken c =
-    let f = c .before in
-    f .first-code .ensures .first (omega (arith, f .before .window .ensures .small, c .if2 .left)) (f .before .window .result) refl
+taken : (f : tie.After-width-of Inv-loop μ-loop) {count : ℕ} → count ≡ charactersIn (f .before .before .window .result / 8)
+    → FirstCode table (f .before .before .window .result) (codeOf (f .before .before .window .result / 8) (f .width-of .result) count)
+taken f e =
+    let v = f .before .before in
+    any-code (v .window .result) refl (omega (arith, v .window .ensures .small, f .before .if2 .left)) (f .width-of .ensures) e
 
 sub-t12 : tie.Need-sub-t12 Inv-loop μ-loop
 sub-t12 c = omega arith
 
 returns-3 : tie.Need-returns-3 Inv-loop μ-loop
 returns-3 c =
-    let g = c .before .before in
-    let f = g .before in
-    let a = f .before .before .before .before in
-    stuck f
-    (no-code laws (a .before .args .held) (a .loop .left) (f .before .window .result) (f .first-code .result) (f .before .window .ensures) (taken g)
-    (c .if3 .taken))
-    (omega arith)
+    let f = c .before in
+    let v = f .before .before in
+    let a = v .before .before .before in
+    stuck v
+    (no-code laws (a .before .args .held) (a .loop .left) (v .window .result) _ (v .window .ensures) (taken f refl) (c .if3 .taken)) (omega arith)
+
+count-of-requires : tie.Need-count-of-requires Inv-loop μ-loop
+count-of-requires c κs = tt
 
 add-n : tie.Need-add-n Inv-loop μ-loop
-add-n c = omega (arith, taken (c .before .before .before .before) .short, taken (c .before .before .before .before) .few)
+add-n c = let t = taken (c .before .before) (c .count-of .ensures) in omega (arith, t .short, t .few)
 
 loop-less : tie.Need-loop-less Inv-loop μ-loop
-loop-less c = omega (arith, taken (c .before .before .before .before) .short)
+loop-less c = omega (arith, taken (c .before .before) refl .short)
 
 loop-again : tie.Need-loop-again Inv-loop μ-loop
 loop-again c =
-    let g = c .before .before .before .before in
+    let g = c .before in
     let f = g .before in
-    let a = f .before .before .before .before in
+    let v = f .before .before in
+    let a = v .before .before .before in
     let held = a .before .args .held in
-    let t = taken g in (
+    let t = taken f (c .count-of .ensures) in (
       omega (arith, t .short),
       omega (arith, t .short, t .few),
-      counted-code mutes (low (a .before .args .have) held) held (a .loop .left) (f .before .window .result) (a .loop .n) (f .first-code .result)
-          (a .loop .inv .2) (f .before .window .ensures) t (c .before .before .if3 .left) (omega arith),
+      counted-code mutes (low (a .before .args .have) held) held (a .loop .left) (v .window .result) (a .loop .n) _ (a .loop .inv .2)
+          (v .window .ensures) t (g .if3 .left) refl,
     )
 
 pub measure-last-spec : {M : Type 1} → statement M
@@ -117,11 +119,12 @@ measure-last-spec =
     at-end-requires
     returns
     window-requires
-    first-code-requires
     sub-t10
     returns-2
+    width-of-requires
     sub-t12
     returns-3
+    count-of-requires
     add-n
     loop-less
     loop-again)

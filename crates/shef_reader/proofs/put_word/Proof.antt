@@ -16,17 +16,17 @@ use Rattle.codes.specs.Steps.Taken.{FirstCode, charactersOf}
 use Rattle.codes.proofs.TakenCodes.{puts-room, puts-code}
 use Rattle.shef.specs.Table.{table, scheme}
 use Rattle.shef.proofs.Table.{laws, mutes}
-use Rattle.shef_reader.proofs.Six.{six-takes, readable-top}
+use Rattle.shef_reader.proofs.Six.{six-window, readable-top}
 use Rattle.shef_reader.proofs.put_word.Statement.{statement}
 use Rattle.shef_reader.proofs.put_word.Tie as tie
 
 abbrev Inv-loop : tie.InvT-loop
-Inv-loop held have out₀ n top₀ left₀ count₀ turn₀ out top left count turn =
+Inv-loop held have out₀ n characters top₀ left₀ count₀ turn₀ out top left count turn =
     (left + 5 * turn ≤ have) × (have ≤ left + 6 * turn) × (turn ≤ 9) × (count ≤ 2 * turn) × (top ≡ held * 2 ^ (64 - left) % 2 ^ 64)
     × LaidSoFar scheme (low have held) (low left held) out₀ out n (n + count)
 
 abbrev μ-loop : tie.MeasureT-loop
-μ-loop held have out₀ n top₀ left₀ count₀ turn₀ out top left count turn = 9 - turn
+μ-loop held have out₀ n characters top₀ left₀ count₀ turn₀ out top left count turn = 9 - turn
 
 sub-top : tie.Need-sub-top Inv-loop μ-loop
 sub-top c = omega arith
@@ -48,19 +48,22 @@ loop-holds c =
     )
 
 first-code-requires : tie.Need-first-code-requires Inv-loop μ-loop
-first-code-requires c κs = omega arith
+first-code-requires c κs =
+    let a = c .before in
+    let e = a .before .before in
+    let b = e .pre .3 in (
+      readable-top (e .args .held) (a .loop .left) (a .loop .top) (omega arith) (omega arith) (a .loop .inv .4) (b .0)
+          (laying-later (laying-front (a .loop .inv .5) (b .0)) laws (b .1)),
+      e .pre .4,
+    )
 
 -- the code is that of the window
 taken : (f : tie.After-first-code Inv-loop μ-loop)
     → (w : ℕ) × Window (f .before .before .before .before .args .held) (f .before .before .loop .left) w × FirstCode table w (f .first-code .result)
 taken f =
     let a = f .before .before in
-    let e = a .before .before in
-    let b = e .pre .3 in
-    let t : (a .loop .top ≡ e .args .held * 2 ^ (64 - a .loop .left) % 2 ^ 64) = a .loop .inv .4 in
-    six-takes (e .args .held) (a .loop .left) (a .loop .top) (omega arith) (omega arith) t (f .first-code .result) (f .first-code .ensures)
-    (readable-top (e .args .held) (a .loop .left) (a .loop .top) (omega arith) (omega arith) t (b .0)
-    (laying-later (laying-front (a .loop .inv .5) (b .0)) laws (b .1)))
+    let v = six-window (a .before .before .args .held) (a .loop .left) (a .loop .top) (omega arith) (omega arith) (a .loop .inv .4) in
+    (v .0, v .1, f .first-code .ensures .1 (v .0) (v .2))
 
 -- at the code that was found: what is laid with it, and the room for it
 step : (f : tie.After-first-code Inv-loop μ-loop)
@@ -119,7 +122,7 @@ loop-again c =
     let r = f .first-code .result in
     let t = taken f .2 in (
       omega (arith, t .short),
-      omega (arith, f .first-code .ensures .width),
+      omega (arith, f .first-code .ensures .0),
       omega arith,
       omega (arith, t .few),
       top-on (e .args .held) (a .loop .left) (a .loop .top) (r .width) (omega (arith, t .long)) (omega arith) (a .loop .inv .4),

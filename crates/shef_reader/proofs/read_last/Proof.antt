@@ -21,11 +21,11 @@ use Rattle.shef_reader.proofs.read_last.Statement.{statement}
 use Rattle.shef_reader.proofs.read_last.Tie as tie
 
 abbrev Inv-loop : tie.InvT-loop
-Inv-loop held have out₀ n left₀ at₀ out left at =
+Inv-loop held have out₀ n characters left₀ at₀ out left at =
     (left ≤ have) × (at ≤ length out₀) × LaidSoFar scheme (low have held) (low left held) out₀ out n at
 
 abbrev μ-loop : tie.MeasureT-loop
-μ-loop held have out₀ n left₀ at₀ out left at = left
+μ-loop held have out₀ n characters left₀ at₀ out left at = left
 
 loop-holds : tie.Need-loop-holds Inv-loop μ-loop
 loop-holds c =
@@ -48,38 +48,36 @@ returns c =
 window-requires : tie.Need-window-requires Inv-loop μ-loop
 window-requires c κs = omega arith
 
-first-code-requires : tie.Need-first-code-requires Inv-loop μ-loop
-first-code-requires c κs = omega (arith, c .window .ensures .small)
-
 -- what can be read goes on with the last bits, and they are no fill
-later : (f : tie.After-first-code Inv-loop μ-loop)
-    → Readable scheme (low (f .before .before .before .before .loop .left) (f .before .before .before .before .before .before .args .held))
-    (f .before .before .before .before .before .before .args .n
-    + (length (f .before .before .before .before .before .before .args .out .now) - f .before .before .before .before .before .before .args .n)
-    - f .before .before .before .before .loop .at)
-later f = let a = f .before .before .before .before in laying-later (a .loop .inv .2) laws (a .before .before .pre .2)
+later : (v : tie.After-window Inv-loop μ-loop)
+    → Readable scheme (low (v .before .before .before .loop .left) (v .before .before .before .before .before .args .held))
+    (v .before .before .before .before .before .args .n
+    + (length (v .before .before .before .before .before .args .out .now) - v .before .before .before .before .before .args .n)
+    - v .before .before .before .loop .at)
+later v = let a = v .before .before .before in laying-later (a .loop .inv .2) laws (a .before .before .pre .2)
 
-no-fill : (f : tie.After-first-code Inv-loop μ-loop)
-    → Fill 7 (low (f .before .before .before .before .loop .left) (f .before .before .before .before .before .before .args .held)) → ⊥
-no-fill f =
-    let a = f .before .before .before .before in
-    subst (λ (b : Bool). Says b (Fill 7 (low (a .loop .left) (a .before .before .args .held)))) (f .before .before .if1 .left)
-    (f .before .before .before .at-end .ensures)
+no-fill : (v : tie.After-window Inv-loop μ-loop)
+    → Fill 7 (low (v .before .before .before .loop .left) (v .before .before .before .before .before .args .held)) → ⊥
+no-fill v =
+    let a = v .before .before .before in
+    subst (λ (b : Bool). Says b (Fill 7 (low (a .loop .left) (a .before .before .args .held)))) (v .before .if1 .left) (v .before .before .at-end .ensures)
+
+first-code-requires : tie.Need-first-code-requires Inv-loop μ-loop
+first-code-requires c κs =
+    let a = c .before .before .before in
+    let e = a .before .before in
+    (readable-last (e .args .held) (a .loop .left) (c .window .result) (c .window .ensures) (later c) (no-fill c), e .pre .3)
 
 -- so the code of the window is next, its bits are there, and so is the room for its characters
 taken : (f : tie.After-first-code Inv-loop μ-loop) → FirstCode table (f .before .window .result) (f .first-code .result)
-taken f =
-    let a = f .before .before .before .before in
-    let w = f .before .window .result in
-    f .first-code .ensures .first
-    (readable-last (a .before .before .args .held) (a .loop .left) w (f .before .window .ensures) (later f) (no-fill f)) w refl
+taken f = f .first-code .ensures .1 (f .before .window .result) refl
 
 there : (f : tie.After-first-code Inv-loop μ-loop) → f .first-code .result .width ≤ f .before .before .before .before .loop .left
 there f =
     let a = f .before .before .before .before in
     let e = a .before .before in
     code-there laws (e .args .held) (a .loop .left) (f .before .window .result) (f .first-code .result) _ (f .before .window .ensures) (taken f)
-    (later f) (no-fill f)
+    (later (f .before)) (no-fill (f .before))
 
 step : (f : tie.After-first-code Inv-loop μ-loop)
     → LaidSoFar scheme (low (f .before .before .before .before .before .before .args .have) (f .before .before .before .before .before .before .args .held))
@@ -106,7 +104,7 @@ same : (f : tie.After-first-code Inv-loop μ-loop)
 same f = let a = f .before .before .before .before in laying-length (a .loop .inv .2) (a .loop .inv .1)
 
 put-requires : tie.Need-put-requires Inv-loop μ-loop
-put-requires c κs = (c .before .first-code .ensures .some, c .before .first-code .ensures .few, omega (arith, room (c .before), same (c .before)))
+put-requires c κs = (taken (c .before) .some, taken (c .before) .few, omega (arith, room (c .before), same (c .before)))
 
 sub-left : tie.Need-sub-left Inv-loop μ-loop
 sub-left c = there (c .before .before .before .before .before)

@@ -16,11 +16,11 @@ use Rattle.shef_reader.proofs.read_words.Statement.{statement}
 use Rattle.shef_reader.proofs.read_words.Tie as tie
 
 abbrev Inv-loop : tie.InvT-loop
-Inv-loop s out₀ next₀ skip₀ n₀ out next skip n =
+Inv-loop s out₀ characters next₀ skip₀ n₀ out next skip n =
     (skip < 8) × (next * 8 + skip ≤ length s * 8) × (n ≤ length out₀) × LaidSoFar scheme (bits s) (beyond s next skip) out₀ out 0 n
 
 abbrev μ-loop : tie.MeasureT-loop
-μ-loop s out₀ next₀ skip₀ n₀ out next skip n = length s * 8 - (next * 8 + skip)
+μ-loop s out₀ characters next₀ skip₀ n₀ out next skip n = length s * 8 - (next * 8 + skip)
 
 loop-holds : tie.Need-loop-holds Inv-loop μ-loop
 unfolding beyond
@@ -53,7 +53,8 @@ put-word-requires c κs =
           (length (a .loop .out) - a .loop .n)
           (subst (Readable scheme (beyond s (a .loop .next) (a .loop .skip)))
           (let x : 0 + length (e .args .out .now) - a .loop .n ≡ length (a .loop .out) - a .loop .n = omega (arith, same a) in x)
-          (laying-later (a .loop .inv .3) laws (e .pre))),
+          (laying-later (a .loop .inv .3) laws (e .pre .0))),
+      e .pre .1,
     )
 
 -- the codes of the number passed: what is laid with them, and the room for it
@@ -77,7 +78,7 @@ room : (f : tie.After-put-word Inv-loop μ-loop)
     → f .before .before .before .before .loop .n + f .put-word .result .count
     ≤ length (f .before .before .before .before .before .before .before .args .out .now)
 room f =
-    omega (arith, laying-within (step f) laws (f .before .before .before .before .before .before .before .pre))
+    omega (arith, laying-within (step f) laws (f .before .before .before .before .before .before .before .pre .0))
 
 sub-passed : tie.Need-sub-passed Inv-loop μ-loop
 sub-passed c = omega (arith, c .before .before .before .put-word .ensures .0 .last)

@@ -1,6 +1,6 @@
 -- `shef_reader::skim` meets its contract. The loop's invariant: the lowest `left` bits stand at the top of the word, and, if no six ones were met, they are
 -- what the codes that were passed leave. Assumes nothing.
-use mathlib.Core.Path.{_≡_, refl}
+use mathlib.Core.Path.{_≡_, refl, subst⁻¹}
 use Prim.Native.Nat.{ℕ, _+_, _-_, _*_, _/_, _%_, _^_, _≤_, _<_}
 use native.Mathlib.Omega.{arith}
 use Rattle.codes.specs.Pack.{low}
@@ -10,7 +10,7 @@ use Rattle.codes.proofs.ReadSoFar.{counting-none}
 use Rattle.codes.proofs.TakenCodes.{counted-code}
 use Rattle.shef.specs.Table.{scheme}
 use Rattle.shef.proofs.Table.{mutes}
-use Rattle.shef_reader.proofs.Six.{six-takes}
+use Rattle.shef_reader.proofs.Six.{characters-few, any-code, six-window}
 use Rattle.shef_reader.proofs.skim.Statement.{statement}
 use Rattle.shef_reader.proofs.skim.Tie as tie
 
@@ -48,8 +48,8 @@ loop-holds : tie.Need-loop-holds Inv-loop μ-loop
 loop-holds c =
     (omega arith, omega arith, omega arith, omega arith, omega arith, refl, λ e. counting-none scheme (low (c .args .have) (c .args .held)))
 
-first-code-requires : tie.Need-first-code-requires Inv-loop μ-loop
-first-code-requires c κs = omega arith
+width-of-requires : tie.Need-width-of-requires Inv-loop μ-loop
+width-of-requires c κs = tt
 
 add-ones : tie.Need-add-ones Inv-loop μ-loop
 add-ones c = omega arith
@@ -59,14 +59,23 @@ add-ones-2 c =
     let a = c .before .before in
     record { fits = ones-fit (a .loop .ones) (a .loop .turn) (a .loop .top / 2 ^ 58) (a .loop .inv .4) (a .loop .inv .2) (top-six a) }
 
+wide : (f : tie.After-width-of Inv-loop μ-loop) → (5 ≤ f .width-of .result) × (f .width-of .result ≤ 6)
+wide f = let a = f .before .before in six-wide (a .loop .top / 2 ^ 58) (f .width-of .result) (top-six a) (f .width-of .ensures)
+
 shl-top-2 : tie.Need-shl-top-2 Inv-loop μ-loop
-shl-top-2 c = omega (arith, c .before .first-code .ensures .width)
+shl-top-2 c = omega (arith, wide c .1)
 
 sub-left : tie.Need-sub-left Inv-loop μ-loop
-sub-left c = omega (arith, c .before .before .first-code .ensures .width)
+sub-left c = omega (arith, wide c .1)
+
+count-of-requires : tie.Need-count-of-requires Inv-loop μ-loop
+count-of-requires c κs = tt
+
+few : (g : tie.After-count-of Inv-loop μ-loop) → g .count-of .result ≤ 2
+few g = subst⁻¹ (λ (n : ℕ). n ≤ 2) (g .count-of .ensures) (characters-few (g .before .before .before .loop .top / 2 ^ 58))
 
 add-count : tie.Need-add-count Inv-loop μ-loop
-add-count c = omega (arith, c .before .before .before .first-code .ensures .few)
+add-count c = omega (arith, few c)
 
 add-turn : tie.Need-add-turn Inv-loop μ-loop
 add-turn c = omega arith
@@ -76,23 +85,23 @@ loop-less c = omega arith
 
 loop-again : tie.Need-loop-again Inv-loop μ-loop
 loop-again c =
-    let f = c .before .before .before in
+    let f = c .before in
     let a = f .before .before in
     let held = a .before .args .held in
-    let r = f .first-code .result in
-    let t = f .first-code .ensures in
-    let wide : (5 ≤ r .width) × (r .width ≤ 6) = six-wide (a .loop .top / 2 ^ 58) (r .width) (top-six a) (t .width) in (
+    let six = a .loop .top / 2 ^ 58 in
+    let width = f .width-of .result in
+    let w : (5 ≤ width) × (width ≤ 6) = wide f in (
       omega arith,
       omega arith,
       omega arith,
-      omega (arith, t .few),
-      ones-more (a .loop .ones) (a .loop .turn) (a .loop .top / 2 ^ 58) (a .loop .inv .4) (top-six a),
-      top-on held (a .loop .left) (a .loop .top) (r .width) (omega arith) (omega arith) (a .loop .inv .5),
+      omega (arith, few c),
+      ones-more (a .loop .ones) (a .loop .turn) six (a .loop .inv .4) (top-six a),
+      top-on held (a .loop .left) (a .loop .top) width (omega arith) (omega arith) (a .loop .inv .5),
       λ e.
-          let none = ones-none (a .loop .ones) (a .loop .top / 2 ^ 58) e in
-          let k = six-takes held (a .loop .left) (a .loop .top) (omega arith) (omega arith) (a .loop .inv .5) r t (none .1) in
-          counted-code mutes (low (a .before .args .have) held) held (a .loop .left) (k .0) (a .loop .count) r (a .loop .inv .6 (none .0)) (k .1) (k .2)
-          (omega arith) refl,
+          let none = ones-none (a .loop .ones) six e in
+          let v = six-window held (a .loop .left) (a .loop .top) (omega arith) (omega arith) (a .loop .inv .5) in
+          counted-code mutes (low (a .before .args .have) held) held (a .loop .left) (v .0) (a .loop .count) _ (a .loop .inv .6 (none .0)) (v .1)
+          (any-code (v .0) (v .2) (none .1) (f .width-of .ensures) (c .count-of .ensures)) (omega arith) refl,
     )
 
 returns : tie.Need-returns Inv-loop μ-loop
@@ -115,11 +124,12 @@ skim-spec =
     sub-top
     shl-top
     loop-holds
-    first-code-requires
+    width-of-requires
     add-ones
     add-ones-2
     shl-top-2
     sub-left
+    count-of-requires
     add-count
     add-turn
     loop-less

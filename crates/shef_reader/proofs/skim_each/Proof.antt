@@ -1,7 +1,7 @@
 -- `shef_reader::skim_each` meets its contract. The loop's invariant: the codes that were passed leave the lowest `left` bits.
 -- Assumes nothing.
-use mathlib.Core.Path.{refl}
-use Prim.Native.Nat.{_+_, _≤_}
+use mathlib.Core.Path.{_≡_, refl}
+use Prim.Native.Nat.{ℕ, _+_, _/_, _≤_}
 use native.Mathlib.Omega.{arith}
 use Rattle.codes.specs.Pack.{low}
 use Rattle.codes.proofs.ReadSoFar.{counting-none}
@@ -10,6 +10,8 @@ use Rattle.codes.specs.Steps.Taken.{FirstCode}
 use Rattle.codes.proofs.TakenCodes.{counted-code}
 use Rattle.shef.specs.Table.{table, scheme}
 use Rattle.shef.proofs.Table.{mutes}
+use Rattle.shef_reader.specs.Steps.Taken.{charactersIn}
+use Rattle.shef_reader.proofs.Six.{codeOf, any-code}
 use Rattle.shef_reader.proofs.skim_each.Statement.{statement}
 use Rattle.shef_reader.proofs.skim_each.Tie as tie
 
@@ -31,34 +33,38 @@ returns c =
     let a = v .before .before in
     record { brief = a .loop .inv .0; stuck = λ h. (v .window .result, v .window .ensures, c .if1 .taken); counted = a .loop .inv .1 }
 
-first-code-requires : tie.Need-first-code-requires Inv-loop μ-loop
-first-code-requires c κs = omega (arith, c .before .window .ensures .small)
+width-of-requires : tie.Need-width-of-requires Inv-loop μ-loop
+width-of-requires c κs = tt
 
 -- the code is that of the window
-taken : (f : tie.After-first-code Inv-loop μ-loop) → FirstCode table (f .before .before .window .result) (f .first-code .result)
-taken f =
+taken : (f : tie.After-width-of Inv-loop μ-loop) {count : ℕ} → count ≡ charactersIn (f .before .before .window .result / 8)
+    → FirstCode table (f .before .before .window .result) (codeOf (f .before .before .window .result / 8) (f .width-of .result) count)
+taken f e =
     let v = f .before .before in
-    f .first-code .ensures .first (omega (arith, v .window .ensures .small, f .before .if1 .left)) (v .window .result) refl
+    any-code (v .window .result) refl (omega (arith, v .window .ensures .small, f .before .if1 .left)) (f .width-of .ensures) e
 
 sub-left : tie.Need-sub-left Inv-loop μ-loop
-sub-left c = omega (arith, taken (c .before) .long)
+sub-left c = omega (arith, taken c refl .long)
+
+count-of-requires : tie.Need-count-of-requires Inv-loop μ-loop
+count-of-requires c κs = tt
 
 add-count : tie.Need-add-count Inv-loop μ-loop
-add-count c = omega (arith, taken (c .before .before) .few)
+add-count c = omega (arith, taken (c .before) (c .count-of .ensures) .few)
 
 loop-less : tie.Need-loop-less Inv-loop μ-loop
-loop-less c = omega (arith, taken (c .before .before) .short, taken (c .before .before) .long)
+loop-less c = omega (arith, taken (c .before) refl .short, taken (c .before) refl .long)
 
 loop-again : tie.Need-loop-again Inv-loop μ-loop
 loop-again c =
-    let f = c .before .before in
+    let f = c .before in
     let v = f .before .before in
     let a = v .before .before in
     let held = a .before .args .held in
-    let t = taken f in (
+    let t = taken f (c .count-of .ensures) in (
       omega (arith, t .short, t .long, t .few),
-      counted-code mutes (low (a .before .args .have) held) held (a .loop .left) (v .window .result) (a .loop .count) (f .first-code .result)
-          (a .loop .inv .1) (v .window .ensures) t (omega (arith, t .long)) (omega arith),
+      counted-code mutes (low (a .before .args .have) held) held (a .loop .left) (v .window .result) (a .loop .count) _ (a .loop .inv .1)
+          (v .window .ensures) t (omega (arith, t .long)) refl,
     )
 
 returns-2 : tie.Need-returns-2 Inv-loop μ-loop
@@ -75,8 +81,9 @@ skim-each-spec =
     loop-holds
     window-requires
     returns
-    first-code-requires
+    width-of-requires
     sub-left
+    count-of-requires
     add-count
     loop-less
     loop-again

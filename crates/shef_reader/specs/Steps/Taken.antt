@@ -5,13 +5,11 @@ use mathlib.Core.Bool.{cond}
 use mathlib.Core.List.{List, [], _∷_}
 use Prim.Native.Nat.{ℕ, _+_, _/_, _≤_, _<_}
 use lib.Dec.{eqb}
-use lib.ListN.{length}
+use lib.ListN.{length, getD}
 use Rattle.codes.specs.Chain.{Entry, In, Begins}
 use Rattle.codes.specs.Pack.{low}
 use Rattle.codes.specs.Steps.BitBuffer.{Window}
 use Rattle.codes.specs.Steps.Passed.{CountedSoFar}
-use Rattle.codes.specs.Steps.Taken.{FirstCode}
-use Rattle.codes.specs.declared.Code.{Code}
 use Rattle.codes.specs.declared.Skimmed.{Skimmed}
 use Rattle.shef.specs.Table.{table, scheme}
 
@@ -27,12 +25,13 @@ pub record Says (six : ℕ) (text : List ℕ) : Type 0 where
 abbrev pub behind : ℕ → List ℕ
 behind six = cond (eqb six 58) (10 ∷ []) []
 
--- what is taken of six bits, and, where they are not all ones, it is the code that begins any nine bits that begin with them
-pub record Takes (six : ℕ) (r : Code) : Type 0 where
-  pub width : r .width ≡ 5 + six / 32
-  pub some : 1 ≤ r .count
-  pub few : r .count ≤ 2
-  pub first : six < 63 → (w : ℕ) → w / 8 ≡ six → FirstCode table w r
+-- how many characters the code says that begins six bits
+abbrev pub charactersIn : ℕ → ℕ
+charactersIn six = cond (eqb six 58) 2 1
+
+-- the first character of each code, by the six bits that it begins; six ones begin none
+abbrev pub Characters : List ℕ → Type 0
+Characters row = (six : ℕ) → six < 63 → Says six (getD row six 0 ∷ behind six)
 
 -- the next six of the lowest `have` bits of `held` are ones, and no code begins there
 abbrev pub SixOnes : ℕ → ℕ → Type 0
