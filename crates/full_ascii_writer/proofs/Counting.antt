@@ -1,21 +1,20 @@
 -- How many bits our codes of a text have, character by character, and how few they can be.
 -- Assumes nothing.
-use mathlib.Core.Path.{_≡_, refl, sym, ap, subst⁻¹, _∙_}
+use mathlib.Core.Path.{_≡_, refl, ap, subst⁻¹}
 use mathlib.Core.Bool.{Bool, true, false, cond, _&&_}
 use mathlib.Core.List.{List, [], _∷_}
-use Prim.Native.Nat.{ℕ, _+_, _-_, _*_, _≤_, _<_}
-use native.Mathlib.Numerals.{add-one}
+use Prim.Native.Nat.{ℕ, _+_, _*_, _≤_}
 use native.Mathlib.Omega.{arith}
 use mir.Val.{boolByte}
 use lib.Dec.{eqb, ltb, lit≤}
-use lib.ListN.{length, drop, getD, length-append, drop-of-length-le}
-use lib.Seq.{drop-cons}
+use lib.ListN.{length, getD, length-append}
 use Rattle.bits.specs.Word.{bit}
 use Rattle.codes.specs.Chain.{Entry, codes}
 use Rattle.codes.specs.Pack.{low}
+use Rattle.codes.specs.Steps.Summed.{sumAfter}
 use Rattle.full_ascii.specs.Table.{HT, LF, CR, six, seven, special, pair}
 use Rattle.full_ascii.specs.Writer.{own, ours}
-use Rattle.full_ascii_writer.specs.Steps.Sending.{bitsFor, bitsAfter, BitsUpTo}
+use Rattle.full_ascii_writer.specs.Steps.Sending.{bitsFor}
 use Rattle.full_ascii.proofs.Writer.{line-end, ours-has, size, size-feed}
 
 -- ---- the bits of one character
@@ -61,8 +60,8 @@ size-first c (d ∷ t) = pick (eqb c CR && eqb d LF) refl
     pick false e = omega (arith, length-append (own c .code) (codes (ours (d ∷ t))))
 
 -- the bits of the characters, one by one, are those of our codes, where no CR stands before the text
-bits-size : (before : ℕ) (t : List ℕ) → bitsAfter before t + boolByte (eqb before CR && eqb (getD t 0 0) LF) * 9 ≡ size t
-unfolding bitsAfter size ours codes
+bits-size : (before : ℕ) (t : List ℕ) → sumAfter bitsFor before t + boolByte (eqb before CR && eqb (getD t 0 0) LF) * 9 ≡ size t
+unfolding sumAfter size ours codes
 bits-size before [] = pick (eqb before CR)
   where
     pick : (b : Bool) → 0 + boolByte (b && false) * 9 ≡ 0
@@ -70,28 +69,9 @@ bits-size before [] = pick (eqb before CR)
     pick false = refl
 bits-size before (c ∷ t) = omega (arith, bits-own before c, size-first c t, bits-size c t)
 
-module _ (t : List ℕ) where
-  pub bits-whole : bitsAfter 0 t ≡ length (codes (ours t))
-  unfolding size
-  bits-whole = omega (arith, bits-size 0 t)
-
-  -- at place i of the text, and at its end
-  pub bits-next : (before i : ℕ) → i < length t
-      → bitsAfter before (drop i t) ≡ bitsFor before (getD t i 0) + bitsAfter (getD t i 0) (drop (i + 1) t)
-  unfolding bitsAfter
-  bits-next before i h =
-      ap (bitsAfter before) (drop-cons t i 0 h)
-      ∙ ap (λ (k : ℕ). bitsFor before (getD t i 0) + bitsAfter (getD t i 0) (drop k t)) (sym (add-one i))
-
-  pub bits-end : (before i : ℕ) → length t ≤ i → bitsAfter before (drop i t) ≡ 0
-  unfolding bitsAfter
-  bits-end before i h = ap (bitsAfter before) (drop-of-length-le t h)
-
-  -- a character more
-  pub bits-more : (from i n k : ℕ) → 1 ≤ i → i < length t → BitsUpTo t from i n → k ≡ bitsFor (getD t (i - 1) 0) (getD t i 0) → BitsUpTo t from (i + 1) (n + k)
-  bits-more from i n k o h b e =
-      let here : i + 1 - 1 ≡ i = omega arith in
-      omega (arith, b, e, bits-next (getD t (i - 1) 0) i h, ap (λ (j : ℕ). bitsAfter (getD t j 0) (drop (i + 1) t)) here)
+pub bits-whole : (t : List ℕ) → sumAfter bitsFor 0 t ≡ length (codes (ours t))
+unfolding size
+bits-whole t = omega (arith, bits-size 0 t)
 
 -- ---- a text has four and a half bits a character or more
 

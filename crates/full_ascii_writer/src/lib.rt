@@ -15,8 +15,9 @@ ghost use Rattle.codes.specs.Coded.{alone};
 ghost use Rattle.codes.specs.Chain.{codes};
 ghost use Rattle.codes.specs.Pack.{written};
 ghost use Rattle.codes.specs.Steps.Size.{Needs};
+ghost use Rattle.codes.specs.Steps.Summed.{SumUpTo};
 ghost use Rattle.full_ascii.specs.Writer.{coded, AllCoded, ours, LineEnd};
-ghost use Rattle.full_ascii_writer.specs.Steps.Sending.{OwnOf, FirstCodesOf, bitsFor, BitsUpTo, FourPlain, PutsOurs};
+ghost use Rattle.full_ascii_writer.specs.Steps.Sending.{OwnOf, FirstCodesOf, bitsFor, FourPlain, PutsOurs};
 
 // The code of a character by itself: a match over its ranges and the control codes picks number and width (RULES, Forms of the code).
 fn own_code(c: u8) -> Sent
@@ -109,7 +110,7 @@ fn bits_for(before: u8, c: u8) -> u16
 // How many bits our data has for the characters from one place up to another.
 fn block_bits(text: &[u8], from: usize, to: usize) -> u16
     requires { ⌜ AllCoded (now text) × (1 ≤ from) × (from ≤ to) × (to ≤ length (now text)) × (to ≤ from + 7000) ⌝ }
-    ensures { λ r. ⌜ (r ≤ 9 * (to - from)) × BitsUpTo (now (text .entry)) from to r ⌝ }
+    ensures { λ r. ⌜ (r ≤ 9 * (to - from)) × SumUpTo bitsFor (now (text .entry)) from to r ⌝ }
 {
     let mut n: u16 = 0;
     let mut i = from;

@@ -2,13 +2,14 @@
 use mathlib.Core.Path.{_≡_, subst}
 use Prim.Native.Nat.{ℕ, _-_, _*_, _≤_}
 use native.Mathlib.Omega.{arith}
-use Rattle.full_ascii_writer.specs.Steps.Sending.{BitsUpTo}
-use Rattle.full_ascii_writer.proofs.Counting.{bits-more}
+use Rattle.codes.specs.Steps.Summed.{SumUpTo}
+use Rattle.codes.proofs.EachAfter.{sum-more}
+use Rattle.full_ascii_writer.specs.Steps.Sending.{bitsFor}
 use Rattle.full_ascii_writer.proofs.block_bits.Statement.{statement}
 use Rattle.full_ascii_writer.proofs.block_bits.Tie as tie
 
 abbrev Inv-loop : tie.InvT-loop
-Inv-loop text from to n₀ i₀ n i = (from ≤ i) × (i ≤ to) × (n ≤ 9 * (i - from)) × BitsUpTo text from i n
+Inv-loop text from to n₀ i₀ n i = (from ≤ i) × (i ≤ to) × (n ≤ 9 * (i - from)) × SumUpTo bitsFor text from i n
 
 abbrev μ-loop : tie.MeasureT-loop
 μ-loop text from to n₀ i₀ n i = to - i
@@ -47,7 +48,7 @@ loop-again c =
       omega arith,
       omega arith,
       omega (arith, c .bits-for .ensures .1),
-      bits-more (e .args .text .now) (e .args .from) (a .loop .i) (a .loop .n) (c .bits-for .result) (omega arith) (omega arith) (a .loop .inv .3)
+      sum-more bitsFor (e .args .text .now) (e .args .from) (a .loop .i) (a .loop .n) (c .bits-for .result) (omega arith) (omega arith) (a .loop .inv .3)
           (c .bits-for .ensures .0),
     )
 
@@ -56,7 +57,7 @@ returns c =
     let a = c .before in
     let e = a .before .before in
     let there : a .loop .i ≡ e .args .to = omega arith in
-    (omega arith, subst (λ (k : ℕ). BitsUpTo (e .args .text .now) (e .args .from) k (a .loop .n)) there (a .loop .inv .3))
+    (omega arith, subst (λ (k : ℕ). SumUpTo bitsFor (e .args .text .now) (e .args .from) k (a .loop .n)) there (a .loop .inv .3))
 
 pub block-bits-spec : {M : Type 1} → statement M
 block-bits-spec =

@@ -6,14 +6,16 @@ use native.Mathlib.Omega.{arith}
 use lib.ListN.{length, drop, getD}
 use Rattle.codes.specs.Chain.{codes}
 use Rattle.full_ascii.specs.Writer.{ours}
-use Rattle.full_ascii_writer.specs.Steps.Sending.{bitsAfter}
-use Rattle.full_ascii_writer.proofs.Counting.{bits-whole, bits-next, bits-end}
+use Rattle.codes.specs.Steps.Summed.{sumAfter}
+use Rattle.codes.proofs.EachAfter.{sum-next, sum-end}
+use Rattle.full_ascii_writer.specs.Steps.Sending.{bitsFor}
+use Rattle.full_ascii_writer.proofs.Counting.{bits-whole}
 use Rattle.full_ascii_writer.proofs.code_bits.Statement.{statement}
 use Rattle.full_ascii_writer.proofs.code_bits.Tie as tie
 
 abbrev Inv-loop : tie.InvT-loop
 Inv-loop text n₀ i₀ n i =
-    (1 ≤ i) × (i ≤ length text) × (n ≤ 9 * i) × (n + bitsAfter (getD text (i - 1) 0) (drop i text) ≡ length (codes (ours text)))
+    (1 ≤ i) × (i ≤ length text) × (n ≤ 9 * i) × (n + sumAfter bitsFor (getD text (i - 1) 0) (drop i text) ≡ length (codes (ours text)))
 
 abbrev μ-loop : tie.MeasureT-loop
 μ-loop text n₀ i₀ n i = length text - i
@@ -21,7 +23,7 @@ abbrev μ-loop : tie.MeasureT-loop
 returns : tie.Need-returns Inv-loop μ-loop
 returns c =
     let t = c .before .before .args .text .now in
-    omega (arith, bits-whole t, bits-end t 0 0 (omega arith))
+    omega (arith, bits-whole t, sum-end bitsFor t 0 0 (omega arith))
 
 shared-slice-read-bits-for : tie.Need-shared-slice-read-bits-for Inv-loop μ-loop
 shared-slice-read-bits-for c = omega arith
@@ -37,7 +39,7 @@ cast-n c = omega (arith, c .bits-for .ensures .1)
 loop-holds : tie.Need-loop-holds Inv-loop μ-loop
 loop-holds c =
     let t = c .before .before .before .before .args .text .now in
-    (omega arith, omega arith, omega (arith, c .bits-for .ensures .1), omega (arith, bits-whole t, bits-next t 0 0 (omega arith), c .bits-for .ensures .0))
+    (omega arith, omega arith, omega (arith, c .bits-for .ensures .1), omega (arith, bits-whole t, sum-next bitsFor t 0 0 (omega arith), c .bits-for .ensures .0))
 
 block-end-requires : tie.Need-block-end-requires Inv-loop μ-loop
 block-end-requires c κs = omega arith
@@ -65,7 +67,7 @@ returns-2 : tie.Need-returns-2 Inv-loop μ-loop
 returns-2 c =
     let a = c .before in
     let t = a .before .before .before .before .before .args .text .now in
-    omega (arith, bits-end t (getD t (a .loop .i - 1) 0) (a .loop .i) (omega arith), a .loop .inv .3)
+    omega (arith, sum-end bitsFor t (getD t (a .loop .i - 1) 0) (a .loop .i) (omega arith), a .loop .inv .3)
 
 pub code-bits-spec : {M : Type 1} → statement M
 code-bits-spec =

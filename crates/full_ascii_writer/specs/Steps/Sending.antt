@@ -2,8 +2,8 @@
 -- Assumes nothing.
 use mathlib.Core.Path.{_≡_}
 use mathlib.Core.Bool.{cond, _&&_}
-use mathlib.Core.List.{List, [], _∷_}
-use Prim.Native.Nat.{ℕ, _+_, _-_, _^_, _≤_, _<_}
+use mathlib.Core.List.{List}
+use Prim.Native.Nat.{ℕ, _+_, _^_, _≤_, _<_}
 use lib.Dec.{eqb}
 use lib.ListN.{length, drop, getD}
 use Rattle.codes.specs.Chain.{codes}
@@ -33,16 +33,6 @@ FirstCodesOf text = FirstOf (codesFrom text) (length text)
 -- as that of CR alone
 unfoldable pub bitsFor : ℕ → ℕ → ℕ
 bitsFor before c = cond (eqb before CR && eqb c LF) 0 (length (own c .code))
-
--- the bits of a text that comes after a character
-unfoldable pub bitsAfter : ℕ → List ℕ → ℕ
-bitsAfter before [] = 0
-bitsAfter before (c ∷ text) = bitsFor before c + bitsAfter c text
-
--- n bits for the characters of a text from one place up to another, both behind its first character
-abbrev pub BitsUpTo : List ℕ → ℕ → ℕ → ℕ → Type 0
-BitsUpTo text from to n =
-    bitsAfter (getD text (from - 1) 0) (drop from text) ≡ n + bitsAfter (getD text (to - 1) 0) (drop to text)
 
 -- four characters are there from place i on, and none is a control character
 pub record FourPlain (text : List ℕ) (i : ℕ) : Type 0 where

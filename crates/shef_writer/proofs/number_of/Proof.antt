@@ -25,31 +25,31 @@ sub-result-2 : tie.Need-sub-result-2
 sub-result-2 c = omega (arith, letter c)
 
 returns : tie.Need-returns
-returns c = telling.number-return (c .before .args .c) (c .match .keys1)
+returns c = omega (arith, telling.number-return (c .before .args .c) (c .match .keys1))
 
 returns-2 : tie.Need-returns-2
-returns-2 c = telling.number-feed (c .before .args .c) (c .match .keys2)
+returns-2 c = omega (arith, telling.number-feed (c .before .args .c) (c .match .keys2))
 
 returns-3 : tie.Need-returns-3
-returns-3 c = telling.number-space (c .before .args .c) (c .match .keys3)
+returns-3 c = omega (arith, telling.number-space (c .before .args .c) (c .match .keys3))
 
 returns-4 : tie.Need-returns-4
-returns-4 c = telling.number-hash (c .before .args .c) (c .match .keys4)
+returns-4 c = omega (arith, telling.number-hash (c .before .args .c) (c .match .keys4))
 
 returns-5 : tie.Need-returns-5
-returns-5 c = telling.number-equals (c .before .args .c) (c .match .keys5)
+returns-5 c = omega (arith, telling.number-equals (c .before .args .c) (c .match .keys5))
 
 returns-6 : tie.Need-returns-6
-returns-6 c = telling.number-sign (c .before .before .before .args .c) (c .before .if1 .left) (c .if2 .taken)
+returns-6 c = omega (arith, telling.number-sign (c .before .before .before .args .c) (c .before .if1 .left) (c .if2 .taken))
 
 returns-7 : tie.Need-returns-7
-returns-7 c = telling.number-digit (c .before .before .before .before .args .c) (c .before .if2 .left) (c .if3 .taken)
+returns-7 c = omega (arith, telling.number-digit (c .before .before .before .before .args .c) (c .before .if2 .left) (c .if3 .taken))
 
 returns-8 : tie.Need-returns-8
-returns-8 c = telling.number-colon (c .before .before .before .before .before .args .c) (c .before .if3 .left) (c .if4 .taken)
+returns-8 c = omega (arith, telling.number-colon (c .before .before .before .before .before .args .c) (c .before .if3 .left) (c .if4 .taken))
 
 returns-9 : tie.Need-returns-9
-returns-9 c = telling.number-letter (c .before .before .args .c) (letter c .0) (omega (arith, letter c .1))
+returns-9 c = omega (arith, telling.number-letter (c .before .before .args .c) (letter c .0) (omega (arith, letter c .1)))
 
 pub number-of-spec : {M : Type 1} → statement M
 number-of-spec =
