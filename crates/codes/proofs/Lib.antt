@@ -11,6 +11,7 @@ pub mod EachAfter
 pub mod EightBytes
 pub mod EveryElement
 pub mod Fill
+pub mod FirstOfText
 pub mod FoundEntries
 pub mod LaidRows
 pub mod LastBytes

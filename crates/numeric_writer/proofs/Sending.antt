@@ -2,45 +2,42 @@
 -- Assumes nothing.
 use mathlib.Core.Path.{_≡_, refl, sym, ap, ap₂, subst, subst⁻¹, subst₂, _∙_}
 use mathlib.Core.Bool.{Bool, true, false, cond, not, _&&_, _||_, true≢false}
-use mathlib.Core.Logic.{by-cases}
 use mathlib.Core.List.{List, [], _∷_, _++_, append-nil}
 use Prim.Native.Nat.{ℕ, zero, suc, _+_, _-_, _*_, _/_, _%_, _^_, _≤_, _<_}
-use native.Mathlib.Decide.{ℕ-discrete}
 use native.Mathlib.Omega.{arith}
 use lib.Dec.{T, leb, ltb, eqb, leb→le, ltb→lt, eqb→eq, lit≤, lit<}
 use lib.ListN.{length, take, getD}
 use borrow.Author.Tests.{ne-eqb, eqb-true}
 use Rattle.bits.specs.Word.{bit}
 use Rattle.codes.specs.Chain.{Entry, codes}
-use Rattle.codes.specs.Coded.{lastOf}
 use Rattle.codes.specs.Consecutive.{codeFor, consecutive}
 use Rattle.codes.specs.LineEnds.{eachAfter, ended}
 use Rattle.codes.specs.Lookup.{same, found, first, saying}
 use Rattle.codes.specs.Pack.{low, numbers, written}
-use Rattle.codes.specs.Steps.Sending.{Joinable, FourJoined, PutSoFar}
+use Rattle.codes.specs.Steps.Sending.{Sends, PutSoFar}
 use Rattle.codes.specs.declared.Held.{Held}
 use Rattle.codes.specs.declared.Sent.{Sent}
 use Rattle.bits.proofs.Said.{and-left, and-right}
-use Rattle.codes.proofs.ByteTests.{every-below}
-use Rattle.codes.proofs.EachAfter.{last-taken}
+use Rattle.codes.proofs.ByteTests.{every-below, implied-below}
 use Rattle.codes.proofs.EveryElement.{every}
 use Rattle.codes.proofs.FoundEntries.{same-rows}
-use Rattle.codes.proofs.JoinedCodes.{first-four}
 use Rattle.codes.proofs.LastBytes.{gap-none}
-use Rattle.codes.proofs.PutSoFar.{put-whole}
+use Rattle.codes.proofs.LowBits.{length-low}
+use Rattle.codes.proofs.PutSoFar.{sends-bits, put-whole, put-room, put-sent}
 use Rattle.numeric.specs.Table.{characters, table}
 use Rattle.numeric.specs.Translation.{sent, itself, specials, translation}
 use Rattle.numeric.specs.Writer.{own, baseOf, ours}
 use Rattle.numeric.specs.Steps.InFour.{inFour, bitsFor, bitsFrom}
-use Rattle.numeric.proofs.InFour.{ours-binary, ours-length, pad-length, pad-odd, pad-even, bits-next, bits-end}
-use Rattle.numeric_writer.specs.Steps.Sending.{stands, OwnOf, Packed, FirstCodesOf}
-use Rattle.numeric_writer.proofs.Counting.{implied}
+use Rattle.numeric.proofs.InFour.{ours-binary, ours-length, pad-length, pad-odd, pad-even, bits-end}
+use Rattle.numeric_writer.specs.Steps.Sending.{stands, OwnOf, Packed}
+use Rattle.numeric_writer.proofs.Counting.{own-nothing, own-same}
 
 -- ---- what goes for one character
 
 -- the characters of both tables, and what goes for each: how many bits, and in the lowest eight the codes
 abbrev rows : List ℕ
-rows = 48 ∷ 49 ∷ 50 ∷ 51 ∷ 52 ∷ 53 ∷ 54 ∷ 55 ∷ 56 ∷ 57 ∷ 32 ∷ 43 ∷ 44 ∷ 45 ∷ 46 ∷ 47 ∷ 35 ∷ 61 ∷ 58 ∷ 69 ∷ 13 ∷ 10 ∷ []
+rows =
+    48 ∷ 49 ∷ 50 ∷ 51 ∷ 52 ∷ 53 ∷ 54 ∷ 55 ∷ 56 ∷ 57 ∷ 32 ∷ 43 ∷ 44 ∷ 45 ∷ 46 ∷ 47 ∷ 35 ∷ 61 ∷ 58 ∷ 69 ∷ 13 ∷ 10 ∷ []
 
 abbrev going : List ℕ
 going =
@@ -94,7 +91,7 @@ one-of-all = tt
 
 pub end-goes : (c : ℕ) {packed : ℕ} → c < 256 → T (stands c) → NoneOf others c → packed ≡ 0x8BB → Packed c packed
 end-goes c {packed} h s n p = pick (eqb c 13) (eqb c 10) refl refl
-    (left-over others c n (implied (stands c) (either c others) (every-below 256 (λ (x : ℕ). not (stands x) || either x others) one-of-all c h) s))
+    (left-over others c n (implied-below 256 stands (λ (x : ℕ). either x others) one-of-all c h s))
   where
     pick : (a b : Bool) → eqb c 13 ≡ a → eqb c 10 ≡ b → T (a || b) → Packed c packed
     pick true b e f t = row-goes c 20 (lit< tt) (eqb-true c 13 e) p
@@ -103,32 +100,15 @@ end-goes c {packed} h s n p = pick (eqb c 13) (eqb c 10) refl refl
 
 -- ---- after another character
 
-pub own-none : (before c : ℕ) {bits width : ℕ} → (eqb before 13 && eqb c 10) ≡ true → bits ≡ 0 → width ≡ 0 → OwnOf before c (record { bits = bits; width = width; count = 1 })
-unfolding bitsFor inFour own eachAfter translation itself specials sent characters numbers ended saying same found codes low first
-own-none before c e x y =
-    let both : T (eqb before 13 && eqb c 10) = subst⁻¹ T e tt in
-    let nothing : bitsFor 13 10 ≡ low 0 0 = refl in
-    subst₂ (λ (bits width : ℕ). OwnOf before c (record { bits = bits; width = width; count = 1 })) (sym x) (sym y)
-    (record {
-      same = ap₂ bitsFor (eqb→eq before 13 (and-left (eqb before 13) (eqb c 10) both)) (eqb→eq c 10 (and-right (eqb before 13) (eqb c 10) both)) ∙ nothing;
-      fits = lit< tt;
-      long = lit≤ tt;
-      count = refl;
-    })
-
-own-same : (before c : ℕ) → (eqb before 13 && eqb c 10) ≡ false → own before c ≡ own 0 c
-unfolding own ended
-own-same before c e =
-    ap (λ (text : List ℕ). saying translation (cond (eqb c 13) (13 ∷ 10 ∷ []) text)) (pick (eqb before 13) (eqb c 10) e)
-  where
-    pick : (r f : Bool) → (r && f) ≡ false → cond f (cond r [] (13 ∷ 10 ∷ [])) (c ∷ []) ≡ cond f (13 ∷ 10 ∷ []) (c ∷ [])
-    pick true true x = absurd (true≢false x)
-    pick true false x = refl
-    pick false true x = refl
-    pick false false x = refl
-
-pub own-some : (before c packed : ℕ) {bits width : ℕ} → (eqb before 13 && eqb c 10) ≡ false → Packed c packed → bits ≡ packed % 256 → width ≡ packed / 256
+pub own-none : (before c : ℕ) {bits width : ℕ} → (eqb before 13 && eqb c 10) ≡ true → bits ≡ 0 → width ≡ 0
     → OwnOf before c (record { bits = bits; width = width; count = 1 })
+unfolding bitsFor inFour eachAfter codes low
+own-none before c e x y =
+    subst₂ (λ (bits width : ℕ). OwnOf before c (record { bits = bits; width = width; count = 1 })) (sym x) (sym y)
+    (record { same = ap (λ (es : List Entry). inFour (codes es)) (own-nothing before c e); fits = lit< tt; long = lit≤ tt; count = refl })
+
+pub own-some : (before c packed : ℕ) {bits width : ℕ} → (eqb before 13 && eqb c 10) ≡ false → Packed c packed → bits ≡ packed % 256
+    → width ≡ packed / 256 → OwnOf before c (record { bits = bits; width = width; count = 1 })
 unfolding bitsFor
 own-some before c packed e o x y =
     subst₂ (λ (bits width : ℕ). OwnOf before c (record { bits = bits; width = width; count = 1 })) (sym x) (sym y)
@@ -138,37 +118,6 @@ own-some before c packed e o x y =
       long = o .long;
       count = refl;
     })
-
--- ---- the next characters of a text
-
-module _ (t : List ℕ) (i : ℕ) (r : Sent) (h : i < length t) where
-  pub first-own : OwnOf (lastOf (take i t)) (getD t i 0) r → FirstCodesOf t i 8 r
-  first-own o = record {
-    same = bits-next t i h
-        ∙ ap₂ (λ (l : List ℕ) (k : ℕ). l ++ bitsFrom t (i + k)) (o .same) (sym (o .count));
-    fits = o .fits;
-    long = o .long;
-    some = omega (arith, o .count);
-    within = omega (arith, o .count);
-  }
-
-  -- behind the character at j
-  pub first-behind : (j : ℕ) → i ≡ j + 1 → OwnOf (getD t j 0) (getD t i 0) r → FirstCodesOf t i 8 r
-  first-behind j e o =
-      let here : i - 1 ≡ j = omega arith in
-      first-own (subst⁻¹ (λ (b : ℕ). OwnOf b (getD t i 0) r) (last-taken t i (omega arith) (omega arith) ∙ ap (λ (k : ℕ). getD t k 0) here) o)
-
-pub own-joinable : {before c : ℕ} {r : Sent} → OwnOf before c r → Joinable 8 r
-own-joinable o = record { fits = o .fits; long = o .long; count = omega (arith, o .count) }
-
--- four of them, none the first of the text
-pub four-behind : (t : List ℕ) (i : ℕ) → 1 ≤ i → i + 4 ≤ length t → (a b c d r : Sent) → OwnOf (getD t (i - 1) 0) (getD t i 0) a
-    → OwnOf (getD t i 0) (getD t (i + 1) 0) b → OwnOf (getD t (i + 1) 0) (getD t (i + 2) 0) c → OwnOf (getD t (i + 2) 0) (getD t (i + 3) 0) d
-    → FourJoined a b c d r → FirstCodesOf t i 32 r
-four-behind t i h k a b c d r f g m n j =
-    first-four (bitsFrom t) (length t) i (i + 1) (i + 2) (i + 3) 8 a b c d r (first-behind t i a (omega arith) (i - 1) (omega arith) f)
-    (first-behind t (i + 1) b (omega arith) i (omega arith) g) (first-behind t (i + 2) c (omega arith) (i + 1) (omega arith) m)
-    (first-behind t (i + 3) d (omega arith) (i + 2) (omega arith) n) (omega (arith, f .count)) (omega (arith, g .count)) (omega (arith, m .count)) j
 
 -- ---- the space at the end
 
@@ -199,8 +148,19 @@ module _ (t entry out : List ℕ) (b : Held) (i : ℕ) (held : length (written (
         gap-none (length (codes (ours t))) ((size + 1) / 2) bytes,
       )
 
-  pub pad-space : b .have % 8 ≡ 4 → PutSoFar (ours t) entry out b (low 4 10 ++ [])
+  pad-space : b .have % 8 ≡ 4 → PutSoFar (ours t) entry out b (low 4 10 ++ [])
   pad-space h = subst (PutSoFar (ours t) entry out b) (bits-end t i end ∙ pad-odd size (odd (b .have) (size % 2) whole (omega arith) h) ∙ sym (append-nil (low 4 10))) p
 
   pub pad-nothing : (b .have % 8 ≡ 4 → ⊥) → PutSoFar (ours t) entry out b []
   pad-nothing h = subst (PutSoFar (ours t) entry out b) (bits-end t i end ∙ pad-even size (even (b .have) (size % 2) whole (omega arith) h)) p
+
+  -- and once it is sent, nothing is still to come
+  pub space-room : b .have % 8 ≡ 4 → b .n + (b .have + 4) / 8 ≤ length out
+  space-room h =
+      omega (arith, put-room (ours t) entry (ours-binary t) held out b (low 4 10) [] (pad-space h), length-low 4 10)
+
+  pub space-sent : b .have % 8 ≡ 4 → (exit : List ℕ) {width number : ℕ} (r : Held) → Sends out exit b width number r → width ≡ 4 → number ≡ 10
+      → PutSoFar (ours t) entry exit r []
+  space-sent h exit {width} {number} r s x y =
+      put-sent (ours t) entry (ours-binary t) held out b (low 4 10) [] (pad-space h) exit r
+      (sends-bits out exit b 4 10 r (p .few) (lit≤ tt) (subst₂ (λ (w n : ℕ). Sends out exit b w n r) x y s))

@@ -17,17 +17,6 @@ ghost use Rattle.codes.specs.Steps.Summed.{SumUpTo};
 ghost use Rattle.numeric.specs.Writer.{own, baseOf, clashes, codedBehind, coded, AllCoded, ours};
 ghost use Rattle.numeric_writer.specs.Steps.Sending.{stands, ofSigns, codesFor, OwnOf, Packed, FirstCodesOf};
 
-// The character before the one at i; none stands before the first, and 0 stands for it.
-fn before_at(text: &[u8], i: usize) -> u8
-    requires { ⌜ i ≤ length (now text) ⌝ }
-    ensures { λ r. ⌜ r ≡ lastOf (take i (now (text .entry))) ⌝ }
-{
-    if i == 0 {
-        return 0;
-    }
-    text[i - 1]
-}
-
 // Whether two signs go for a character: no branch here, nor in the three that follow, so that a loop over a text is done for many characters at once.
 fn of_signs(c: u8) -> bool
     ensures { λ r. ⌜ r ≡ ofSigns c ⌝ }
@@ -63,7 +52,7 @@ pub fn is_coded(text: &[u8], i: usize) -> bool
     requires { ⌜ i < length (now text) ⌝ }
     ensures { λ r. ⌜ r ≡ coded (take i (now (text .entry))) (getD (now (text .entry)) i 0) ⌝ }
 {
-    coded_after(before_at(text, i), text[i])
+    coded_after(bit_buffer::before_at(text, i), text[i])
 }
 
 // How many base characters go for a character that comes after `before`.
@@ -78,18 +67,6 @@ fn codes_for(before: u8, c: u8) -> u16
         return 2;
     }
     1
-}
-
-// Where the next characters end that are counted together: 7,000 have fewer than 2^16 codes, and numbers of 16 bits are added twice as many at once as
-// those of 32.
-fn block_end(from: usize, length: usize) -> usize
-    requires { ⌜ from < length ⌝ }
-    ensures { λ r. ⌜ (from < r) × (r ≤ length) × (r ≤ from + 7000) ⌝ }
-{
-    if length - from < 7000 {
-        return length;
-    }
-    from + 7000
 }
 
 // How many base characters go for the characters from one place up to another.
@@ -117,7 +94,7 @@ fn base_length(text: &[u8]) -> u32
     let mut n = codes_for(0, text[0]) as u32;
     let mut i: usize = 1;
     while i < text.len() {
-        let to = block_end(i, text.len());
+        let to = bit_buffer::block_end(i, text.len());
         n += block_codes(text, i, to) as u32;
         i = to;
     }
@@ -193,38 +170,28 @@ fn own_codes(before: u8, c: u8) -> Sent
     }
 }
 
-// The codes of the character at i.
-fn next_code(text: &[u8], i: usize) -> Sent
-    requires { ⌜ AllCoded (now text) × (i < length (now text)) ⌝ }
-    ensures { λ r. ⌜ FirstCodesOf (now (text .entry)) i 8 r ⌝ }
-{
-    own_codes(before_at(text, i), text[i])
-}
-
-// The codes of four characters, none of them the first of the text.
-fn four_codes(text: &[u8], i: usize) -> Sent
-    requires { ⌜ AllCoded (now text) × (1 ≤ i) × (i + 4 ≤ length (now text)) ⌝ }
+// What goes for four characters, of which the first comes after `before`.
+fn four_codes(text: &[u8], i: usize, before: u8) -> Sent
+    requires { ⌜ AllCoded (now text) × (i + 4 ≤ length (now text)) × (before ≡ lastOf (take i (now text))) ⌝ }
     ensures { λ r. ⌜ FirstCodesOf (now (text .entry)) i 32 r ⌝ }
 {
-    let first = own_codes(text[i - 1], text[i]);
+    let first = own_codes(before, text[i]);
     let second = own_codes(text[i], text[i + 1]);
     let third = own_codes(text[i + 1], text[i + 2]);
     let fourth = own_codes(text[i + 2], text[i + 3]);
     bit_buffer::four_joined(first, second, third, fourth)
 }
 
-// The codes of the character at i, or of four from there on.
+// What goes for the next character from i on, or for the next four.
 fn next_codes(text: &[u8], i: usize) -> Sent
     requires { ⌜ AllCoded (now text) × (i < length (now text)) ⌝ }
     ensures { λ r. ⌜ FirstCodesOf (now (text .entry)) i 32 r ⌝ }
 {
-    if i == 0 {
-        return next_code(text, i);
+    let before = bit_buffer::before_at(text, i);
+    if 4 <= text.len() - i {
+        return four_codes(text, i, before);
     }
-    if text.len() - i < 4 {
-        return next_code(text, i);
-    }
-    four_codes(text, i)
+    own_codes(before, text[i])
 }
 
 // What our writer builds of the text, at the front of the buffer; how many bytes it is. Where half a byte is left at the end a space fills it.

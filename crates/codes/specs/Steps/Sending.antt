@@ -21,6 +21,13 @@ pub record FirstOf (rest : ℕ → List ℕ) (size i most : ℕ) (r : Sent) : Ty
   pub some : 1 ≤ r .count
   pub within : i + r .count ≤ size
 
+-- the bits of one character as a number, at most so many
+pub record OneOf (row : List ℕ) (most : ℕ) (r : Sent) : Type 0 where
+  pub same : row ≡ low (r .width) (r .bits)
+  pub fits : r .bits < 2 ^ r .width
+  pub long : r .width ≤ most
+  pub count : r .count ≡ 1
+
 -- a number of at most so many bits, for at most so many characters
 pub record Joinable (most : ℕ) (r : Sent) : Type 0 where
   pub fits : r .bits < 2 ^ r .width

@@ -1,10 +1,6 @@
 -- `numeric_writer::codes_for` meets its contract. Assumes nothing.
-use mathlib.Core.Path.{_≡_, sym, ap, ap₂, _∙_}
-use mathlib.Core.Bool.{Bool, cond, _&&_, _||_}
 use native.Mathlib.Omega.{arith}
-use lib.Dec.{eqb}
 use borrow.Author.Needs.{needs}
-use Rattle.numeric_writer.specs.Steps.Sending.{ofSigns}
 use Rattle.numeric_writer.proofs.Counting.{counts-none, counts-some}
 use Rattle.numeric_writer.proofs.codes_for.Statement.{statement}
 use Rattle.numeric_writer.proofs.codes_for.Tie as tie
@@ -12,7 +8,7 @@ use Rattle.numeric_writer.proofs.codes_for.Tie as tie
 returns : tie.Need-returns
 returns c =
     let e = c .before in
-    (omega (arith, counts-none (e .args .before) (e .args .c) (omega arith) (e .pre) (c .if1 .taken)), omega arith)
+    (omega (arith, counts-none (e .args .before) (e .args .c) (c .if1 .taken)), omega arith)
 
 of-signs-requires : tie.Need-of-signs-requires
 of-signs-requires c κs = search needs

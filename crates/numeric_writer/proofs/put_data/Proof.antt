@@ -1,20 +1,18 @@
 -- `numeric_writer::put_data` meets its contract. The loop's invariant: the data is put so far that the bits of the rest of the text, and of the space, are
 -- still to come.
 -- Assumes nothing.
-use mathlib.Core.Path.{_≡_, _∙_}
-use mathlib.Core.List.{[], _++_}
-use Prim.Native.Nat.{_-_, _%_, _≤_}
+use mathlib.Core.Path.{_∙_}
+use mathlib.Core.List.{[]}
+use Prim.Native.Nat.{_-_, _≤_}
 use native.Mathlib.Omega.{arith}
 use lib.Dec.{lit≤, lit<}
 use lib.ListN.{length}
-use Rattle.codes.specs.Pack.{low}
 use Rattle.codes.specs.Steps.Sending.{PutSoFar}
-use Rattle.codes.proofs.LowBits.{length-low}
-use Rattle.codes.proofs.PutSoFar.{sends-bits, put-none, put-length, put-room, put-sent, first-ready, first-sent, put-flush-room, put-flushed}
+use Rattle.codes.proofs.PutSoFar.{put-none, put-length, first-ready, first-sent, put-flush-room, put-flushed}
 use Rattle.numeric.specs.Writer.{ours}
 use Rattle.numeric.specs.Steps.InFour.{bitsFrom}
 use Rattle.numeric.proofs.InFour.{ours-binary, ours-bits}
-use Rattle.numeric_writer.proofs.Sending.{pad-space, pad-nothing}
+use Rattle.numeric_writer.proofs.Sending.{space-room, space-sent, pad-nothing}
 use Rattle.numeric_writer.proofs.put_data.Statement.{statement}
 use Rattle.numeric_writer.proofs.put_data.Tie as tie
 
@@ -64,41 +62,33 @@ loop-again c =
           (f .next-codes .result) (lit≤ tt) (f .next-codes .ensures) (a .loop .inv .1) (s .send .last .0) (s .send .result) (s .send .ensures),
     )
 
--- after the loop the space is still to come
-space : (l : tie.Then1 Inv-loop μ-loop)
-    → PutSoFar (ours (l .before .before .before .before .before .before .args .text .now)) (l .before .before .before .before .before .before .args .out .now)
-    (l .before .before .before .loop .out) (l .before .before .before .loop .b) (low 4 10 ++ [])
-space l =
-    let z = l .before .before in
-    let a = z .before in
-    let e = a .before .before .before in
-    pad-space (e .args .text .now) (e .args .out .now) (a .loop .out) (a .loop .b) (a .loop .i) (e .pre .1) (z .loop-test .left) (a .loop .inv .1)
-    (l .if1 .taken)
-
 send-requires-2 : tie.Need-send-requires-2 Inv-loop μ-loop
 send-requires-2 c κs =
     let l = c .before in
-    let a = l .before .before .before in
-    let e = a .before .before .before in
-    let t = e .args .text .now in (
+    let z = l .before .before in
+    let a = z .before in
+    let e = a .before .before .before in (
       a .loop .inv .1 .few,
       lit≤ tt,
       lit< tt,
-      omega (arith, put-room (ours t) (e .args .out .now) (ours-binary t) (e .pre .1) (a .loop .out) (a .loop .b) (low 4 10) [] (space l), length-low 4 10),
+      omega (
+        arith,
+        space-room (e .args .text .now) (e .args .out .now) (a .loop .out) (a .loop .b) (a .loop .i) (e .pre .1) (z .loop-test .left) (a .loop .inv .1)
+            (l .if1 .taken),
+      ),
     )
 
--- nothing is, once it is sent
+-- once the space is sent, nothing is still to come
 even : (s : tie.After-send2 Inv-loop μ-loop)
     → PutSoFar (ours (s .before .before .before .before .before .before .before .before .args .text .now))
     (s .before .before .before .before .before .before .before .before .args .out .now) (s .send2 .last .0) (s .send2 .result) []
 even s =
     let l = s .before .before in
-    let a = l .before .before .before in
+    let z = l .before .before in
+    let a = z .before in
     let e = a .before .before .before in
-    let t = e .args .text .now in
-    put-sent (ours t) (e .args .out .now) (ours-binary t) (e .pre .1) (a .loop .out) (a .loop .b) (low 4 10) [] (space l) (s .send2 .last .0)
-    (s .send2 .result)
-    (sends-bits (a .loop .out) (s .send2 .last .0) (a .loop .b) 4 10 (s .send2 .result) (a .loop .inv .1 .few) (lit≤ tt) (s .send2 .ensures))
+    space-sent (e .args .text .now) (e .args .out .now) (a .loop .out) (a .loop .b) (a .loop .i) (e .pre .1) (z .loop-test .left) (a .loop .inv .1)
+    (l .if1 .taken) (s .send2 .last .0) (s .send2 .result) (s .send2 .ensures) (omega arith) (omega arith)
 
 flush-requires : tie.Need-flush-requires Inv-loop μ-loop
 flush-requires c κs =

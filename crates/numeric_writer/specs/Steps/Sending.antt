@@ -10,7 +10,7 @@ use Rattle.codes.specs.Chain.{codes}
 use Rattle.codes.specs.LineEnds.{ended}
 use Rattle.codes.specs.Lookup.{found, saying}
 use Rattle.codes.specs.Pack.{low}
-use Rattle.codes.specs.Steps.Sending.{FirstOf}
+use Rattle.codes.specs.Steps.Sending.{OneOf, FirstOf}
 use Rattle.codes.specs.declared.Sent.{Sent}
 use Rattle.numeric.specs.Translation.{translation}
 use Rattle.numeric.specs.Writer.{own}
@@ -29,11 +29,8 @@ abbrev pub codesFor : ℕ → ℕ → ℕ
 codesFor before c = length (codes (own before c))
 
 -- what goes for a character that comes after another: its bits as a number
-pub record OwnOf (before c : ℕ) (r : Sent) : Type 0 where
-  pub same : bitsFor before c ≡ low (r .width) (r .bits)
-  pub fits : r .bits < 2 ^ r .width
-  pub long : r .width ≤ 8
-  pub count : r .count ≡ 1
+abbrev pub OwnOf : ℕ → ℕ → Sent → Type 0
+OwnOf before c = OneOf (bitsFor before c) 8
 
 -- the same of a character that comes after no CR, in one number: how many bits, and in the lowest eight the codes
 pub record Packed (c packed : ℕ) : Type 0 where
