@@ -33,16 +33,33 @@ fn has_code(format: Format, text: &[u8], i: usize) -> bool
 }
 
 // Whether each character has a code. All are looked at, whatever is found: a loop with no way out before its end is done for many characters at once.
-fn all_coded(format: Format, text: &[u8]) -> bool
+fn all_coded_in(format: Format, text: &[u8]) -> bool
+    requires { ⌜ 0 < length (now text) ⌝ }
     ensures { λ r. ⌜ Says r (AllCoded format (now (text .entry))) ⌝ }
 {
-    let mut all = true;
-    let mut i: usize = 0;
+    let mut all = has_code(format, text, 0);
+    let mut i: usize = 1;
     while i < text.len() {
         all = all & has_code(format, text, i);
         i += 1;
     }
     all
+}
+
+// The same, whatever the length. Each format has its own call, so that LLVM makes a loop of its own for each.
+fn all_coded(format: Format, text: &[u8]) -> bool
+    ensures { λ r. ⌜ Says r (AllCoded format (now (text .entry))) ⌝ }
+{
+    if text.len() == 0 {
+        return true;
+    }
+    match format {
+        Format::Open => all_coded_in(Format::Open, text),
+        Format::PseudoBinary => all_coded_in(Format::PseudoBinary, text),
+        Format::Numeric => all_coded_in(Format::Numeric, text),
+        Format::Shef => all_coded_in(Format::Shef, text),
+        Format::FullAscii => all_coded_in(Format::FullAscii, text),
+    }
 }
 
 // The index of the first character that has no code.
