@@ -1,9 +1,9 @@
 -- Characters that are told by the one before them: the last of a row; what each character gives, in a row; a number for each, and their sum.
 -- Assumes nothing.
-use mathlib.Core.Path.{_≡_, refl, sym, ap, _∙_}
-use mathlib.Core.Bool.{Bool, _&&_}
+use mathlib.Core.Path.{_≡_, refl, sym, ap, ap₂, _∙_}
+use mathlib.Core.Bool.{Bool}
 use mathlib.Core.List.{List, [], _∷_, _++_, append-assoc}
-use Prim.Native.Nat.{ℕ, zero, suc, _+_, _-_, _≤_, _<_}
+use Prim.Native.Nat.{ℕ, suc, _+_, _-_, _≤_, _<_}
 use native.Mathlib.Numerals.{add-one}
 use native.Mathlib.Omega.{arith}
 use lib.Dec.{T}
@@ -61,6 +61,23 @@ module _ (gives : ℕ → ℕ → List Entry) where
   pub each-codes : (b c : ℕ) (text : List ℕ) → codes (eachAfter gives b (c ∷ text)) ≡ codes (gives b c) ++ codes (eachAfter gives c text)
   unfolding eachAfter
   each-codes b c text = codes-append (gives b c) (eachAfter gives c text)
+
+  -- the codes of a text from a place on: those of its character and of the rest, and none at the end
+  pub each-next : (text : List ℕ) (i : ℕ) → i < length text
+      → codes (eachAfter gives (lastOf (take i text)) (drop i text))
+      ≡ codes (gives (lastOf (take i text)) (getD text i 0)) ++ codes (eachAfter gives (lastOf (take (i + 1) text)) (drop (i + 1) text))
+  each-next text i h =
+      let before : ℕ = lastOf (take i text) in
+      let c : ℕ = getD text i 0 in
+      let behind : c ≡ lastOf (take (i + 1) text) =
+      sym (ap (λ (k : ℕ). lastOf (take k text)) (add-one i) ∙ ap lastOf (take-suc text i 0 h) ∙ last-append (take i text) c) in
+      ap (λ (l : List ℕ). codes (eachAfter gives before l)) (drop-cons text i 0 h)
+      ∙ each-codes before c (drop (suc i) text)
+      ∙ ap₂ (λ (b k : ℕ). codes (gives before c) ++ codes (eachAfter gives b (drop k text))) behind (sym (add-one i))
+
+  pub each-end : (text : List ℕ) (i : ℕ) → length text ≤ i → codes (eachAfter gives (lastOf (take i text)) (drop i text)) ≡ []
+  unfolding eachAfter codes
+  each-end text i h = ap (λ (l : List ℕ). codes (eachAfter gives (lastOf (take i text)) l)) (drop-of-length-le text h)
 
   pub each-length : (b : ℕ) (text : List ℕ) → length (codes (eachAfter gives b text)) ≡ sumAfter (λ before c. length (codes (gives before c))) b text
   unfolding eachAfter codes sumAfter

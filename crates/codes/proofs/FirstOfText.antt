@@ -6,7 +6,6 @@ use Prim.Native.Nat.{ℕ, _+_, _-_, _*_, _≤_, _<_}
 use native.Mathlib.Omega.{arith}
 use lib.ListN.{length, take, getD}
 use Rattle.codes.specs.Coded.{lastOf}
-use Rattle.codes.specs.Pack.{low}
 use Rattle.codes.specs.Steps.Sending.{OneOf, FirstOf, FourJoined}
 use Rattle.codes.specs.declared.Sent.{Sent}
 use Rattle.codes.proofs.EachAfter.{last-taken}

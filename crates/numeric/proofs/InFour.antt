@@ -1,14 +1,12 @@
 -- What our writer builds of a text, in bits: character by character, and how many.
 -- Assumes nothing.
-use mathlib.Core.Path.{_≡_, refl, sym, ap, ap₂, _∙_}
+use mathlib.Core.Path.{_≡_, refl, sym, ap, _∙_}
 use mathlib.Core.Bool.{Bool, true, false, cond}
 use mathlib.Core.List.{List, [], _∷_, _++_, append-assoc}
-use Prim.Native.Nat.{ℕ, suc, _+_, _*_, _/_, _%_, _≤_, _<_}
-use native.Mathlib.Numerals.{add-one}
+use Prim.Native.Nat.{ℕ, _+_, _*_, _/_, _%_, _≤_, _<_}
 use native.Mathlib.Omega.{arith}
 use lib.Dec.{T, eqb}
-use lib.ListN.{length, take, drop, getD, length-append, drop-of-length-le}
-use lib.Seq.{take-suc, drop-cons}
+use lib.ListN.{length, take, drop, getD, length-append}
 use borrow.Author.Tests.{eqb-true, eqb-false, eq-eqb, ne-eqb}
 use Rattle.bits.specs.Word.{bit}
 use Rattle.codes.specs.Chain.{Entry, codes}
@@ -18,7 +16,7 @@ use Rattle.codes.specs.LineEnds.{eachAfter, ended}
 use Rattle.codes.specs.Lookup.{same, found, first, saying}
 use Rattle.codes.specs.Pack.{Binary, low, numbers, written}
 use Rattle.codes.proofs.BitsInBytes.{binary, length-written}
-use Rattle.codes.proofs.EachAfter.{last-append, each-append, each-codes, each-every}
+use Rattle.codes.proofs.EachAfter.{each-append, each-every, each-next, each-end}
 use Rattle.codes.proofs.EveryElement.{every, every-append}
 use Rattle.codes.proofs.FoundEntries.{wide, saying-every, codes-every, codes-binary, codes-width, each-found}
 use Rattle.codes.proofs.PassedEntries.{codes-append}
@@ -99,7 +97,8 @@ module _ (text : List ℕ) where
   pub ours-length : length (codes (ours text)) ≡ 4 * (length (baseOf text) + length (baseOf text) % 2)
   unfolding ours sentFor inFour
   ours-length =
-      in-four-length (sentFor text) (every-append isBase (baseOf text) (evened (length (baseOf text))) (base-of-base text) (evened-base (length (baseOf text))))
+      in-four-length (sentFor text)
+      (every-append isBase (baseOf text) (evened (length (baseOf text))) (base-of-base text) (evened-base (length (baseOf text))))
       ∙ ap (λ (n : ℕ). 4 * n)
       (length-append (baseOf text) (evened (length (baseOf text))) ∙ ap (λ (n : ℕ). length (baseOf text) + n) (evened-length (length (baseOf text))))
 
@@ -112,21 +111,13 @@ module _ (text : List ℕ) where
   pub bits-next : (i : ℕ) → i < length text → bitsFrom text i ≡ bitsFor (lastOf (take i text)) (getD text i 0) ++ bitsFrom text (i + 1)
   unfolding bitsFrom bitsFor
   bits-next i h =
-      let before : ℕ = lastOf (take i text) in
-      let c : ℕ = getD text i 0 in
+      let here : List ℕ = codes (own (lastOf (take i text)) (getD text i 0)) in
       let later : List ℕ = codes (eachAfter own (lastOf (take (i + 1) text)) (drop (i + 1) text)) in
       let pad : List ℕ = inFour (evened (length (baseOf text))) in
-      let behind : c ≡ lastOf (take (i + 1) text) =
-      sym (ap (λ (k : ℕ). lastOf (take k text)) (add-one i) ∙ ap lastOf (take-suc text i 0 h) ∙ last-append (take i text) c) in
-      let split : codes (eachAfter own before (drop i text)) ≡ codes (own before c) ++ later =
-      ap (λ (l : List ℕ). codes (eachAfter own before l)) (drop-cons text i 0 h)
-      ∙ each-codes own before c (drop (suc i) text)
-      ∙ ap₂ (λ (b k : ℕ). codes (own before c) ++ codes (eachAfter own b (drop k text))) behind (sym (add-one i)) in
-      ap (λ (l : List ℕ). inFour l ++ pad) split
-      ∙ ap (λ (l : List ℕ). l ++ pad) (in-four-append (codes (own before c)) later)
-      ∙ append-assoc (inFour (codes (own before c))) (inFour later) pad
+      ap (λ (l : List ℕ). inFour l ++ pad) (each-next own text i h)
+      ∙ ap (λ (l : List ℕ). l ++ pad) (in-four-append here later)
+      ∙ append-assoc (inFour here) (inFour later) pad
 
   pub bits-end : (i : ℕ) → length text ≤ i → bitsFrom text i ≡ inFour (evened (length (baseOf text)))
   unfolding bitsFrom inFour eachAfter codes
-  bits-end i h =
-      ap (λ (l : List ℕ). inFour (codes (eachAfter own (lastOf (take i text)) l)) ++ inFour (evened (length (baseOf text)))) (drop-of-length-le text h)
+  bits-end i h = ap (λ (l : List ℕ). inFour l ++ inFour (evened (length (baseOf text)))) (each-end own text i h)

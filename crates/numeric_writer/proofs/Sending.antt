@@ -1,23 +1,22 @@
 -- What goes for a text as the writer sends it: for a character, for the next ones, and the space at the end.
 -- Assumes nothing.
-use mathlib.Core.Path.{_≡_, refl, sym, ap, ap₂, subst, subst⁻¹, subst₂, _∙_}
-use mathlib.Core.Bool.{Bool, true, false, cond, not, _&&_, _||_, true≢false}
+use mathlib.Core.Path.{_≡_, refl, sym, ap, subst, subst⁻¹, subst₂, _∙_}
+use mathlib.Core.Bool.{Bool, true, false, not, _&&_, _||_, and-false}
 use mathlib.Core.List.{List, [], _∷_, _++_, append-nil}
-use Prim.Native.Nat.{ℕ, zero, suc, _+_, _-_, _*_, _/_, _%_, _^_, _≤_, _<_}
+use Prim.Native.Nat.{ℕ, zero, suc, _+_, _*_, _/_, _%_, _^_, _≤_, _<_}
 use native.Mathlib.Omega.{arith}
-use lib.Dec.{T, leb, ltb, eqb, leb→le, ltb→lt, eqb→eq, lit≤, lit<}
-use lib.ListN.{length, take, getD}
-use borrow.Author.Tests.{ne-eqb, eqb-true}
+use lib.Dec.{T, leb, ltb, eqb, leb→le, le→leb, ltb→lt, eqb→eq, lit≤, lit<}
+use lib.ListN.{length, getD}
+use borrow.Author.Tests.{ne-eqb}
 use Rattle.bits.specs.Word.{bit}
 use Rattle.codes.specs.Chain.{Entry, codes}
 use Rattle.codes.specs.Consecutive.{codeFor, consecutive}
 use Rattle.codes.specs.LineEnds.{eachAfter, ended}
-use Rattle.codes.specs.Lookup.{same, found, first, saying}
+use Rattle.codes.specs.Lookup.{same, found, saying}
 use Rattle.codes.specs.Pack.{low, numbers, written}
 use Rattle.codes.specs.Steps.Sending.{Sends, PutSoFar}
 use Rattle.codes.specs.declared.Held.{Held}
-use Rattle.codes.specs.declared.Sent.{Sent}
-use Rattle.bits.proofs.Said.{and-left, and-right}
+use Rattle.bits.proofs.Said.{and-left, and-right, and-both}
 use Rattle.codes.proofs.ByteTests.{every-below, implied-below}
 use Rattle.codes.proofs.EveryElement.{every}
 use Rattle.codes.proofs.FoundEntries.{same-rows}
@@ -34,21 +33,21 @@ use Rattle.numeric_writer.proofs.Counting.{own-nothing, own-same}
 
 -- ---- what goes for one character
 
--- the characters of both tables, and what goes for each: how many bits, and in the lowest eight the codes
+-- what goes for a character that is no line end, by what it is modulo 32: how many bits, and in the lowest eight the codes
 abbrev rows : List ℕ
 rows =
-    48 ∷ 49 ∷ 50 ∷ 51 ∷ 52 ∷ 53 ∷ 54 ∷ 55 ∷ 56 ∷ 57 ∷ 32 ∷ 43 ∷ 44 ∷ 45 ∷ 46 ∷ 47 ∷ 35 ∷ 61 ∷ 58 ∷ 69 ∷ 13 ∷ 10 ∷ []
-
-abbrev going : List ℕ
-going =
-    0x400 ∷ 0x401 ∷ 0x402 ∷ 0x403 ∷ 0x404 ∷ 0x405 ∷ 0x406 ∷ 0x407 ∷ 0x408 ∷ 0x409 ∷ 0x40A ∷ 0x40B ∷ 0x40C ∷ 0x40D ∷ 0x40E ∷ 0x40F
-    ∷ 0x8BD ∷ 0x8DB ∷ 0x8EE ∷ 0x8DD ∷ 0x8BB ∷ 0x8BB ∷ []
+    0x40A ∷ 0x8DD ∷ 0x8DD ∷ 0x8BD ∷ 0x8DD ∷ 0x8DD ∷ 0x8DD ∷ 0x8DD ∷ 0x8DD ∷ 0x8DD ∷ 0x8DD ∷ 0x40B ∷ 0x40C ∷ 0x40D ∷ 0x40E ∷ 0x40F
+    ∷ 0x400 ∷ 0x401 ∷ 0x402 ∷ 0x403 ∷ 0x404 ∷ 0x405 ∷ 0x406 ∷ 0x407 ∷ 0x408 ∷ 0x409 ∷ 0x8EE ∷ 0x8DD ∷ 0x8DD ∷ 0x8DB ∷ 0x8DD ∷ 0x800 ∷ []
 
 abbrev goes : ℕ → ℕ → Bool
 goes c packed = same (bitsFor 0 c) (low (packed / 256) (packed % 256)) && (ltb (packed % 256) (2 ^ (packed / 256)) && leb (packed / 256) 8)
 
-all-go : T (every (λ (k : ℕ). goes (getD rows k 0) (getD going k 0)) (numbers 0 22))
-unfolding bitsFor inFour own eachAfter translation itself specials sent table consecutive codeFor characters numbers ended saying same found codes low bit every first
+abbrev plain : ℕ → Bool
+plain c = stands c && leb 32 c
+
+all-go : T (every (λ (c : ℕ). not (plain c) || goes c (getD rows (c % 32) 0)) (numbers 0 256))
+unfolding bitsFor inFour own eachAfter translation itself specials sent table consecutive codeFor characters numbers ended found saying same codes low bit
+    every
 all-go = tt
 
 own-goes : (c packed : ℕ) → T (goes c packed) → Packed c packed
@@ -63,40 +62,35 @@ own-goes c packed t =
       long = leb→le (packed / 256) 8 (and-right small few sizes);
     }
 
-pub row-goes : (c k : ℕ) {packed : ℕ} → k < 22 → c ≡ getD rows k 0 → packed ≡ getD going k 0 → Packed c packed
-row-goes c k h e p =
-    subst₂ (λ (x y : ℕ). Packed x y) (sym e) (sym p)
-    (own-goes (getD rows k 0) (getD going k 0) (every-below 22 (λ (n : ℕ). goes (getD rows n 0) (getD going n 0)) all-go k h))
+pub row-goes : (c k : ℕ) {packed : ℕ} → c < 256 → T (stands c) × (32 ≤ c) → c % 32 ≡ k → packed ≡ getD rows k 0 → Packed c packed
+row-goes c k h s e p =
+    subst⁻¹ (Packed c) (p ∙ ap (λ (n : ℕ). getD rows n 0) (sym e))
+    (own-goes c (getD rows (c % 32) 0)
+    (implied-below 256 plain (λ (x : ℕ). goes x (getD rows (x % 32) 0)) all-go c h (and-both (stands c) (leb 32 c) (s .0) (le→leb 32 c (s .1)))))
 
--- what is left of them where the others are ruled out, the last first
+-- the rows that are left where the others are ruled out, the last first
 abbrev pub NoneOf : List ℕ → ℕ → Type 0
-NoneOf [] c = Unit
-NoneOf (k ∷ ks) c = NoneOf ks c × (c ≡ k → ⊥)
+NoneOf [] k = Unit
+NoneOf (j ∷ js) k = NoneOf js k × (k ≡ j → ⊥)
 
 abbrev others : List ℕ
-others = 69 ∷ 58 ∷ 61 ∷ 35 ∷ 47 ∷ 46 ∷ 45 ∷ 44 ∷ 43 ∷ 32 ∷ 57 ∷ 56 ∷ 55 ∷ 54 ∷ 53 ∷ 52 ∷ 51 ∷ 50 ∷ 49 ∷ 48 ∷ []
+others = 31 ∷ 26 ∷ 29 ∷ 3 ∷ 15 ∷ 14 ∷ 13 ∷ 12 ∷ 11 ∷ 0 ∷ 25 ∷ 24 ∷ 23 ∷ 22 ∷ 21 ∷ 20 ∷ 19 ∷ 18 ∷ 17 ∷ 16 ∷ []
 
-abbrev either : ℕ → List ℕ → Bool
-either c [] = eqb c 13 || eqb c 10
-either c (k ∷ ks) = eqb c k || either c ks
+abbrev either : List ℕ → ℕ → Bool
+either [] k = eqb (getD rows k 0) 0x8DD
+either (j ∷ js) k = eqb k j || either js k
 
-left-over : (ks : List ℕ) (c : ℕ) → NoneOf ks c → T (either c ks) → T (eqb c 13 || eqb c 10)
-left-over [] c n t = t
-left-over (k ∷ ks) c n t =
-    left-over ks c (n .0) (subst (λ (b : Bool). T (b || either c ks)) (ne-eqb c k (n .1)) t)
+left-over : (js : List ℕ) (k : ℕ) → NoneOf js k → T (either js k) → T (eqb (getD rows k 0) 0x8DD)
+left-over [] k n t = t
+left-over (j ∷ js) k n t = left-over js k (n .0) (subst (λ (b : Bool). T (b || either js k)) (ne-eqb k j (n .1)) t)
 
-one-of-all : T (every (λ (c : ℕ). not (stands c) || either c others) (numbers 0 256))
-unfolding translation itself specials sent characters numbers ended saying same found every first
-one-of-all = tt
+all-rows : T (every (either others) (numbers 0 32))
+unfolding numbers every
+all-rows = tt
 
-pub end-goes : (c : ℕ) {packed : ℕ} → c < 256 → T (stands c) → NoneOf others c → packed ≡ 0x8BB → Packed c packed
-end-goes c {packed} h s n p = pick (eqb c 13) (eqb c 10) refl refl
-    (left-over others c n (implied-below 256 stands (λ (x : ℕ). either x others) one-of-all c h s))
-  where
-    pick : (a b : Bool) → eqb c 13 ≡ a → eqb c 10 ≡ b → T (a || b) → Packed c packed
-    pick true b e f t = row-goes c 20 (lit< tt) (eqb-true c 13 e) p
-    pick false true e f t = row-goes c 21 (lit< tt) (eqb-true c 10 f) p
-    pick false false e f t = absurd t
+pub rest-goes : (c k : ℕ) {packed : ℕ} → c < 256 → T (stands c) × (32 ≤ c) → c % 32 ≡ k → k < 32 → NoneOf others k → packed ≡ 0x8DD → Packed c packed
+rest-goes c k h s e l n p =
+    row-goes c k h s e (p ∙ sym (eqb→eq (getD rows k 0) 0x8DD (left-over others k n (every-below 32 (either others) all-rows k l))))
 
 -- ---- after another character
 
@@ -107,13 +101,36 @@ own-none before c e x y =
     subst₂ (λ (bits width : ℕ). OwnOf before c (record { bits = bits; width = width; count = 1 })) (sym x) (sym y)
     (record { same = ap (λ (es : List Entry). inFour (codes es)) (own-nothing before c e); fits = lit< tt; long = lit≤ tt; count = refl })
 
-pub own-some : (before c packed : ℕ) {bits width : ℕ} → (eqb before 13 && eqb c 10) ≡ false → Packed c packed → bits ≡ packed % 256
-    → width ≡ packed / 256 → OwnOf before c (record { bits = bits; width = width; count = 1 })
+abbrev pair : ℕ → Bool
+pair c = same (bitsFor 0 c) (low 8 0xBB)
+
+all-pairs : T (every (λ (c : ℕ). not (stands c) || pair c) (numbers 0 32))
+unfolding bitsFor inFour own eachAfter translation itself specials sent table consecutive codeFor characters numbers ended found saying same codes low bit
+    every
+all-pairs = tt
+
+pub own-pair : (before c : ℕ) {bits width : ℕ} → T (stands c) × (c < 32) → (eqb before 13 && eqb c 10) ≡ false → bits ≡ 0xBB → width ≡ 8
+    → OwnOf before c (record { bits = bits; width = width; count = 1 })
 unfolding bitsFor
-own-some before c packed e o x y =
+own-pair before c s e x y =
     subst₂ (λ (bits width : ℕ). OwnOf before c (record { bits = bits; width = width; count = 1 })) (sym x) (sym y)
     (record {
-      same = ap (λ (es : List Entry). inFour (codes es)) (own-same before c e) ∙ o .same;
+      same = ap (λ (es : List Entry). inFour (codes es)) (own-same before c e)
+          ∙ same-rows (bitsFor 0 c) (low 8 0xBB) (implied-below 32 stands pair all-pairs c (s .1) (s .0));
+      fits = lit< tt;
+      long = lit≤ tt;
+      count = refl;
+    })
+
+pub own-some : (before c packed : ℕ) {bits width : ℕ} → 32 ≤ c → Packed c packed → bits ≡ packed % 256 → width ≡ packed / 256
+    → OwnOf before c (record { bits = bits; width = width; count = 1 })
+unfolding bitsFor
+own-some before c packed h o x y =
+    let no-feed : (eqb before 13 && eqb c 10) ≡ false =
+    ap (λ (b : Bool). eqb before 13 && b) (ne-eqb c 10 (λ e. omega arith)) ∙ and-false (eqb before 13) in
+    subst₂ (λ (bits width : ℕ). OwnOf before c (record { bits = bits; width = width; count = 1 })) (sym x) (sym y)
+    (record {
+      same = ap (λ (es : List Entry). inFour (codes es)) (own-same before c no-feed) ∙ o .same;
       fits = o .fits;
       long = o .long;
       count = refl;
@@ -149,7 +166,9 @@ module _ (t entry out : List ℕ) (b : Held) (i : ℕ) (held : length (written (
       )
 
   pad-space : b .have % 8 ≡ 4 → PutSoFar (ours t) entry out b (low 4 10 ++ [])
-  pad-space h = subst (PutSoFar (ours t) entry out b) (bits-end t i end ∙ pad-odd size (odd (b .have) (size % 2) whole (omega arith) h) ∙ sym (append-nil (low 4 10))) p
+  pad-space h =
+      subst (PutSoFar (ours t) entry out b)
+      (bits-end t i end ∙ pad-odd size (odd (b .have) (size % 2) whole (omega arith) h) ∙ sym (append-nil (low 4 10))) p
 
   pub pad-nothing : (b .have % 8 ≡ 4 → ⊥) → PutSoFar (ours t) entry out b []
   pad-nothing h = subst (PutSoFar (ours t) entry out b) (bits-end t i end ∙ pad-even size (even (b .have) (size % 2) whole (omega arith) h)) p

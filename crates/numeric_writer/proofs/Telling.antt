@@ -1,17 +1,14 @@
 -- Whether a character has a code where it stands, as the code tells it.
 -- Assumes nothing.
 use mathlib.Core.Path.{_≡_, refl, sym, ap, subst⁻¹, _∙_}
-use mathlib.Core.Bool.{Bool, true, false, cond, not, _&&_, _||_, Bool·beq}
+use mathlib.Core.Bool.{Bool, false, _&&_, _||_}
 use mathlib.Core.Logic.{by-cases}
-use mathlib.Core.List.{List, [], _∷_, _++_, map}
-use Prim.Native.Nat.{ℕ, zero, suc, _-_, _≤_, _<_}
+use mathlib.Core.List.{List, [], _∷_}
+use Prim.Native.Nat.{ℕ, _<_}
 use native.Mathlib.Decide.{ℕ-discrete}
-use native.Mathlib.Omega.{arith}
-use lib.Dec.{T, leb, eqb}
-use lib.ListN.{length, take, getD}
+use lib.Dec.{leb, eqb}
 use borrow.Author.Tests.{ne-eqb}
-use Rattle.codes.specs.Chain.{Entry, codes}
-use Rattle.codes.specs.Coded.{lastOf}
+use Rattle.codes.specs.Chain.{codes}
 use Rattle.codes.specs.LineEnds.{ended}
 use Rattle.codes.specs.Lookup.{same, found, first, saying, meaning}
 use Rattle.codes.specs.Pack.{numbers}
@@ -73,7 +70,9 @@ told before c h =
     neither p m d =
         let test : clashTest before (ofSigns c) c ≡ false = rw (ne-eqb before 43 p, ne-eqb before 45 m, ne-eqb before 46 d) in
         test
-        ∙ sym (after-other before (codes (own before c)) (ne-eqb 43 before (λ e. p (sym e))) (ne-eqb 45 before (λ e. m (sym e))) (ne-eqb 46 before (λ e. d (sym e))))
+        ∙ sym
+        (after-other before (codes (own before c)) (ne-eqb 43 before (λ e. p (sym e))) (ne-eqb 45 before (λ e. m (sym e)))
+        (ne-eqb 46 before (λ e. d (sym e))))
 
 pub clash-told : (before c : ℕ) {signs : Bool} → c < 256 → signs ≡ ofSigns c → clashTest before signs c ≡ clash before c
 clash-told before c h e = ap (λ (signs : Bool). clashTest before signs c) e ∙ told before c h

@@ -118,41 +118,45 @@ pub fn coded_length(text: &[u8], most: u16) -> Needed
     Needed::Bytes((n + 1) / 2)
 }
 
-// What goes for a character, by Table 4 and Table 5: how many bits, and in the lowest eight the codes. LLVM makes a table of the match, whose arms are
-// constants.
+// What goes for a character that is no line end, by Table 4 and Table 5: how many bits, and in the lowest eight the codes. No two of these characters are the
+// same modulo 32, and none is 31: with 31 LLVM makes a table of 32 rows of the match, and tests no bound. One of 64 rows is too long to be taken into callers.
 fn packed_codes(c: u8) -> u16
-    requires { ⌜ T (stands c) ⌝ }
+    requires { ⌜ T (stands c) × (32 ≤ c) ⌝ }
     ensures { λ r. ⌜ Packed c r ⌝ }
 {
-    match c {
-        b'0' => 0x400,
-        b'1' => 0x401,
-        b'2' => 0x402,
-        b'3' => 0x403,
-        b'4' => 0x404,
-        b'5' => 0x405,
-        b'6' => 0x406,
-        b'7' => 0x407,
-        b'8' => 0x408,
-        b'9' => 0x409,
-        b' ' => 0x40A,
-        b'+' => 0x40B,
-        b',' => 0x40C,
-        b'-' => 0x40D,
-        b'.' => 0x40E,
-        b'/' => 0x40F,
-        b'#' => 0x8BD,
-        b'=' => 0x8DB,
-        b':' => 0x8EE,
-        b'E' => 0x8DD,
-        // CR and LF
-        _ => 0x8BB,
+    match c % 32 {
+        // the digits
+        16 => 0x400,
+        17 => 0x401,
+        18 => 0x402,
+        19 => 0x403,
+        20 => 0x404,
+        21 => 0x405,
+        22 => 0x406,
+        23 => 0x407,
+        24 => 0x408,
+        25 => 0x409,
+        // space + , - . /
+        0 => 0x40A,
+        11 => 0x40B,
+        12 => 0x40C,
+        13 => 0x40D,
+        14 => 0x40E,
+        15 => 0x40F,
+        // # = :
+        3 => 0x8BD,
+        29 => 0x8DB,
+        26 => 0x8EE,
+        // none of them
+        31 => 0x800,
+        // E
+        _ => 0x8DD,
     }
 }
 
-// What goes for a character that comes after `before`: nothing for LF right behind CR.
-fn own_codes(before: u8, c: u8) -> Sent
-    requires { ⌜ T (stands c) ⌝ }
+// What goes for a line end: nothing where it is LF right behind CR.
+fn end_codes(before: u8, c: u8) -> Sent
+    requires { ⌜ T (stands c) × (c < 32) ⌝ }
     ensures { λ r. ⌜ OwnOf before c r ⌝ }
 {
     if (before == b'\r') & (c == b'\n') {
@@ -161,6 +165,21 @@ fn own_codes(before: u8, c: u8) -> Sent
             width: 0,
             count: 1,
         };
+    }
+    Sent {
+        bits: 0xBB,
+        width: 8,
+        count: 1,
+    }
+}
+
+// What goes for a character that comes after `before`.
+fn own_codes(before: u8, c: u8) -> Sent
+    requires { ⌜ T (stands c) ⌝ }
+    ensures { λ r. ⌜ OwnOf before c r ⌝ }
+{
+    if c < 32 {
+        return end_codes(before, c);
     }
     let packed = packed_codes(c) as u64;
     Sent {

@@ -3,7 +3,7 @@
 use mathlib.Core.List.{List, _∷_, [], _++_}
 use Prim.Native.Nat.{ℕ}
 use lib.ListN.{length, take, drop}
-use Rattle.codes.specs.Chain.{Entry, codes}
+use Rattle.codes.specs.Chain.{codes}
 use Rattle.codes.specs.Coded.{lastOf}
 use Rattle.codes.specs.LineEnds.{eachAfter}
 use Rattle.codes.specs.Lookup.{saying}

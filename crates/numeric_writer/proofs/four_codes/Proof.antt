@@ -76,9 +76,9 @@ returns c =
     let first = second .before .before .before in
     let e = first .before .before .before in
     let t = e .args .text .now in
-    four-own t bitsFor (bitsFrom t) (bits-next t) 8 (e .args .i) (e .args .before) (first .own-codes .result) (second .own-codes2 .result) (third .own-codes3 .result)
-    (fourth .own-codes4 .result) (c .four-joined .result) (e .pre .1) (e .pre .2) (first .own-codes .ensures) (second .own-codes2 .ensures)
-    (third .own-codes3 .ensures) (fourth .own-codes4 .ensures) (c .four-joined .ensures)
+    four-own t bitsFor (bitsFrom t) (bits-next t) 8 (e .args .i) (e .args .before) (first .own-codes .result) (second .own-codes2 .result)
+    (third .own-codes3 .result) (fourth .own-codes4 .result) (c .four-joined .result) (e .pre .1) (e .pre .2) (first .own-codes .ensures)
+    (second .own-codes2 .ensures) (third .own-codes3 .ensures) (fourth .own-codes4 .ensures) (c .four-joined .ensures)
 
 pub four-codes-spec : {M : Type 1} → statement M
 four-codes-spec =

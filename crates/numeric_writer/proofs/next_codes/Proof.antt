@@ -1,5 +1,4 @@
 -- `numeric_writer::next_codes` meets its contract. Assumes nothing.
-use native.Mathlib.Omega.{arith}
 use borrow.Author.Needs.{needs}
 use lib.Dec.{lit≤}
 use Rattle.codes.proofs.FirstOfText.{one-wider, first-own}

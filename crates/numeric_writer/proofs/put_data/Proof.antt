@@ -113,13 +113,13 @@ returns c =
     let z = c .before .before in
     let s = z .before .before .before .before in
     let e = s .before .before .before .before .before .before .before .before in
-    put-flushed (ours (e .args .text .now)) (e .args .out .now) (ours-binary (e .args .text .now)) (e .pre .1) (s .send2 .last .0) (s .send2 .result) (even s)
-    (z .flush .last .0) (z .flush .result) (z .flush .ensures)
+    put-flushed (ours (e .args .text .now)) (e .args .out .now) (ours-binary (e .args .text .now)) (e .pre .1) (s .send2 .last .0) (s .send2 .result)
+    (even s) (z .flush .last .0) (z .flush .result) (z .flush .ensures)
 
 -- or nothing is still to come after the loop
 all-sent : (l : tie.Else1 Inv-loop μ-loop)
-    → PutSoFar (ours (l .before .before .before .before .before .before .args .text .now)) (l .before .before .before .before .before .before .args .out .now)
-    (l .before .before .before .loop .out) (l .before .before .before .loop .b) []
+    → PutSoFar (ours (l .before .before .before .before .before .before .args .text .now))
+    (l .before .before .before .before .before .before .args .out .now) (l .before .before .before .loop .out) (l .before .before .before .loop .b) []
 all-sent l =
     let z = l .before .before in
     let a = z .before in
@@ -133,7 +133,8 @@ flush-requires-2 c κs =
     let a = l .before .before .before in
     let e = a .before .before .before in (
       omega (arith, a .loop .inv .1 .few),
-      put-flush-room (ours (e .args .text .now)) (e .args .out .now) (ours-binary (e .args .text .now)) (e .pre .1) (a .loop .out) (a .loop .b) (all-sent l),
+      put-flush-room (ours (e .args .text .now)) (e .args .out .now) (ours-binary (e .args .text .now)) (e .pre .1) (a .loop .out) (a .loop .b)
+          (all-sent l),
     )
 
 same-length-2 : tie.Need-same-length-2 Inv-loop μ-loop

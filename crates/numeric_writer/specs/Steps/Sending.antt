@@ -32,7 +32,7 @@ codesFor before c = length (codes (own before c))
 abbrev pub OwnOf : ℕ → ℕ → Sent → Type 0
 OwnOf before c = OneOf (bitsFor before c) 8
 
--- the same of a character that comes after no CR, in one number: how many bits, and in the lowest eight the codes
+-- the same of a character that is no line end, in one number: how many bits, and in the lowest eight the codes
 pub record Packed (c packed : ℕ) : Type 0 where
   pub same : bitsFor 0 c ≡ low (packed / 256) (packed % 256)
   pub fits : packed % 256 < 2 ^ (packed / 256)

@@ -1,8 +1,12 @@
 -- `shef_writer::four_codes` meets its contract. Assumes nothing.
-use Prim.Native.Nat.{_+_}
+use Prim.Native.Nat.{ℕ, _+_}
 use native.Mathlib.Omega.{arith}
 use borrow.Author.Needs.{needs}
-use Rattle.shef_writer.proofs.Sending.{four-own}
+use Rattle.codes.specs.Chain.{codes}
+use Rattle.codes.proofs.EachAfter.{each-next}
+use Rattle.codes.proofs.FirstOfText.{four-own}
+use Rattle.shef.specs.Writer.{own}
+use Rattle.shef_writer.specs.Steps.Sending.{codesFrom}
 use Rattle.shef_writer.proofs.four_codes.Statement.{statement}
 use Rattle.shef_writer.proofs.four_codes.Tie as tie
 
@@ -72,9 +76,10 @@ returns c =
     let second = third .before .before .before in
     let first = second .before .before .before in
     let e = first .before .before .before in
-    four-own (e .args .text .now) (e .args .i) (e .args .before) (first .own-code .result) (second .own-code2 .result) (third .own-code3 .result)
-    (fourth .own-code4 .result) (c .four-joined .result) (e .pre .1) (e .pre .2) (first .own-code .ensures) (second .own-code2 .ensures)
-    (third .own-code3 .ensures) (fourth .own-code4 .ensures) (c .four-joined .ensures)
+    let t = e .args .text .now in
+    four-own t (λ (x y : ℕ). codes (own x y)) (codesFrom t) (each-next own t) 6 (e .args .i) (e .args .before) (first .own-code .result)
+    (second .own-code2 .result) (third .own-code3 .result) (fourth .own-code4 .result) (c .four-joined .result) (e .pre .1) (e .pre .2)
+    (first .own-code .ensures) (second .own-code2 .ensures) (third .own-code3 .ensures) (fourth .own-code4 .ensures) (c .four-joined .ensures)
 
 pub four-codes-spec : {M : Type 1} → statement M
 four-codes-spec =

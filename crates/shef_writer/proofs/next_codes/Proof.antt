@@ -1,8 +1,12 @@
 -- `shef_writer::next_codes` meets its contract. Assumes nothing.
-use native.Mathlib.Omega.{arith}
+use Prim.Native.Nat.{ℕ}
 use borrow.Author.Needs.{needs}
 use lib.Dec.{lit≤}
-use Rattle.shef_writer.proofs.Sending.{first-own}
+use Rattle.codes.specs.Chain.{codes}
+use Rattle.codes.proofs.EachAfter.{each-next}
+use Rattle.codes.proofs.FirstOfText.{one-wider, first-own}
+use Rattle.shef.specs.Writer.{own}
+use Rattle.shef_writer.specs.Steps.Sending.{codesFrom}
 use Rattle.shef_writer.proofs.next_codes.Statement.{statement}
 use Rattle.shef_writer.proofs.next_codes.Tie as tie
 
@@ -30,8 +34,9 @@ returns-2 : tie.Need-returns-2
 returns-2 c =
     let b = c .before .before .before in
     let e = b .before .before in
-    first-own (e .args .text .now) (e .args .i) 24 (b .before-at .result) (c .own-code .result) (e .pre .1) (lit≤ tt) (b .before-at .ensures)
-    (c .own-code .ensures)
+    let t = e .args .text .now in
+    first-own t (λ (x y : ℕ). codes (own x y)) (codesFrom t) (each-next own t) 24 (e .args .i) (b .before-at .result) (c .own-code .result) (e .pre .1)
+    (b .before-at .ensures) (one-wider (lit≤ tt) (c .own-code .ensures))
 
 pub next-codes-spec : {M : Type 1} → statement M
 next-codes-spec =

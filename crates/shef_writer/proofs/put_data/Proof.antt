@@ -7,12 +7,12 @@ use native.Mathlib.Omega.{arith}
 use lib.Dec.{lit≤}
 use lib.ListN.{length}
 use Rattle.codes.specs.Chain.{codes}
-use Rattle.codes.specs.Pack.{Binary}
 use Rattle.codes.specs.Steps.Sending.{PutSoFar}
+use Rattle.codes.proofs.EachAfter.{each-end}
 use Rattle.codes.proofs.PutSoFar.{put-none, put-length, first-ready, first-sent, put-flush-room, put-flushed}
-use Rattle.shef.specs.Writer.{ours}
+use Rattle.shef.specs.Writer.{own, ours}
 use Rattle.shef_writer.specs.Steps.Sending.{codesFrom}
-use Rattle.shef_writer.proofs.Sending.{ours-binary, codes-whole, codes-end}
+use Rattle.shef_writer.proofs.Sending.{ours-binary, codes-whole}
 use Rattle.shef_writer.proofs.put_data.Statement.{statement}
 use Rattle.shef_writer.proofs.put_data.Tie as tie
 
@@ -71,7 +71,7 @@ all-sent l =
     let a = l .before in
     let e = a .before .before .before in
     subst (PutSoFar (ours (e .args .text .now)) (e .args .out .now) (a .loop .out) (a .loop .b))
-    (codes-end (e .args .text .now) (a .loop .i) (l .loop-test .left)) (a .loop .inv .1)
+    (each-end own (e .args .text .now) (a .loop .i) (l .loop-test .left)) (a .loop .inv .1)
 
 flush-requires : tie.Need-flush-requires Inv-loop μ-loop
 flush-requires c κs =

@@ -1,23 +1,18 @@
 -- Codes as the writer sends them, and how many bits they have.
 -- Assumes nothing.
-use mathlib.Core.Path.{_≡_}
 use mathlib.Core.List.{List}
-use Prim.Native.Nat.{ℕ, _^_, _≤_, _<_}
+use Prim.Native.Nat.{ℕ}
 use lib.ListN.{length, take, drop}
 use Rattle.codes.specs.Chain.{codes}
 use Rattle.codes.specs.Coded.{lastOf}
 use Rattle.codes.specs.LineEnds.{eachAfter}
-use Rattle.codes.specs.Pack.{low}
-use Rattle.codes.specs.Steps.Sending.{FirstOf}
+use Rattle.codes.specs.Steps.Sending.{OneOf, FirstOf}
 use Rattle.codes.specs.declared.Sent.{Sent}
 use Rattle.shef.specs.Writer.{own}
 
 -- the code of a character that comes after `before`: its number and its width
-pub record OwnOf (before c : ℕ) (r : Sent) : Type 0 where
-  pub code : codes (own before c) ≡ low (r .width) (r .bits)
-  pub fits : r .bits < 2 ^ r .width
-  pub long : r .width ≤ 6
-  pub count : r .count ≡ 1
+abbrev pub OwnOf : ℕ → ℕ → Sent → Type 0
+OwnOf before c = OneOf (codes (own before c)) 6
 
 -- how many bits it has
 abbrev pub bitsFor : ℕ → ℕ → ℕ
