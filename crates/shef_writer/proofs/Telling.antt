@@ -1,10 +1,10 @@
 -- Which characters have codes, and which, as the code tells it: computed tests over all characters.
 -- Assumes nothing.
-use mathlib.Core.Path.{_≡_, refl, sym, ap, subst, subst⁻¹}
+use mathlib.Core.Path.{_≡_, refl, sym, ap, subst⁻¹, _∙_}
 use mathlib.Core.Bool.{Bool, true, false, cond, not, _&&_, _||_, Bool·beq}
 use mathlib.Core.List.{List, [], _∷_, _++_}
-use Prim.Native.Nat.{ℕ, _+_, _-_, _/_, _≤_, _<_}
-use lib.Dec.{T, leb, eqb, eqb→eq, leb→le, lit≤}
+use Prim.Native.Nat.{ℕ, _+_, _-_, _/_, _%_, _≤_, _<_}
+use lib.Dec.{T, leb, eqb, eqb→eq, ltb, ltb→lt, leb→le, le→leb, lit≤}
 use Rattle.bits.specs.Word.{bit}
 use Rattle.bits.proofs.Said.{and-left, and-right}
 use Rattle.codes.specs.Chain.{codes}
@@ -21,7 +21,7 @@ use Rattle.codes.proofs.NumberRanges.{numbers-in}
 use Rattle.numeric.specs.Table.{characters}
 use Rattle.shef.specs.Table.{table}
 use Rattle.shef.specs.Writer.{coded, own}
-use Rattle.shef_writer.specs.Steps.Sending.{bitsFor}
+use Rattle.shef_writer.specs.Steps.Sending.{bitsFor, entryOf}
 
 -- ---- whether a character has a code
 
@@ -149,6 +149,42 @@ module _ (c : ℕ) (small : c < 256) (t : T (coded c)) where
 
   pub bits-few : bitsFor 0 c ≤ 6
   bits-few = subst⁻¹ (λ (n : ℕ). n ≤ 6) bits-told (either (sixTest c))
+
+-- ---- what it has in the table
+
+pub coded-low : (c : ℕ) → c < 256 → T (coded c) → c < 91
+unfolding table consecutive codeFor characters numbers ended saying same found coded every
+coded-low c h t = ltb→lt c 91 (implied-below 256 coded (λ (x : ℕ). ltb x 91) tt c h t)
+
+abbrev entryTest : ℕ → Bool
+entryTest c = eqb (entryOf c % 64) (number c) && not (leb 64 (entryOf c) && eqb c 10)
+
+entry-test : (c : ℕ) → c < 256 → T (coded c) → T (entryTest c)
+unfolding table consecutive codeFor characters numbers low bit value ended saying same found coded own codes every entryOf
+entry-test = implied-below 256 coded entryTest tt
+
+and-no : (b : Bool) → (b && false) ≡ false
+and-no true = refl
+and-no false = refl
+
+module _ (c : ℕ) (small : c < 256) (t : T (coded c)) where
+  pub entry-number : entryOf c % 64 ≡ number c
+  entry-number =
+      eqb→eq (entryOf c % 64) (number c)
+      (and-left (eqb (entryOf c % 64) (number c)) (not (leb 64 (entryOf c) && eqb c 10)) (entry-test c small t))
+
+  -- 64 or more is no LF, so the character before does not count
+  not-feed : (a b : Bool) → T (not (a && b)) → T a → b ≡ false
+  not-feed true true x y = absurd x
+  not-feed true false x y = refl
+  not-feed false b x y = absurd y
+
+  pub entry-own : (before : ℕ) → 64 ≤ entryOf c → (eqb before 13 && eqb c 10) ≡ false
+  entry-own before h =
+      ap (λ (b : Bool). eqb before 13 && b)
+      (not-feed (leb 64 (entryOf c)) (eqb c 10)
+      (and-right (eqb (entryOf c % 64) (number c)) (not (leb 64 (entryOf c) && eqb c 10)) (entry-test c small t)) (le→leb 64 (entryOf c) h))
+      ∙ and-no (eqb before 13)
 
 -- codes are bits
 pub own-binary : (before c : ℕ) → Binary (codes (own before c))

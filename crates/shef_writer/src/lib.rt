@@ -15,7 +15,7 @@ ghost use Rattle.codes.specs.Steps.Laid.{Fronted};
 ghost use Rattle.codes.specs.Steps.Size.{Needs};
 ghost use Rattle.codes.specs.Steps.Summed.{SumUpTo};
 ghost use Rattle.shef.specs.Writer.{coded, AllCoded, own, ours};
-ghost use Rattle.shef_writer.specs.Steps.Sending.{OwnOf, FirstCodesOf, bitsFor};
+ghost use Rattle.shef_writer.specs.Steps.Sending.{CodeOf, OwnOf, FirstCodesOf, bitsFor, entryOf, entries};
 
 // Whether the character has a code: no branch, so that a loop over a text is done for many characters at once.
 pub fn is_coded(c: u8) -> bool
@@ -45,7 +45,19 @@ fn number_of(c: u8) -> u8
     }
 }
 
-// The code of a character that comes after `before`: five bits, or six if the highest is 1. LF right behind CR has none.
+// The code that a number is, if 64 or nothing is added to it: five bits, or six if the highest is 1.
+fn code_of(entry: u8) -> Sent
+    ensures { λ r. ⌜ CodeOf entry r ⌝ }
+{
+    let number = (entry % 64) as u64;
+    Sent {
+        bits: number,
+        width: 5 + number / 32,
+        count: 1,
+    }
+}
+
+// The code of a character that comes after `before`. LF right behind CR has none.
 fn own_code(before: u8, c: u8) -> Sent
     requires { ⌜ T (coded c) ⌝ }
     ensures { λ r. ⌜ OwnOf before c r ⌝ }
@@ -57,12 +69,7 @@ fn own_code(before: u8, c: u8) -> Sent
             count: 1,
         };
     }
-    let number = number_of(c) as u64;
-    Sent {
-        bits: number,
-        width: 5 + number / 32,
-        count: 1,
-    }
+    code_of(number_of(c))
 }
 
 // How many bits that code has: again no branch.
@@ -128,28 +135,34 @@ pub fn coded_length(text: &[u8], most: u16) -> Needed
     Needed::Bytes((n + 7) / 8)
 }
 
-// The codes of four characters, of which the first comes after `before`.
-fn four_codes(text: &[u8], i: usize, before: u8) -> Sent
-    requires { ⌜ AllCoded (now text) × (i + 4 ≤ length (now text)) × (before ≡ lastOf (take i (now text))) ⌝ }
-    ensures { λ r. ⌜ FirstCodesOf (now (text .entry)) i 24 r ⌝ }
+// What a character has in the table of `put_data`.
+fn entry(table: &[u8; 91], c: u8) -> u8
+    requires { ⌜ (now table ≡ entries) × T (coded c) ⌝ }
+    ensures { λ r. ⌜ r ≡ entryOf c ⌝ }
 {
-    let first = own_code(before, text[i]);
-    let second = own_code(text[i], text[i + 1]);
-    let third = own_code(text[i + 1], text[i + 2]);
-    let fourth = own_code(text[i + 2], text[i + 3]);
-    bit_buffer::four_joined(first, second, third, fourth)
+    table[c as usize]
 }
 
-// The first of our codes of the text from i on, or the first four.
-fn next_codes(text: &[u8], i: usize) -> Sent
-    requires { ⌜ AllCoded (now text) × (i < length (now text)) ⌝ }
+// The first of our codes of the text from i on, or the first four, if no LF is among their characters: one test, for mostly none is.
+fn next_codes(table: &[u8; 91], text: &[u8], i: usize) -> Sent
+    requires { ⌜ (now table ≡ entries) × AllCoded (now text) × (i < length (now text)) ⌝ }
     ensures { λ r. ⌜ FirstCodesOf (now (text .entry)) i 24 r ⌝ }
 {
-    let before = bit_buffer::before_at(text, i);
     if 4 <= text.len() - i {
-        return four_codes(text, i, before);
+        let first = entry(table, text[i]);
+        let second = entry(table, text[i + 1]);
+        let third = entry(table, text[i + 2]);
+        let fourth = entry(table, text[i + 3]);
+        if 64 <= first & (second & (third & fourth)) {
+            return bit_buffer::four_joined(
+                code_of(first),
+                code_of(second),
+                code_of(third),
+                code_of(fourth),
+            );
+        }
     }
-    own_code(before, text[i])
+    own_code(bit_buffer::before_at(text, i), text[i])
 }
 
 // What our writer builds of the text, at the front of the buffer; how many bytes it is.
@@ -157,6 +170,9 @@ pub fn put_data(text: &[u8], out: &mut [u8]) -> usize
     requires { ⌜ AllCoded (now text) × (length (written (ours (now text))) ≤ length (now out)) ⌝ }
     ensures { λ r. ⌜ Fronted (written (ours (now (text .entry)))) (now (out .entry)) (now (out .exit)) r ⌝ }
 {
+    // by character, 64 and the number that is its code, as a character; without the 64 for LF, which may be a part of a line end; ? where there is none
+    let table =
+        b"??????????:??z??????????????????J??{???????KLMNO@ABCDEFGHI}~?|???`abcdefghijklmnopqrstuvwxy";
     let mut b = Held {
         n: 0,
         held: 0,
@@ -164,7 +180,7 @@ pub fn put_data(text: &[u8], out: &mut [u8]) -> usize
     };
     let mut i: usize = 0;
     while i < text.len() {
-        let next = next_codes(text, i);
+        let next = next_codes(table, text, i);
         b = bit_buffer::send(out, b, next.bits, next.width);
         i += next.count;
     }
