@@ -6,10 +6,12 @@ use mathlib.Core.Logic.{by-cases}
 use mathlib.Core.Option.{Option, none, some}
 use mathlib.Core.List.{List, [], _∷_, _++_, append-assoc, append-nil}
 use Prim.Native.Nat.{ℕ, zero, suc, _+_, _-_, _*_, _/_, _%_, _^_, _≤_, _<_, zero-le}
-use native.Mathlib.Decide.{decLe, decLt}
+use native.Mathlib.Decide.{ℕ-discrete, decLe, decLt}
+use native.Mathlib.Nat.{mod-lt, mod-eq-of-lt}
 use native.Mathlib.Omega.{arith}
 use lib.Dec.{T, eqb, eqb→eq, lit≤}
-use lib.ListN.{length, take, getD, length-append}
+use lib.ListN.{length, take, getD, set, replicate, length-append}
+use lib.Pow.{pow-pos}
 use Rattle.bits.specs.Word.{bit}
 use Rattle.bits.proofs.Said.{and-left, and-right}
 use Rattle.codes.specs.Chain.{Entry, Fill, Begins}
@@ -21,7 +23,7 @@ use Rattle.codes.specs.Steps.Taken.{FirstCode, charactersOf}
 use Rattle.codes.specs.declared.Code.{Code}
 use Rattle.codes.proofs.Beginning.{begun, begun-begins}
 use Rattle.codes.proofs.BitBuffer.{window-whole, window-top, window-begins, begins-window}
-use Rattle.codes.proofs.EightBytes.{top-bits}
+use Rattle.codes.proofs.EightBytes.{shifted-on, top-bits, top-on}
 use Rattle.codes.proofs.EveryElement.{every, every-at}
 use Rattle.codes.proofs.LowBits.{length-low, low-add}
 use Rattle.codes.proofs.NumberRanges.{numbers-in}
@@ -31,7 +33,7 @@ use Rattle.codes.proofs.TableSearch.{find, Found, found}
 use Rattle.numeric.specs.Table.{characters}
 use Rattle.shef.specs.Table.{table, scheme}
 use Rattle.shef.proofs.Table.{laws}
-use Rattle.shef_reader.specs.Steps.Taken.{Says, behind, charactersIn, Characters}
+use Rattle.shef_reader.specs.Steps.Taken.{Says, behind, charactersIn, Counts, Characters}
 
 -- the entry that was found has the bits that the first of six tells, and says the text
 unfoldable pub tells : ℕ → List ℕ → Option Entry → Bool
@@ -204,3 +206,53 @@ module _ (held left top : ℕ) (h : 9 ≤ left) (k : left ≤ 64) (e : top ≡ h
   readable-top more f =
       let v = six-window in
       subst (λ (n : ℕ). n < 63) (v .2) (readable-word held left (v .0) (v .1) more h f)
+
+-- a word shifted by five, and by one more where b is 1
+pub times-one : (x b : ℕ) → b < 2 → x * b ≤ x
+times-one x b h =
+    by-cases (ℕ-discrete b 0) (λ e. subst⁻¹ (λ (n : ℕ). x * n ≤ x) e (omega arith))
+    (λ e. subst⁻¹ (λ (n : ℕ). x * n ≤ x) (let one : b ≡ 1 = omega arith in one) (omega arith))
+
+pub shift-five : (top b : ℕ) → b < 2 → (top * 2 ^ 5 % 2 ^ 64 + top * 2 ^ 5 % 2 ^ 64 * b) % 2 ^ 64 ≡ top * 2 ^ (5 + b) % 2 ^ 64
+shift-five top b h =
+    let five : ℕ = top * 2 ^ 5 % 2 ^ 64 in
+    let small : five < 2 ^ 64 = mod-lt (top * 2 ^ 5) (pow-pos 64) in
+    by-cases (ℕ-discrete b 0)
+    (λ e. subst⁻¹ (λ (n : ℕ). (five + five * n) % 2 ^ 64 ≡ top * 2 ^ (5 + n) % 2 ^ 64) e
+    (ap (λ (n : ℕ). n % 2 ^ 64) (let x : five + five * 0 ≡ five = omega arith in x) ∙ mod-eq-of-lt small))
+    (λ e. subst⁻¹ (λ (n : ℕ). (five + five * n) % 2 ^ 64 ≡ top * 2 ^ (5 + n) % 2 ^ 64) (let one : b ≡ 1 = omega arith in one)
+    (ap (λ (n : ℕ). n % 2 ^ 64) (let x : five + five * 1 ≡ five * 2 = omega arith in x) ∙ shifted-on top 5 1 (lit≤ tt)))
+
+-- the word after a code, as the next turn has it
+pub six-on : {next : ℕ} (held left top six width : ℕ) → next ≡ top * 2 ^ (5 + six / 32) % 2 ^ 64 → width ≡ 5 + six / 32 → width ≤ left → left ≤ 64
+    → top ≡ held * 2 ^ (64 - left) % 2 ^ 64 → next ≡ held * 2 ^ (64 - (left - width)) % 2 ^ 64
+six-on held left top six width shifted wide h k e =
+    shifted ∙ ap (λ (n : ℕ). top * 2 ^ n % 2 ^ 64) (sym wide) ∙ top-on held left top width h k e
+
+-- what a row of counts has for six bits
+module _ {row : List ℕ} (c : Counts row) (six : ℕ) where
+  pub counts-small : six < 64 → getD row six 0 ≤ 19
+  counts-small h =
+      by-cases (decLt six 63) (λ l. omega (arith, c .codes six l, characters-few six))
+      (λ l. subst⁻¹ (λ (n : ℕ). getD row n 0 ≤ 19) (let e : six ≡ 63 = omega arith in e) (omega (arith, c .ones)))
+
+  pub counts-few : six < 64 → getD row six 0 ≤ 18 → six < 63
+  counts-few h few =
+      by-cases (decLt six 63) (λ l. l)
+      (λ l. absurd (let no′ : ⊥ = omega (arith, few, ap (λ (n : ℕ). getD row n 0) (let e : six ≡ 63 = omega arith in e), c .ones) in no′))
+
+-- the row of counts that measuring makes
+unfoldable pub made : List ℕ
+made = set (set (replicate 64 1) 58 2) 63 19
+
+made-right : T (every (λ (k : ℕ). eqb (getD made k 0) (charactersIn k)) (numbers 0 63))
+unfolding made numbers every
+made-right = tt
+
+pub made-counts : Counts made
+unfolding made
+made-counts = record {
+  codes = λ six h. eqb→eq (getD made six 0) (charactersIn six)
+      (every-at (λ (k : ℕ). eqb (getD made k 0) (charactersIn k)) (numbers 0 63) made-right six (numbers-in 0 63 six zero-le (omega arith)));
+  ones = refl;
+}

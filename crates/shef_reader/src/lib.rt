@@ -5,7 +5,7 @@ use codes::Measured;
 use codes::Place;
 use codes::Skimmed;
 ghost use mathlib.Core.Path.{_≡_};
-ghost use Prim.Native.Nat.{ℕ, _+_, _-_, _/_, _≤_, _<_};
+ghost use Prim.Native.Nat.{ℕ, _+_, _-_, _*_, _/_, _%_, _^_, _≤_, _<_};
 ghost use lib.ListN.{length};
 ghost use Rattle.bits.specs.Row.{bits};
 ghost use Rattle.codes.specs.Pack.{low};
@@ -14,7 +14,7 @@ ghost use Rattle.codes.specs.Steps.Measure.{Measures, countable};
 ghost use Rattle.codes.specs.Steps.Taken.{FirstCode};
 ghost use Rattle.codes.specs.Steps.Words.{SkimsInto, Begun, CountedTo, LaidTo};
 ghost use Rattle.shef.specs.Table.{table, scheme};
-ghost use Rattle.shef_reader.specs.Steps.Taken.{charactersIn, Characters, Skims};
+ghost use Rattle.shef_reader.specs.Steps.Taken.{charactersIn, Counts, Characters, Skims};
 
 const LF: u8 = 10;
 
@@ -31,7 +31,16 @@ fn width_of(six: u64) -> u64
     5 + six / 32
 }
 
-// And how many characters it says.
+// A word shifted on by the bits of the code that begins it. A shift by a number that is worked out takes longer.
+fn shifted(top: u64, six: u64) -> u64
+    requires { ⌜ six < 64 ⌝ }
+    ensures { λ r. ⌜ r ≡ top * 2 ^ (5 + six / 32) % 2 ^ 64 ⌝ }
+{
+    let five = top << 5;
+    std::num::wrapping_add_u64(five, five * (six / 32))
+}
+
+// How many characters the code says that begins six bits.
 fn count_of(six: u64) -> usize
     ensures { λ r. ⌜ r ≡ charactersIn six ⌝ }
 {
@@ -44,7 +53,7 @@ fn count_of(six: u64) -> usize
 // The code that begins six bits: any that are not all ones begin one.
 fn first_code(six: u64, characters: &[u8; 63]) -> Code
     requires { ⌜ (six < 63) × Characters (now characters) ⌝ }
-    ensures { λ r. ⌜ (r .width ≤ 6) × ((w : ℕ) → w / 8 ≡ six → FirstCode table w r) ⌝ }
+    ensures { λ r. ⌜ (r .width ≡ 5 + six / 32) × ((w : ℕ) → w / 8 ≡ six → FirstCode table w r) ⌝ }
 {
     Code {
         width: width_of(six),
@@ -73,25 +82,22 @@ fn skim_each(held: u64, have: u64) -> Skimmed
 }
 
 // Nine codes passed; where six ones are among them, the codes up to these.
-fn skim(held: u64, have: u64) -> Skimmed
-    requires { ⌜ (57 ≤ have) × (have ≤ 64) ⌝ }
+fn skim(held: u64, have: u64, counts: &[u8; 64]) -> Skimmed
+    requires { ⌜ (57 ≤ have) × (have ≤ 64) × Counts (now counts) ⌝ }
     ensures { λ r. ⌜ Skims held have r ⌝ }
 {
     let mut top = held << (64 - have);
     let mut left = have;
     let mut count: usize = 0;
-    let mut ones: u64 = 0;
     let mut turn: u64 = 0;
     while turn < 9 {
         let six = top >> 58;
-        let width = width_of(six);
-        ones += (six + 1) / 64;
-        top = top << width;
-        left -= width;
-        count += count_of(six);
+        top = shifted(top, six);
+        left -= width_of(six);
+        count += counts[six as usize] as usize;
         turn += 1;
     }
-    if ones == 0 {
+    if count <= 18 {
         return Skimmed { left, count };
     }
     skim_each(held, have)
@@ -136,11 +142,15 @@ pub fn measure(s: &[u8]) -> Measured
     requires { ⌜ length (now s) < countable ⌝ }
     ensures { λ r. ⌜ Measures scheme (bits (now (s .entry))) r ⌝ }
 {
+    // how many characters each code says, by the six bits that it begins; of six ones, more than nine codes do
+    let mut counts: [u8; 64] = [1; 64];
+    counts[58] = 2;
+    counts[63] = 19;
     let mut next: usize = 0;
     let mut skip: u64 = 0;
     let mut n: usize = 0;
     while 8 <= s.len() - next {
-        let w = skim(bit_buffer::eight(s, next), 64 - skip);
+        let w = skim(bit_buffer::eight(s, next), 64 - skip, &counts);
         let passed = 64 - w.left;
         if 24 < w.left {
             return Measured::Malformed(next * 8 + passed as usize);
@@ -162,9 +172,10 @@ fn put_word(held: u64, have: u64, out: &mut [u8], n: usize, characters: &[u8; 63
     let mut count: usize = 0;
     let mut turn: u64 = 0;
     while turn < 9 {
-        let c = first_code(top >> 58, characters);
+        let six = top >> 58;
+        let c = first_code(six, characters);
         bit_buffer::put(out, n + count, c);
-        top = top << c.width;
+        top = shifted(top, six);
         left -= c.width;
         count += c.count;
         turn += 1;

@@ -18,7 +18,7 @@ returns : tie.Need-returns
 returns c =
     let start = c .before .before .before in
     let six = start .args .six in (
-      omega (arith, c .before .before .width-of .ensures, start .pre .0),
+      c .before .before .width-of .ensures,
       λ w e. six-code six w _ (start .pre .1 six (start .pre .0)) (start .pre .0) e (c .before .before .width-of .ensures) (c .before .count-of .ensures) (omega arith),
     )
 

@@ -2,7 +2,7 @@
 -- of the word, and their text is laid. Assumes nothing.
 use mathlib.Core.Path.{_≡_, refl, subst⁻¹}
 use mathlib.Core.List.{List}
-use Prim.Native.Nat.{ℕ, _+_, _-_, _*_, _%_, _^_, _≤_, _<_}
+use Prim.Native.Nat.{ℕ, _+_, _-_, _*_, _/_, _%_, _^_, _≤_, _<_}
 use native.Mathlib.Nat.{add-zero}
 use native.Mathlib.Omega.{arith}
 use lib.ListN.{length}
@@ -10,13 +10,12 @@ use Rattle.codes.specs.Steps.BitBuffer.{Window}
 use Rattle.codes.specs.Steps.Laid.{laid}
 use Rattle.codes.specs.Pack.{low}
 use Rattle.codes.proofs.ReadSoFar.{laying-none, laying-length, laying-front, laying-later}
-use Rattle.codes.proofs.EightBytes.{top-on}
 use Rattle.codes.specs.Steps.Passed.{LaidSoFar}
 use Rattle.codes.specs.Steps.Taken.{FirstCode, charactersOf}
 use Rattle.codes.proofs.TakenCodes.{puts-room, puts-code}
 use Rattle.shef.specs.Table.{table, scheme}
 use Rattle.shef.proofs.Table.{laws, mutes}
-use Rattle.shef_reader.proofs.Six.{six-window, readable-top}
+use Rattle.shef_reader.proofs.Six.{six-window, readable-top, six-on}
 use Rattle.shef_reader.proofs.put_word.Statement.{statement}
 use Rattle.shef_reader.proofs.put_word.Tie as tie
 
@@ -99,8 +98,8 @@ put-requires c κs =
     let t = taken (c .before) .2 in
     (t .some, t .few, omega (arith, room (c .before), same (c .before .before .before)))
 
-shl-top-2 : tie.Need-shl-top-2 Inv-loop μ-loop
-shl-top-2 c = omega (arith, taken (c .before .before .before .before .before) .2 .long)
+shifted-requires : tie.Need-shifted-requires Inv-loop μ-loop
+shifted-requires c κs = omega arith
 
 sub-left : tie.Need-sub-left Inv-loop μ-loop
 sub-left c = omega (arith, taken (c .before .before .before .before .before .before) .2 .long)
@@ -125,7 +124,8 @@ loop-again c =
       omega (arith, f .first-code .ensures .0),
       omega arith,
       omega (arith, t .few),
-      top-on (e .args .held) (a .loop .left) (a .loop .top) (r .width) (omega (arith, t .long)) (omega arith) (a .loop .inv .4),
+      six-on (e .args .held) (a .loop .left) (a .loop .top) (a .loop .top / 2 ^ 58) (r .width) (c .before .before .shifted .ensures)
+          (f .first-code .ensures .0) (omega (arith, t .long)) (omega arith) (a .loop .inv .4),
       subst⁻¹ (λ (l : List ℕ). LaidSoFar scheme (low (e .args .have) (e .args .held)) (low (a .loop .left - r .width) (e .args .held))
           (e .args .out .now) l (e .args .n) (e .args .n + (a .loop .count + r .count)))
           (c .before .before .before .before .before .put .ensures) (step f),
@@ -149,7 +149,7 @@ put-word-spec =
     first-code-requires
     add-put
     put-requires
-    shl-top-2
+    shifted-requires
     sub-left
     add-count
     add-turn

@@ -29,6 +29,11 @@ behind six = cond (eqb six 58) (10 ∷ []) []
 abbrev pub charactersIn : ℕ → ℕ
 charactersIn six = cond (eqb six 58) 2 1
 
+-- the same in a row, by the six bits; of six ones, more than nine codes say
+pub record Counts (row : List ℕ) : Type 0 where
+  pub codes : (six : ℕ) → six < 63 → getD row six 0 ≡ charactersIn six
+  pub ones : getD row 63 0 ≡ 19
+
 -- the first character of each code, by the six bits that it begins; six ones begin none
 abbrev pub Characters : List ℕ → Type 0
 Characters row = (six : ℕ) → six < 63 → Says six (getD row six 0 ∷ behind six)
