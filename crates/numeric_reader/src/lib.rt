@@ -3,6 +3,7 @@
 ghost use mathlib.Core.List.{[], _∷_};
 ghost use mathlib.Core.Path.{_≡_};
 ghost use Prim.Native.Nat.{_+_, _/_, _≤_, _<_};
+ghost use lib.Bits.{bitAnd};
 ghost use lib.ListN.{length};
 ghost use Rattle.codes.specs.Steps.Laid.{laid, Fronted};
 ghost use Rattle.codes.specs.Steps.Measure.{countable};
@@ -38,17 +39,11 @@ struct Passed {
     pub before: u32,
 }
 
-// The codes of a byte, behind the sign of the character before them.
-fn pass(before: u32, entry: u32) -> Passed
-    requires { ⌜ (before / 8 ≡ 1) × Entry entry ⌝ }
+// The codes of a byte, behind the sign of the character before them, where there is a pair.
+fn pass_pair(before: u32, entry: u32) -> Passed
+    requires { ⌜ (before / 8 ≡ 1) × Entry entry × (bitAnd before entry ≡ 0 → ⊥) ⌝ }
     ensures { λ r. ⌜ Passes before entry r ⌝ }
 {
-    if before & entry == 0 {
-        return Passed {
-            fewer: 0,
-            before: entry / 256 % 256,
-        };
-    }
     let first = entry % 8;
     let second = entry / 256 % 8;
     if before & first == 0 {
@@ -72,9 +67,14 @@ fn measure_by(s: &[u8], table: &[u32; 256]) -> usize
     let mut before: u32 = 8;
     let mut i: usize = 0;
     while i < s.len() {
-        let p = pass(before, table[s[i] as usize]);
-        saved += p.fewer;
-        before = p.before;
+        let entry = table[s[i] as usize];
+        if before & entry == 0 {
+            before = entry / 256 % 256;
+        } else {
+            let p = pass_pair(before, entry);
+            saved += p.fewer;
+            before = p.before;
+        }
         i += 1;
     }
     s.len() * 2 - saved

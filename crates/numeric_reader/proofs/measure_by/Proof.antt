@@ -1,15 +1,17 @@
 -- `numeric_reader::measure_by` meets its contract. The loop's invariant: the codes of the bytes before i are passed, and `saved` is what their text is
 -- shorter by than two characters a byte. Assumes nothing.
 use mathlib.Core.List.{List}
-use mathlib.Core.Path.{_≡_, ap, subst, subst₂, subst⁻¹}
+use mathlib.Core.Logic.{⊎-elim}
+use mathlib.Core.Path.{_≡_, ap, subst, subst₂, subst⁻¹, _∙_}
 use Prim.Native.Nat.{ℕ, _+_, _-_, _*_, _/_, _%_, _≤_}
 use native.Mathlib.Omega.{arith}
 use lib.ListN.{length, getD, drop, drop-of-length-le}
 use Rattle.numeric.specs.Steps.Text.{spelled, textOf}
 use Rattle.numeric_reader.specs.Steps.Reached.{Reached, Passes}
+use Rattle.numeric_reader.specs.declared.Passed.{Passed}
 use Rattle.numeric_reader.specs.Steps.Signs.{Entry}
 use Rattle.numeric_reader.proofs.EntryLaws.{looked-entry}
-use Rattle.numeric_reader.proofs.Passing.{passed-byte}
+use Rattle.numeric_reader.proofs.Passing.{passes-none, passed-byte}
 use Rattle.numeric_reader.proofs.Reading.{reached-none, reached-end}
 use Rattle.numeric_reader.proofs.measure_by.Statement.{statement}
 use Rattle.numeric_reader.proofs.measure_by.Tie as tie
@@ -25,30 +27,40 @@ loop-holds : tie.Need-loop-holds Inv-loop μ-loop
 unfolding textOf
 loop-holds c = (omega arith, omega arith, omega arith, reached-none (spelled (c .before .args .s .now)))
 
-shared-slice-read-pass : tie.Need-shared-slice-read-pass Inv-loop μ-loop
-shared-slice-read-pass c = omega arith
+shared-slice-read-entry : tie.Need-shared-slice-read-entry Inv-loop μ-loop
+shared-slice-read-entry c = omega arith
 
-cast-pass : tie.Need-cast-pass Inv-loop μ-loop
-cast-pass c = omega (arith, c .shared-slice-known2 .given (c .before .before .loop .i))
+cast-entry : tie.Need-cast-entry Inv-loop μ-loop
+cast-entry c = omega (arith, c .shared-slice-known2 .given (c .before .before .loop .i))
 
-mul-pass : tie.Need-mul-pass Inv-loop μ-loop
-mul-pass c = omega (arith, c .shared-slice-known2 .given (c .before .before .loop .i))
+mul-entry : tie.Need-mul-entry Inv-loop μ-loop
+mul-entry c = omega (arith, c .shared-slice-known2 .given (c .before .before .loop .i))
 
-element-copy-out-pass : tie.Need-element-copy-out-pass Inv-loop μ-loop
-element-copy-out-pass c = omega (arith, c .shared-slice-known2 .given (c .before .before .loop .i))
+element-copy-out-entry : tie.Need-element-copy-out-entry Inv-loop μ-loop
+element-copy-out-entry c = omega (arith, c .shared-slice-known2 .given (c .before .before .loop .i))
 
-pass-requires : tie.Need-pass-requires Inv-loop μ-loop
-pass-requires c κs =
-    let k = c .before in
+-- the entry of the byte
+entry : tie.After-entry Inv-loop μ-loop → ℕ
+entry d =
+    let a = d .before .before .before in
+    let e = a .before .before in
+    getD (e .args .table .now) (getD (e .args .s .now) (a .loop .i) 0) 0
+
+is-entry : (d : tie.After-entry Inv-loop μ-loop) → Entry (entry d)
+unfolding entry
+is-entry d =
+    let k = d .before in
     let a = k .before .before in
     let e = a .before .before in
-    let b = getD (e .args .s .now) (a .loop .i) 0 in (
-      a .loop .inv .2,
-      subst⁻¹ (λ (t : List ℕ). Entry (getD t b 0)) (e .pre .1) (looked-entry b (omega (arith, k .shared-slice-known2 .given (a .loop .i)))),
-    )
+    let b = getD (e .args .s .now) (a .loop .i) 0 in
+    subst⁻¹ (λ (t : List ℕ). Entry (getD t b 0)) (e .pre .1) (looked-entry b (omega (arith, k .shared-slice-known2 .given (a .loop .i))))
+
+pass-pair-requires : tie.Need-pass-pair-requires Inv-loop μ-loop
+unfolding entry
+pass-pair-requires c κs = let d = c .before in (d .before .before .before .loop .inv .2, is-entry d, c .if1 .left)
 
 add-saved : tie.Need-add-saved Inv-loop μ-loop
-add-saved c = omega (arith, c .before .pass .ensures .few)
+add-saved c = omega (arith, c .before .pass-pair .ensures .few)
 
 add-i : tie.Need-add-i Inv-loop μ-loop
 add-i c = omega arith
@@ -56,22 +68,40 @@ add-i c = omega arith
 loop-less : tie.Need-loop-less Inv-loop μ-loop
 loop-less c = omega arith
 
-loop-again : tie.Need-loop-again Inv-loop μ-loop
-loop-again c =
-    let p = c .before in
-    let k = p .before .before in
+-- its codes are passed
+step : (d : tie.After-entry Inv-loop μ-loop) (r : Passed) → Passes (d .before .before .before .loop .before) (entry d) r
+    → {saved before : ℕ} → saved ≡ d .before .before .before .loop .saved + r .fewer → before ≡ r .before
+    → (d .before .before .before .loop .i + 1 ≤ length (d .before .before .before .before .before .args .s .now))
+    × (saved ≤ d .before .before .before .loop .i + 1) × (before / 8 ≡ 1)
+    × Reached (textOf (d .before .before .before .before .before .args .s .now))
+    (spelled (drop (d .before .before .before .loop .i + 1) (d .before .before .before .before .before .args .s .now))) (before % 8)
+    ((d .before .before .before .loop .i + 1) * 2 - saved)
+unfolding entry
+step d r passes {saved} {before} x y =
+    let k = d .before in
     let a = k .before .before in
     let e = a .before .before in
     let s = e .args .s .now in
-    let few = p .pass .ensures .few in (
+    let few = passes .few in (
       omega arith,
       omega arith,
-      p .pass .ensures .held,
-      passed-byte (textOf s) s (a .loop .i) (a .loop .before) (a .loop .i * 2 - a .loop .saved) (p .pass .result) (omega arith)
+      ap (λ (n : ℕ). n / 8) y ∙ passes .held,
+      subst⁻¹ (λ (n : ℕ). Reached (textOf s) (spelled (drop (a .loop .i + 1) s)) (n % 8) ((a .loop .i + 1) * 2 - saved)) y
+          (passed-byte (textOf s) s (a .loop .i) (a .loop .before) (a .loop .i * 2 - a .loop .saved) r (omega arith)
           (omega (arith, k .shared-slice-known2 .given (a .loop .i)))
-          (subst (λ (t : List ℕ). Passes (a .loop .before) (getD t (getD s (a .loop .i) 0) 0) (p .pass .result)) (e .pre .1) (p .pass .ensures))
-          (omega arith) (a .loop .inv .3),
+          (subst (λ (t : List ℕ). Passes (a .loop .before) (getD t (getD s (a .loop .i) 0) 0) r) (e .pre .1) passes)
+          (omega arith) (a .loop .inv .3)),
     )
+
+loop-again : tie.Need-loop-again Inv-loop μ-loop
+unfolding entry
+loop-again c =
+    let d = c .before in
+    let a = d .before .before .before in
+    ⊎-elim
+    (λ w. step d (record { fewer = 0; before = entry d / 256 % 256 }) (passes-none (a .loop .before) (a .loop .inv .2) (entry d) (is-entry d) (w .0 .taken))
+    (omega (arith, w .1)) (w .2))
+    (λ w. step d (w .1 .result) (w .1 .ensures) (w .3) (w .4)) (c .if1 .came)
 
 mul-result : tie.Need-mul-result Inv-loop μ-loop
 mul-result c = omega arith
@@ -95,11 +125,11 @@ measure-by-spec =
     Inv-loop
     μ-loop
     loop-holds
-    shared-slice-read-pass
-    cast-pass
-    mul-pass
-    element-copy-out-pass
-    pass-requires
+    shared-slice-read-entry
+    cast-entry
+    mul-entry
+    element-copy-out-entry
+    pass-pair-requires
     add-saved
     add-i
     loop-less
