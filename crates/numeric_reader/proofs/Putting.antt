@@ -1,7 +1,7 @@
 -- What codes say, put into a buffer that has room for it.
 -- Assumes nothing.
 use mathlib.Core.List.{List, [], _∷_, _++_}
-use mathlib.Core.Path.{_≡_, sym, ap, subst, subst₂, _∙_}
+use mathlib.Core.Path.{_≡_, refl, sym, ap, subst, subst₂, _∙_}
 use Prim.Native.Nat.{ℕ, suc, _+_, _-_, _/_, _%_, _≤_, _<_}
 use native.Mathlib.Omega.{arith}
 use lib.Bits.{bitAnd}
@@ -65,20 +65,21 @@ module _ (before own character n : ℕ) (out : List ℕ) (signs : own ≡ sign c
 module _ (before entry n : ℕ) (out : List ℕ) (is : Entry entry) (f : Fits (firstOf entry ∷ secondOf entry ∷ []) out before n)
     (tested : bitAnd before entry ≡ 0)
   where
-    pub puts-two : Puts (firstOf entry ∷ secondOf entry ∷ []) out (set (set out n (firstOf entry)) (n + 1) (secondOf entry)) before n
-        (record { n = n + 2; before = entry / 256 % 256 })
-    puts-two = record {
-      held = entry-held entry is;
+    pub puts-two : {after : ℕ} → after ≡ entry / 256 % 256
+        → Puts (firstOf entry ∷ secondOf entry ∷ []) out (set (set out n (firstOf entry)) (n + 1) (secondOf entry)) before n
+        (record { n = n + 2; before = after })
+    puts-two {after} same = record {
+      held = ap (λ (k : ℕ). k / 8) same ∙ entry-held entry is;
       on = λ text rest entries room p.
           subst₂ (Put text rest entries (set (set out n (firstOf entry)) (n + 1) (secondOf entry)))
-          (sym (entry-second entry is) ∙ (let e : entry / 256 % 8 ≡ entry / 256 % 256 % 8 = omega arith in e))
+          (sym (entry-second entry is) ∙ (let e : entry / 256 % 8 ≡ after % 8 = omega arith in e))
           (let e : n + 1 + 1 ≡ n + 2 = omega arith in e)
           (put-alone (secondOf entry) (put-alone (firstOf entry) p (apart-before before (f .held) entry is tested) room)
           (apart-within before (f .held) entry is tested) room);
     }
 
     pub room-two : n + 2 ≤ length out
-    room-two = room-within f (puts-two .on (f .text) (f .rest) (f .entry) (f .room) (f .put) .reached)
+    room-two = room-within f (puts-two refl .on (f .text) (f .rest) (f .entry) (f .room) (f .put) .reached)
 
 -- two characters, one after the other
 module _ {c d before n : ℕ} {out : List ℕ} where

@@ -2,7 +2,7 @@
 -- shorter by than two characters a byte. Assumes nothing.
 use mathlib.Core.List.{List}
 use mathlib.Core.Logic.{⊎-elim}
-use mathlib.Core.Path.{_≡_, ap, subst, subst₂, subst⁻¹, _∙_}
+use mathlib.Core.Path.{_≡_, ap, subst, subst⁻¹, _∙_}
 use Prim.Native.Nat.{ℕ, _+_, _-_, _*_, _/_, _%_, _≤_}
 use native.Mathlib.Omega.{arith}
 use lib.ListN.{length, getD, drop, drop-of-length-le}
@@ -100,7 +100,7 @@ loop-again c =
     let a = d .before .before .before in
     ⊎-elim
     (λ w. step d (record { fewer = 0; before = entry d / 256 % 256 }) (passes-none (a .loop .before) (a .loop .inv .2) (entry d) (is-entry d) (w .0 .taken))
-    (omega (arith, w .1)) (w .2))
+    (omega (arith, w .1)) (omega (arith, w .2)))
     (λ w. step d (w .1 .result) (w .1 .ensures) (w .3) (w .4)) (c .if1 .came)
 
 mul-result : tie.Need-mul-result Inv-loop μ-loop
@@ -114,9 +114,12 @@ unfolding spelled
 returns c =
     let a = c .before in
     let s = a .before .before .args .s .now in
-    reached-end
-    (subst₂ (λ (l : List ℕ) (n : ℕ). Reached (textOf s) l (a .loop .before % 8) n) (ap spelled (drop-of-length-le s {i = a .loop .i} (omega arith)))
-    (let e : a .loop .i * 2 - a .loop .saved ≡ length s * 2 - a .loop .saved = omega arith in e) (a .loop .inv .3))
+    omega (
+      arith,
+      reached-end
+          (subst (λ (l : List ℕ). Reached (textOf s) l (a .loop .before % 8) (a .loop .i * 2 - a .loop .saved))
+          (ap spelled (drop-of-length-le s {i = a .loop .i} (omega arith))) (a .loop .inv .3)),
+    )
 
 pub measure-by-spec : {M : Type 1} → statement M
 measure-by-spec =

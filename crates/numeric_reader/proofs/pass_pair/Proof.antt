@@ -1,4 +1,5 @@
 -- `numeric_reader::pass_pair` meets its contract. Assumes nothing.
+use native.Mathlib.Omega.{arith}
 use borrow.Author.Needs.{needs}
 use Rattle.numeric_reader.proofs.Passing.{passes-pair, passes-second}
 use Rattle.numeric_reader.proofs.pass_pair.Statement.{statement}
@@ -11,7 +12,8 @@ returns : tie.Need-returns
 returns c =
     let t = c .before in
     let e = t .before in
-    passes-pair (e .args .before) (e .pre .0) (e .args .entry) (e .pre .1) (c .fewer .result) (e .pre .2) (t .if1 .taken) (c .fewer .ensures)
+    passes-pair (e .args .before) (e .pre .0) (e .args .entry) (e .pre .1) (c .fewer .result) (e .pre .2)
+    (omega (arith, t .if1 .taken)) (c .fewer .ensures)
 
 fewer-requires-2 : tie.Need-fewer-requires-2
 fewer-requires-2 c κs = search needs

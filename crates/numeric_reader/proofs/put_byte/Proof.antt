@@ -37,7 +37,7 @@ same-length c = search needs
 returns : tie.Need-returns
 returns c =
     let e = c .before .before in
-    puts-two (e .args .before) (e .args .entry) (e .args .n) (e .args .out .now) (e .pre .0) (e .pre .1) (c .if1 .taken)
+    puts-two (e .args .before) (e .args .entry) (e .args .n) (e .args .out .now) (e .pre .0) (e .pre .1) (c .if1 .taken) (omega arith)
 
 put-character-requires : tie.Need-put-character-requires
 put-character-requires c κs =
