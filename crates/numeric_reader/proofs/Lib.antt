@@ -1,3 +1,4 @@
+pub mod EntryLaws
 pub mod Pairs
 pub mod Passing
 pub mod Putting

@@ -5,25 +5,20 @@ use mathlib.Core.List.{List, [], _∷_, _++_, append-assoc}
 use mathlib.Core.Logic.{by-cases}
 use mathlib.Core.Path.{_≡_, refl, sym, ap, ap₂, subst, _∙_}
 use Prim.Native.Nat.{ℕ, zero, suc, _+_, _-_, _/_, _%_, _≤_, _<_}
-use native.Mathlib.Decide.{ℕ-discrete, decLt}
+use native.Mathlib.Decide.{ℕ-discrete}
 use native.Mathlib.Nat.{suc-add, add-zero}
 use native.Mathlib.Numerals.{add-one}
 use native.Mathlib.Omega.{arith}
-use lib.Bits.{bitAnd, bitOr, and-zero-l, and-le-l, and-le-r, and-shr, or-add-and, or-lt}
-use lib.Dec.{eqb, ltb, ltb→lt}
+use lib.Bits.{bitAnd, and-zero-l}
 use lib.ListN.{length, getD, take, drop, set, length-append, length-drop}
 use lib.Seq.{set-at, take-at, drop-append-add, drop-drop, drop-cons, append-snoc}
 use borrow.Author.Tests.{eq-eqb, ne-eqb}
 use Rattle.codes.specs.LineEnds.{LF, CR}
-use Rattle.codes.specs.Pack.{numbers}
 use Rattle.codes.specs.Steps.Laid.{laid, Fronted}
-use Rattle.codes.proofs.EveryElement.{every, every-at}
-use Rattle.codes.proofs.NumberRanges.{numbers-in}
 use Rattle.numeric.specs.Steps.Text.{character, spelled}
-use Rattle.numeric.specs.Table.{characters}
 use Rattle.numeric.specs.Translation.{translated}
 use Rattle.numeric_reader.specs.Steps.Reached.{Reached, Put}
-use Rattle.numeric_reader.specs.Steps.Signs.{signIf, sign, signed, paired}
+use Rattle.numeric_reader.specs.Steps.Signs.{signIf, sign, paired}
 use Rattle.numeric_reader.proofs.Pairs.{translated-two, ends, pairs-length, pairs-some}
 
 -- a character that makes no pair with the next is itself
@@ -201,47 +196,3 @@ unfolding spelled
 spelled-byte s i h =
     ap spelled (drop-cons s i 0 h)
     ∙ ap (λ (k : ℕ). character (getD s i 0 / 16 % 16) ∷ character (getD s i 0 % 16) ∷ spelled (drop k s)) (sym (add-one i))
-
--- ---- as it is tested: two numbers with signs above 256 have no bit in common there
-
-pub apart : (x y : ℕ) → bitAnd x y < 256 → bitAnd (x / 256) (y / 256) ≡ 0
-apart x y h = sym (and-shr x y 8) ∙ (let e : bitAnd x y / 256 ≡ 0 = omega arith in e)
-
-pub meeting : (x y : ℕ) → 256 ≤ bitAnd x y → bitAnd (x / 256) (y / 256) ≡ 0 → ⊥
-meeting x y h e = omega (arith, and-shr x y 8, e)
-
--- two tests at once
-pub both : (x y : ℕ) → bitOr x y < 256 → (x < 256) × (y < 256)
-both x y h = (omega (arith, or-add-and x y, and-le-r x y), omega (arith, or-add-and x y, and-le-l x y))
-
-pub either : (x y : ℕ) → 256 ≤ bitOr x y → x < 256 → 256 ≤ y
-either x y h k = by-cases (decLt y 256) (λ l. absurd (let no′ : ⊥ = omega (arith, or-lt 8 x y k l) in no′)) (λ l. omega arith)
-
--- ---- the characters of a byte with their signs
-
-small : (code : ℕ) → code < 16 → character code < 256
-unfolding character characters numbers every
-small code h =
-    ltb→lt (character code) 256 (every-at (λ k. ltb (character k) 256) (numbers 0 16) tt code (numbers-in 0 16 code (omega arith) (omega arith)))
-
-module _ {r : ℕ} (code : ℕ) (h : code < 16) (e : r ≡ signed (character code)) where
-  pub sign-above : r / 256 ≡ sign (character code)
-  unfolding signed
-  sign-above = omega (arith, small code h)
-
-  pub character-below : r % 256 ≡ character code
-  unfolding signed
-  character-below = omega (arith, small code h)
-
-  pub signs-agree : r / 256 ≡ sign (r % 256)
-  signs-agree = sign-above ∙ ap sign (sym character-below)
-
--- a byte's two
-pub spelled-signed : (s : List ℕ) (i : ℕ) {first second : ℕ} → i < length s → getD s i 0 < 256 → first ≡ signed (character (getD s i 0 / 16))
-    → second ≡ signed (character (getD s i 0 % 16)) → spelled (drop i s) ≡ first % 256 ∷ second % 256 ∷ spelled (drop (i + 1) s)
-spelled-signed s i h byte x y =
-    let b = getD s i 0 in
-    spelled-byte s i h
-    ∙ ap₂ (λ (c d : ℕ). c ∷ d ∷ spelled (drop (i + 1) s))
-    (ap character (let e : b / 16 % 16 ≡ b / 16 = omega arith in e) ∙ sym (character-below (b / 16) (omega arith) x))
-    (sym (character-below (b % 16) (omega arith) y))

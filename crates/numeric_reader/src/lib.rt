@@ -2,129 +2,124 @@
 
 ghost use mathlib.Core.List.{[], _∷_};
 ghost use mathlib.Core.Path.{_≡_};
-ghost use Prim.Native.Nat.{_+_, _/_, _%_, _≤_, _<_};
+ghost use Prim.Native.Nat.{_+_, _/_, _≤_, _<_};
+ghost use lib.Bits.{bitAnd};
 ghost use lib.ListN.{length};
 ghost use Rattle.codes.specs.Steps.Laid.{laid, Fronted};
 ghost use Rattle.codes.specs.Steps.Measure.{countable};
-ghost use Rattle.numeric.specs.Steps.Text.{character, textOf};
+ghost use Rattle.numeric.specs.Steps.Text.{textOf};
 ghost use Rattle.numeric_reader.specs.Steps.Reached.{Passes, Fits, Puts};
-ghost use Rattle.numeric_reader.specs.Steps.Signs.{paired, sign, signed};
+ghost use Rattle.numeric_reader.specs.Steps.Signs.{paired, sign, entries, Entry, firstOf, secondOf};
 
-// The base character of a code (Table 4), with its sign above it: 5 for +, 1 for -, 2 for a full stop. Two are a pair where their signs have a bit in
-// common.
-fn base(code: u8) -> u32
-    requires { ⌜ code < 16 ⌝ }
-    ensures { λ r. ⌜ r ≡ signed (character code) ⌝ }
-{
-    match code {
-        0 => 0x030,
-        1 => 0x031,
-        2 => 0x032,
-        3 => 0x033,
-        4 => 0x034,
-        5 => 0x035,
-        6 => 0x036,
-        7 => 0x037,
-        8 => 0x038,
-        9 => 0x039,
-        10 => 0x020,
-        11 => 0x52b,
-        12 => 0x02c,
-        13 => 0x12d,
-        14 => 0x22e,
-        _ => 0x02f,
-    }
-}
+mod entries;
 
-// What a pair says whose first sign is not that of +: one character.
-fn one_character(one: u32, other: u32) -> u8
-    requires { ⌜ one < 1024 ⌝ }
-    ensures { λ r. ⌜ r ∷ [] ≡ paired (one / 256) (other / 256) ⌝ }
+// The table, copied: each lookup in a constant would copy it.
+fn table() -> [u32; 256]
+    ensures { λ r. ⌜ r ≡ entries ⌝ }
 {
-    if 0x200 <= one {
-        return b':';
-    }
-    if other < 0x400 {
-        return b'E';
-    }
-    b'='
+    entries::ENTRIES
 }
 
 // How many characters fewer than two a pair says.
 fn fewer(one: u32, other: u32) -> usize
-    ensures { λ r. ⌜ r + length (paired (one / 256) (other / 256)) ≡ 2 ⌝ }
+    ensures { λ r. ⌜ r + length (paired one other) ≡ 2 ⌝ }
 {
-    if one < 0x400 {
+    if one < 4 {
         return 1;
     }
-    if other < 0x400 {
+    if other < 4 {
         return 1;
     }
     0
 }
 
-// Two codes passed: how many characters fewer they say, and the sign of the last character, above it.
+// Two codes passed: how many characters fewer they say, and the sign of the last character, with an 8.
 struct Passed {
     pub fewer: usize,
     pub before: u32,
 }
 
-// The two codes of a byte, behind the sign of the character before them.
-fn pass(before: u32, first: u32, second: u32) -> Passed
-    ensures { λ r. ⌜ Passes before first second r ⌝ }
+// The codes of a byte, behind the sign of the character before them, where there is a pair.
+fn pass_pair(before: u32, entry: u32) -> Passed
+    requires { ⌜ (before / 8 ≡ 1) × Entry entry × (bitAnd before entry ≡ 0 → ⊥) ⌝ }
+    ensures { λ r. ⌜ Passes before entry r ⌝ }
 {
-    if before & first | first & second < 0x100 {
-        return Passed {
-            fewer: 0,
-            before: second,
-        };
-    }
-    if before & first < 0x100 {
+    let first = entry % 8;
+    let second = entry / 256 % 8;
+    if before & first == 0 {
         return Passed {
             fewer: fewer(first, second),
-            before: 0,
+            before: 8,
         };
     }
     Passed {
-        fewer: fewer(before, first),
-        before: second,
+        fewer: fewer(before % 8, first),
+        before: second + 8,
     }
 }
 
 // The length of the text: two characters for each byte, less what pairs save.
-pub fn measure(s: &[u8]) -> usize
-    requires { ⌜ length (now s) < countable ⌝ }
+fn measure_by(s: &[u8], table: &[u32; 256]) -> usize
+    requires { ⌜ (length (now s) < countable) × (now table ≡ entries) ⌝ }
     ensures { λ r. ⌜ r ≡ length (textOf (now (s .entry))) ⌝ }
 {
     let mut saved: usize = 0;
-    let mut before: u32 = 0;
+    let mut before: u32 = 8;
     let mut i: usize = 0;
     while i < s.len() {
-        let p = pass(before, base(s[i] / 16), base(s[i] % 16));
-        saved += p.fewer;
-        before = p.before;
+        let entry = table[s[i] as usize];
+        if before & entry == 0 {
+            before = entry / 256 % 256;
+        } else {
+            let p = pass_pair(before, entry);
+            saved += p.fewer;
+            before = p.before;
+        }
         i += 1;
     }
     s.len() * 2 - saved
 }
 
-// How far the text is put: the place after it, and the sign of its last character, above it.
+// The length of the text.
+pub fn measure(s: &[u8]) -> usize
+    requires { ⌜ length (now s) < countable ⌝ }
+    ensures { λ r. ⌜ r ≡ length (textOf (now (s .entry))) ⌝ }
+{
+    let table = table();
+    measure_by(s, &table)
+}
+
+// How far the text is put: the place after it, and the sign of its last character, with an 8.
 struct Place {
     pub n: usize,
     pub before: u32,
 }
 
+// What a pair says whose first sign is not that of +: one character.
+fn one_character(one: u32, other: u32) -> u8
+    requires { ⌜ one < 4 ⌝ }
+    ensures { λ r. ⌜ r ∷ [] ≡ paired one other ⌝ }
+{
+    if 2 <= one {
+        return b':';
+    }
+    if other < 4 {
+        return b'E';
+    }
+    b'='
+}
+
 // What a pair says, from place n on; the place after it.
 fn put_pair(out: &mut [u8], n: usize, one: u32, other: u32) -> usize
-    requires { ⌜ n + length (paired (one / 256) (other / 256)) ≤ length (now out) ⌝ }
-    ensures { λ r. ⌜ r ≡ n + length (paired (one / 256) (other / 256)) ⌝ }
-    ensures { λ r. ⌜ now (out .exit) ≡ laid (now (out .entry)) n (paired (one / 256) (other / 256)) ⌝ }
+    requires { ⌜ n + length (paired one other) ≤ length (now out) ⌝ }
+    ensures { λ r. ⌜ r ≡ n + length (paired one other) ⌝ }
+    ensures { λ r. ⌜ now (out .exit) ≡ laid (now (out .entry)) n (paired one other) ⌝ }
 {
-    if one < 0x400 {
+    if one < 4 {
         out[n] = one_character(one, other);
         return n + 1;
     }
-    if other < 0x400 {
+    if other < 4 {
         out[n] = b'#';
         return n + 1;
     }
@@ -133,40 +128,58 @@ fn put_pair(out: &mut [u8], n: usize, one: u32, other: u32) -> usize
     n + 2
 }
 
-// A code, behind the sign of the character before it, which stands at n - 1 and which a pair is put over.
-fn put_code(out: &mut [u8], n: usize, before: u32, this: u32) -> Place
-    requires { ⌜ (this / 256 ≡ sign (this % 256)) × Fits (this % 256 ∷ []) (now out) (before / 256) n ⌝ }
-    ensures { λ r. ⌜ Puts (this % 256 ∷ []) (now (out .entry)) (now (out .exit)) (before / 256) n r ⌝ }
+// A character with its sign, behind the sign of the one before it, which stands at n - 1: what a pair says is put over that.
+fn put_character(out: &mut [u8], n: usize, before: u32, own: u32, character: u8) -> Place
+    requires { ⌜ (own ≡ sign character) × Fits (character ∷ []) (now out) before n ⌝ }
+    ensures { λ r. ⌜ Puts (character ∷ []) (now (out .entry)) (now (out .exit)) before n r ⌝ }
 {
-    if before & this < 0x100 {
-        out[n] = (this % 256) as u8;
+    if before & own == 0 {
+        out[n] = character;
         return Place {
             n: n + 1,
-            before: this,
+            before: own + 8,
         };
     }
     Place {
-        n: put_pair(out, n - 1, before, this),
-        before: 0,
+        n: put_pair(out, n - 1, before % 8, own),
+        before: 8,
     }
 }
 
-// The two codes of a byte.
-fn put_two(out: &mut [u8], n: usize, before: u32, first: u32, second: u32) -> Place
-    requires { ⌜ (first / 256 ≡ sign (first % 256)) × (second / 256 ≡ sign (second % 256)) ⌝ }
-    requires { ⌜ Fits (first % 256 ∷ second % 256 ∷ []) (now out) (before / 256) n ⌝ }
-    ensures { λ r. ⌜ Puts (first % 256 ∷ second % 256 ∷ []) (now (out .entry)) (now (out .exit)) (before / 256) n r ⌝ }
+// The codes of a byte, behind the sign of the character before them.
+fn put_byte(out: &mut [u8], n: usize, before: u32, entry: u32) -> Place
+    requires { ⌜ Entry entry × Fits (firstOf entry ∷ secondOf entry ∷ []) (now out) before n ⌝ }
+    ensures { λ r. ⌜ Puts (firstOf entry ∷ secondOf entry ∷ []) (now (out .entry)) (now (out .exit)) before n r ⌝ }
 {
-    if before & first | first & second < 0x100 {
-        out[n] = (first % 256) as u8;
-        out[n + 1] = (second % 256) as u8;
+    let first = (entry / 65536 % 256) as u8;
+    let second = (entry / 16777216) as u8;
+    if before & entry == 0 {
+        out[n] = first;
+        out[n + 1] = second;
         return Place {
             n: n + 2,
-            before: second,
+            before: entry / 256 % 256,
         };
     }
-    let middle = put_code(out, n, before, first);
-    put_code(out, middle.n, middle.before, second)
+    let middle = put_character(out, n, before, entry % 8, first);
+    put_character(out, middle.n, middle.before, entry / 256 % 8, second)
+}
+
+// The text of the data, at the front of the buffer; its length.
+fn put_by(s: &[u8], table: &[u32; 256], out: &mut [u8]) -> usize
+    requires { ⌜ (length (textOf (now s)) ≤ length (now out)) × (now table ≡ entries) ⌝ }
+    ensures { λ r. ⌜ Fronted (textOf (now (s .entry))) (now (out .entry)) (now (out .exit)) r ⌝ }
+{
+    let mut n: usize = 0;
+    let mut before: u32 = 8;
+    let mut i: usize = 0;
+    while i < s.len() {
+        let place = put_byte(out, n, before, table[s[i] as usize]);
+        n = place.n;
+        before = place.before;
+        i += 1;
+    }
+    n
 }
 
 // The text of the data, at the front of the buffer; its length.
@@ -174,14 +187,6 @@ pub fn put_text(s: &[u8], out: &mut [u8]) -> usize
     requires { ⌜ (length (now s) < countable) × (length (textOf (now s)) ≤ length (now out)) ⌝ }
     ensures { λ r. ⌜ Fronted (textOf (now (s .entry))) (now (out .entry)) (now (out .exit)) r ⌝ }
 {
-    let mut n: usize = 0;
-    let mut before: u32 = 0;
-    let mut i: usize = 0;
-    while i < s.len() {
-        let place = put_two(out, n, before, base(s[i] / 16), base(s[i] % 16));
-        n = place.n;
-        before = place.before;
-        i += 1;
-    }
-    n
+    let table = table();
+    put_by(s, &table, out)
 }

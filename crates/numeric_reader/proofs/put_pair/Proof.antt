@@ -1,6 +1,5 @@
 -- `numeric_reader::put_pair` meets its contract. Assumes nothing.
 use mathlib.Core.Path.{sym, ap}
-use Prim.Native.Nat.{_/_}
 use native.Mathlib.Omega.{arith}
 use lib.ListN.{length, length-set}
 use borrow.Author.Needs.{needs}
@@ -12,7 +11,7 @@ one-character-requires : tie.Need-one-character-requires
 one-character-requires c κs = search needs
 
 slice-write-out : tie.Need-slice-write-out
-slice-write-out c = let a = c .before .before .before .args in omega (arith, pairs-some (a .one / 256) (a .other / 256))
+slice-write-out c = let a = c .before .before .before .args in omega (arith, pairs-some (a .one) (a .other))
 
 add-result : tie.Need-add-result
 add-result c = search needs
@@ -24,10 +23,10 @@ returns : tie.Need-returns
 returns c =
     let e = c .before .before .before in
     let a = e .args in
-    puts-one (a .one / 256) (a .other / 256) (a .out .now) (a .n) (sym (c .one-character .ensures)) (e .pre)
+    puts-one (a .one) (a .other) (a .out .now) (a .n) (sym (c .one-character .ensures)) (e .pre)
 
 slice-write-out-2 : tie.Need-slice-write-out-2
-slice-write-out-2 c = let a = c .before .before .before .args in omega (arith, pairs-some (a .one / 256) (a .other / 256))
+slice-write-out-2 c = let a = c .before .before .before .args in omega (arith, pairs-some (a .one) (a .other))
 
 add-result-2 : tie.Need-add-result-2
 add-result-2 c = search needs
@@ -39,10 +38,10 @@ returns-2 : tie.Need-returns-2
 returns-2 c =
     let e = c .before .before .before in
     let a = e .args in
-    puts-one (a .one / 256) (a .other / 256) (a .out .now) (a .n) (pair-number _ _ (omega arith) (omega arith)) (e .pre)
+    puts-one (a .one) (a .other) (a .out .now) (a .n) (pair-number _ _ (omega arith) (omega arith)) (e .pre)
 
 slice-write-out-3 : tie.Need-slice-write-out-3
-slice-write-out-3 c = let a = c .before .before .before .args in omega (arith, pairs-some (a .one / 256) (a .other / 256))
+slice-write-out-3 c = let a = c .before .before .before .args in omega (arith, pairs-some (a .one) (a .other))
 
 add-out : tie.Need-add-out
 add-out c = search needs
@@ -50,7 +49,7 @@ add-out c = search needs
 slice-write-out-4 : tie.Need-slice-write-out-4
 slice-write-out-4 c =
     let a = c .before .before .before .args in
-    simp length-set (omega (arith, ap length (pair-line (a .one / 256) (a .other / 256) (omega arith) (omega arith))))
+    simp length-set (omega (arith, ap length (pair-line (a .one) (a .other) (omega arith) (omega arith))))
 
 add-result-3 : tie.Need-add-result-3
 add-result-3 c = search needs
@@ -62,7 +61,7 @@ returns-3 : tie.Need-returns-3
 returns-3 c =
     let e = c .before .before .before in
     let a = e .args in
-    puts-line (a .one / 256) (a .other / 256) (a .out .now) (a .n) (pair-line _ _ (omega arith) (omega arith)) (e .pre)
+    puts-line (a .one) (a .other) (a .out .now) (a .n) (pair-line _ _ (omega arith) (omega arith)) (e .pre)
 
 pub put-pair-spec : {M : Type 1} → statement M
 put-pair-spec =
