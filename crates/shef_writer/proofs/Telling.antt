@@ -153,14 +153,14 @@ module _ (c : ℕ) (small : c < 256) (t : T (coded c)) where
 -- ---- what it has in the table
 
 pub coded-low : (c : ℕ) → c < 256 → T (coded c) → c < 91
-unfolding table consecutive codeFor characters numbers ended saying same found coded every
+unfolding table consecutive codeFor characters numbers ended saying same found coded every first
 coded-low c h t = ltb→lt c 91 (implied-below 256 coded (λ (x : ℕ). ltb x 91) tt c h t)
 
 abbrev entryTest : ℕ → Bool
 entryTest c = eqb (entryOf c % 64) (number c) && not (leb 64 (entryOf c) && eqb c 10)
 
 entry-test : (c : ℕ) → c < 256 → T (coded c) → T (entryTest c)
-unfolding table consecutive codeFor characters numbers low bit value ended saying same found coded own codes every entryOf
+unfolding table consecutive codeFor characters numbers low bit value ended saying same found coded own codes every entryOf first
 entry-test = implied-below 256 coded entryTest tt
 
 and-no : (b : Bool) → (b && false) ≡ false
