@@ -18,7 +18,7 @@ typedef rosopyat_write_answer writer(uint32_t, bool, const uint8_t *, size_t, ui
 static reader *const readers[IMPLEMENTATIONS] = {rosopyat_read, independent_read, tuned_read};
 static writer *const writers[IMPLEMENTATIONS] = {rosopyat_write, independent_write, tuned_write};
 
-static uint8_t source[LONG_TEXT + 200], packet[ROSOPYAT_MOST_PACKET], output[ROSOPYAT_MOST_TEXT], first_output[ROSOPYAT_MOST_TEXT];
+static uint8_t source[LONG_TEXT + 400], packet[ROSOPYAT_MOST_PACKET], output[ROSOPYAT_MOST_TEXT], first_output[ROSOPYAT_MOST_TEXT];
 
 /* Realistic texts, the same in each run. */
 
@@ -48,6 +48,34 @@ static void make_pseudo_binary(void)
         bool missing = below(16) == 0;
         for (int k = 12; k >= 0; k -= 6)
             source[length++] = missing ? '/' : 64 + (reading >> k & 63);
+    }
+}
+
+/* Lines of a station's number, a time and numbers parted by commas, as the message of 001's 5.3. */
+static void make_numeric(void)
+{
+    size_t length = 0;
+    for (int i = 0; length < LONG_TEXT; i++)
+        length += sprintf((char *)source + length, "%u %02u:%02u:00 %u,%u,%u.%u,%u.%u,%s%u.%u,%u,%u.%u,%u.%02u,%u\r\n", 1 + below(4), i / 6 % 24, i % 6 * 10,
+                          below(360), below(360), below(10), below(10), below(10), below(10), below(4) == 0 ? "-" : "", below(30), below(10),
+                          90 + below(10), 740 + below(30), below(10), below(2), below(100), below(200));
+}
+
+/* Messages of groups of a code, two numbers and readings, one of them with fifteen that wander, as the message of 001's 5.4. */
+static void make_shef(void)
+{
+    static const char *const codes[] = {"VB", "YB", "YBI", "YBT", "YF", "YR", "YI", "YV", "YVI", "TW"};
+    size_t length = 0;
+    unsigned stage = 190039;
+    while (length < LONG_TEXT) {
+        length += sprintf((char *)source + length, ":HG %u #5", below(60));
+        for (int i = 0; i < 15; i++) {
+            stage += below(3) - 1;
+            length += sprintf((char *)source + length, " %u.%03u", stage / 1000, stage % 1000);
+        }
+        for (int i = 0; i < 10; i++)
+            length += sprintf((char *)source + length, " :%s %u #60 %s%u.%u", codes[i], below(60), below(5) == 0 ? "-" : "", below(40), below(10));
+        length += sprintf((char *)source + length, "\r\n");
     }
 }
 
@@ -167,7 +195,11 @@ int main(int count, char **words)
         unsigned format;
         const char *name;
         void (*make)(void);
-    } formats[] = {{0, "Open", make_open}, {1, "Pseudo Binary", make_pseudo_binary}, {4, "Full ASCII", make_full_ascii}};
+    } formats[] = {{0, "Open", make_open},
+                   {1, "Pseudo Binary", make_pseudo_binary},
+                   {2, "Numeric", make_numeric},
+                   {3, "SHEF", make_shef},
+                   {4, "Full ASCII", make_full_ascii}};
     static const size_t sizes[] = {100, 1000, 4000};
     int rounds = count > 1 ? atoi(words[1]) : 15;
     if (rounds < 1 || rounds > MOST_ROUNDS)
@@ -175,7 +207,7 @@ int main(int count, char **words)
 
     tuned_prepare();
     print_heading();
-    for (int f = 0; f < 3; f++) {
+    for (int f = 0; f < 5; f++) {
         state = 1;
         formats[f].make();
         for (int s = 0; s < 3; s++) {

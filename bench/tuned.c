@@ -2,7 +2,7 @@
 
 #include <string.h>
 
-enum { MOST_FULL_ASCII = 7112, NOT_MENDABLE = 3 };
+enum { MOST_FULL_ASCII = 7112, MOST_NUMERIC = 8004, MOST_SHEF = 10668, NOT_MENDABLE = 3 };
 
 #define EACH(byte) (0x0101010101010101u * (byte))
 #define likely(c) __builtin_expect(!!(c), 1)
@@ -13,6 +13,18 @@ static uint16_t check_table[4][256];   /* what each header byte leaves as remain
 static uint32_t mending_table[1024];   /* the at most two of 31 bits that leave a remainder */
 static uint8_t mending_count[1024];    /* how many those are, or NOT_MENDABLE */
 static uint8_t ascii_code[256], ascii_width[256];
+static uint8_t shef_code[256], shef_width[256];
+static uint8_t shef_character[64];     /* by six bits, of which a code has the first five or all; CONTROL for a line end and for six ones */
+static uint16_t shef_seen[256];        /* the width, and above it what is no plain character */
+static uint32_t numeric_next[256];     /* see text_of_numeric */
+static uint32_t numeric_text[4 * 256];
+static uint32_t numeric_seen[256];     /* see measure_text_numeric */
+static uint16_t numeric_number[256];   /* the characters that are not line ends, numbered from 1 */
+static uint32_t numeric_two[32 * 32];  /* the codes of one such character or two, and above them, from bit 16, their width */
+
+enum { CONTROL = 0, LINE_END = 58, SIX_ONES = 63, SHEF_OTHER = 0x100 };
+enum { IS_LF = 1, FIRST_SIGN = 8, FIRST_POINT = 16, NO_CODE = 32, ONE_CODE = 0x400, TWO_CODES = 0x800 };
+enum { BEFORE = 16, IS_CR = IS_LF << BEFORE, LAST_SIGN = FIRST_SIGN << BEFORE, LAST_POINT = FIRST_POINT << BEFORE, ANY = NO_CODE << BEFORE };
 
 static uint32_t remainder_of(uint32_t word)
 {
@@ -22,8 +34,103 @@ static uint32_t remainder_of(uint32_t word)
     return word;
 }
 
+static const char base[] = "0123456789 +,-./", six_bits[] = "ABCDEFGHIJKLMNOPQRSTUVWXYZ\r#=:;";
+static const char special[] = "\r#=:E";
+static const uint8_t special_code[] = {0xbb, 0xbd, 0xdb, 0xee, 0xdd};
+
+static void prepare_shef(void)
+{
+    for (unsigned i = 0; i < 256; i++)
+        shef_seen[i] = SHEF_OTHER;
+    for (unsigned i = 0; i < 16; i++) {
+        unsigned character = base[i];
+        shef_code[character] = i;
+        shef_width[character] = shef_seen[character] = 5;
+        shef_character[2 * i] = shef_character[2 * i + 1] = character;
+    }
+    for (unsigned i = 0; i < 31; i++) {
+        unsigned character = six_bits[i];
+        shef_code[character] = 32 + i;
+        shef_width[character] = shef_seen[character] = 6;
+        shef_character[32 + i] = character;
+    }
+    shef_seen['\r'] = SHEF_OTHER;
+    shef_character[LINE_END] = shef_character[SIX_ONES] = CONTROL;
+}
+
+/* What two codes mean, or 0. */
+static unsigned meaning_of(unsigned codes)
+{
+    for (int i = 0; i < 5; i++)
+        if (special_code[i] == codes)
+            return special[i];
+    return 0;
+}
+
+/* The characters of a byte with what was put off before it, a code or 0, and the code that is put off. */
+static void prepare_numeric_byte(unsigned state, unsigned before, unsigned byte)
+{
+    static const unsigned states[16] = {[0xb] = 1, [0xd] = 2, [0xe] = 3};
+    unsigned codes[4], count = 0, put = 0;
+    uint32_t text = 0;
+    if (before)
+        codes[count++] = before;
+    codes[count++] = byte >> 4;
+    codes[count++] = byte & 15;
+    unsigned at = 0;
+    while (at < count && !(at + 1 == count && states[codes[at]])) {
+        unsigned meaning = at + 1 < count ? meaning_of(codes[at] << 4 | codes[at + 1]) : 0;
+        text |= (meaning ? meaning : (unsigned)base[codes[at]]) << 8 * put++;
+        if (meaning == '\r')
+            text |= (uint32_t)'\n' << 8 * put++;
+        at += meaning ? 2 : 1;
+    }
+    numeric_text[state << 8 | byte] = text | put << 24;
+    numeric_next[byte] |= (at < count ? states[codes[at]] * 8 : 0) << 8 * state;
+}
+
+static void put_number(unsigned character, unsigned number, uint32_t codes)
+{
+    numeric_number[character] = number;
+    numeric_two[number] = codes;
+}
+
+static void prepare_numeric(void)
+{
+    for (unsigned byte = 0; byte < 256; byte++) {
+        prepare_numeric_byte(0, 0, byte);
+        prepare_numeric_byte(1, 0xb, byte);
+        prepare_numeric_byte(2, 0xd, byte);
+        prepare_numeric_byte(3, 0xe, byte);
+        numeric_seen[byte] = NO_CODE;
+    }
+    for (unsigned i = 0; i < 16; i++) {
+        unsigned character = base[i];
+        put_number(character, 1 + i, i | 4 << 16);
+        numeric_seen[character] = ONE_CODE | ANY;
+    }
+    for (unsigned i = 0; i < 5; i++) {
+        unsigned character = special[i];
+        if (character != '\r')
+            put_number(character, 16 + i, special_code[i] | 8 << 16);
+        numeric_seen[character] = TWO_CODES | ANY | (character == ':' ? FIRST_POINT : FIRST_SIGN);
+    }
+    numeric_seen['+'] |= FIRST_SIGN | LAST_SIGN;
+    numeric_seen['-'] |= FIRST_SIGN | LAST_SIGN;
+    numeric_seen['.'] |= FIRST_POINT | LAST_POINT;
+    numeric_seen['\n'] = numeric_seen['\r'] | IS_LF;
+    numeric_seen['\r'] |= IS_CR;
+    for (unsigned i = 1; i < 21; i++)
+        for (unsigned k = 1; k < 21; k++) {
+            uint32_t left = numeric_two[i], right = numeric_two[k];
+            numeric_two[i << 5 | k] = (left & 0xffff) << (right >> 16) | (right & 0xffff) | ((left >> 16) + (right >> 16)) << 16;
+        }
+}
+
 void tuned_prepare(void)
 {
+    prepare_shef();
+    prepare_numeric();
     for (unsigned i = 0; i < 256; i++) {
         unsigned sum = i << 8;
         for (int k = 0; k < 8; k++)
@@ -238,6 +345,68 @@ static bool text_of_full_ascii(const uint8_t *data, size_t length, uint8_t *text
     return true;
 }
 
+/* Compact Numeric. A + - or . at the end of a byte may begin a pair that ends in the next: it is put off until then. So a byte is read in one of four
+ * states: nothing was put off before it, or one of the three. numeric_text has the characters of a byte in a state, the first lowest, and on top how many
+ * they are; numeric_next[byte], shifted by a state times 8, the next state times 8, so that one shift leads from state to state. */
+
+static size_t text_of_numeric(const uint8_t *data, size_t length, uint8_t *text)
+{
+    size_t done = 0;
+    uint32_t state = 0;
+    for (size_t i = 0; i < length; i++) {
+        uint32_t some = numeric_text[(state & 24) << 5 | data[i]];
+        memcpy(text + done, &some, 4); /* what is too much is written again */
+        done += some >> 24;
+        state = numeric_next[data[i]] >> (state & 31);
+    }
+    if (state & 24)
+        text[done++] = "\0+-."[state >> 3 & 3];
+    return done;
+}
+
+/* Compact SHEF: taken apart once, as Full ASCII. */
+
+static bool text_of_shef(const uint8_t *data, size_t length, uint8_t *text, size_t *count, size_t *bad)
+{
+    size_t bits = 8 * length, at = 0, done = 0;
+    while (bits - at >= 64) {
+        uint64_t buffer = load_64(data + at / 8) << at % 8;
+        unsigned taken = 0;
+        for (int i = 0; i < 9; i++) { /* nine of at most six bits */
+            unsigned code = buffer >> 58, six = buffer >> 63, character = shef_character[code];
+            if (unlikely(character == CONTROL)) {
+                if (code == SIX_ONES) {
+                    *bad = at + taken;
+                    return false;
+                }
+                text[done++] = '\r';
+                character = '\n';
+            }
+            text[done++] = character;
+            buffer = six ? buffer << 6 : buffer << 5;
+            taken += 5 + six;
+        }
+        at += taken;
+    }
+    for (;;) {
+        size_t rest = bits - at;
+        uint64_t top = rest == 0 ? 0 : window(data, length, at);
+        if (rest <= 7 && all_ones(top, rest))
+            break;
+        unsigned code = top >> 58, width = 5 + (top >> 63);
+        if (rest < width || code == SIX_ONES) {
+            *bad = at;
+            return false;
+        }
+        if (code == LINE_END)
+            text[done++] = '\r';
+        text[done++] = code == LINE_END ? '\n' : shef_character[code];
+        at += width;
+    }
+    *count = done;
+    return true;
+}
+
 rosopyat_read_answer tuned_read(const uint8_t *packet, size_t packet_length, uint8_t *text, size_t text_room)
 {
     if (packet_length < 4)
@@ -254,7 +423,7 @@ rosopyat_read_answer tuned_read(const uint8_t *packet, size_t packet_length, uin
     if (mended > 2)
         return refuse_reading(2, 0);
     unsigned flag = header >> 24, format = flag >> 2 & 7;
-    if ((flag & 0x61) != 0x40 || (0x13 >> format & 1) == 0)
+    if ((flag & 0x61) != 0x40 || format > 4)
         return refuse_reading(3, 0);
     size_t length = header >> 10 & 0x3fff;
     if (length - 1 > 3999)
@@ -276,6 +445,19 @@ rosopyat_read_answer tuned_read(const uint8_t *packet, size_t packet_length, uin
         if (text_room < count)
             return refuse_reading(8, count);
         text_of_pseudo_binary(data, length, text, count);
+    } else if (format == 2) {
+        uint8_t own[MOST_NUMERIC];
+        count = text_of_numeric(data, length, own);
+        if (text_room < count)
+            return refuse_reading(8, count);
+        memcpy(text, own, count);
+    } else if (format == 3) {
+        uint8_t own[MOST_SHEF];
+        if (!text_of_shef(data, length, own, &count, &bad))
+            return refuse_reading(7, bad);
+        if (text_room < count)
+            return refuse_reading(8, count);
+        memcpy(text, own, count);
     } else {
         uint8_t own[MOST_FULL_ASCII];
         if (!text_of_full_ascii(data, length, own, &count, &bad))
@@ -440,6 +622,21 @@ static bool measure_text_full_ascii(const uint8_t *text, size_t length, size_t *
     return true;
 }
 
+/* Four characters, the first lowest. */
+
+static inline bool none_below_32(uint32_t four)
+{
+    return (((four & 0x60606060) + 0x60606060) & 0x80808080) == 0x80808080;
+}
+
+static inline void put_four(struct out *out, uint32_t four, const uint8_t *code, const uint8_t *width)
+{
+    unsigned a = four & 255, b = four >> 8 & 255, c = four >> 16 & 255, d = four >> 24;
+    unsigned left = code[a] << width[b] | code[b], right = code[c] << width[d] | code[d];
+    unsigned right_width = width[c] + width[d];
+    put(out, (uint64_t)left << right_width | right, width[a] + width[b] + right_width);
+}
+
 static void data_of_full_ascii(const uint8_t *text, size_t length, uint8_t *data)
 {
     struct out out = {data, 0, 0};
@@ -448,11 +645,8 @@ static void data_of_full_ascii(const uint8_t *text, size_t length, uint8_t *data
         if (at + 4 <= length) {
             uint32_t four;
             memcpy(&four, text + at, 4);
-            if (likely((((four & 0x60606060) + 0x60606060) & 0x80808080) == 0x80808080)) {
-                unsigned a = four & 255, b = four >> 8 & 255, c = four >> 16 & 255, d = four >> 24;
-                unsigned left = ascii_code[a] << ascii_width[b] | ascii_code[b], right = ascii_code[c] << ascii_width[d] | ascii_code[d];
-                unsigned right_width = ascii_width[c] + ascii_width[d];
-                put(&out, left << right_width | right, ascii_width[a] + ascii_width[b] + right_width);
+            if (likely(none_below_32(four))) {
+                put_four(&out, four, ascii_code, ascii_width);
                 at += 4;
                 continue;
             }
@@ -469,14 +663,147 @@ static void data_of_full_ascii(const uint8_t *text, size_t length, uint8_t *data
     finish(&out);
 }
 
+/* Compact Numeric. What is seen of a character: whether it is LF, whether its codes begin with + or - or with ., whether it has none; how many they are;
+ * and, sixteen bits above the first four, with which of these in the next it makes a pair: CR with LF, which then has no codes of its own, + - . with what
+ * may not follow them, and every character with one that has no code. So the pairs of eight characters, added up, are the line ends of two characters, up
+ * to four; eight and more tell of a character without a code. */
+
+static bool measure_text_numeric(const uint8_t *text, size_t length, size_t *bits, size_t *bad)
+{
+    size_t at = 0, codes = 0;
+    uint32_t before = ANY;
+    for (; at + 8 <= length; at += 8) {
+        uint32_t all = 0, pairs = 0, first = before;
+        for (int i = 0; i < 8; i++) {
+            uint32_t seen = numeric_seen[text[at + i]];
+            all += seen;
+            pairs += before >> BEFORE & seen;
+            before = seen;
+        }
+        if (unlikely(pairs >= 8)) {
+            before = first;
+            break;
+        }
+        codes += all % IS_CR / ONE_CODE - 2 * pairs;
+    }
+    for (; at < length; at++) {
+        uint32_t seen = numeric_seen[text[at]], pair = before >> BEFORE & seen;
+        if (pair >= 8) {
+            *bad = at;
+            return false;
+        }
+        codes += seen % IS_CR / ONE_CODE - 2 * pair;
+        before = seen;
+    }
+    *bits = 4 * codes;
+    return true;
+}
+
+static void data_of_numeric(const uint8_t *text, size_t length, uint8_t *data)
+{
+    struct out out = {data, 0, 0};
+    size_t at = 0;
+    while (at < length) {
+        if (at + 4 <= length) {
+            uint32_t four;
+            memcpy(&four, text + at, 4);
+            if (likely(none_below_32(four))) {
+                uint32_t left = numeric_two[numeric_number[four & 255] << 5 | numeric_number[four >> 8 & 255]];
+                uint32_t right = numeric_two[numeric_number[four >> 16 & 255] << 5 | numeric_number[four >> 24]];
+                put(&out, (left & 0xffff) << (right >> 16) | (right & 0xffff), (left >> 16) + (right >> 16));
+                at += 4;
+                continue;
+            }
+        }
+        unsigned character = text[at++];
+        if (likely(character >= 32)) {
+            uint32_t codes = numeric_two[numeric_number[character]];
+            put(&out, codes & 0xffff, codes >> 16);
+        } else {
+            put(&out, 0xbb, 8);
+            if (character == '\r' && at < length && text[at] == '\n')
+                at++;
+        }
+    }
+    if (out.have % 8 != 0)
+        put(&out, 0xa, 4);
+    finish(&out);
+}
+
+/* Compact SHEF. */
+
+static bool measure_text_shef(const uint8_t *text, size_t length, size_t *bits, size_t *bad)
+{
+    size_t at = 0, sum = 0;
+    while (at < length) {
+        if (at + 8 <= length) {
+            unsigned eight = 0;
+            for (int i = 0; i < 8; i++)
+                eight += shef_seen[text[at + i]];
+            if (likely(eight < SHEF_OTHER)) {
+                sum += eight;
+                at += 8;
+                continue;
+            }
+        }
+        size_t end = at + 8 < length ? at + 8 : length;
+        for (; at < end; at++) {
+            unsigned character = text[at], seen = shef_seen[character];
+            if (seen < SHEF_OTHER)
+                sum += seen;
+            else if (character == '\r' || character == '\n') {
+                sum += 6;
+                if (character == '\r' && at + 1 < length && text[at + 1] == '\n')
+                    at++;
+            } else {
+                *bad = at;
+                return false;
+            }
+        }
+    }
+    *bits = sum;
+    return true;
+}
+
+static void data_of_shef(const uint8_t *text, size_t length, uint8_t *data)
+{
+    struct out out = {data, 0, 0};
+    size_t at = 0;
+    while (at < length) {
+        if (at + 4 <= length) {
+            uint32_t four;
+            memcpy(&four, text + at, 4);
+            if (likely(none_below_32(four))) {
+                put_four(&out, four, shef_code, shef_width);
+                at += 4;
+                continue;
+            }
+        }
+        unsigned character = text[at++];
+        if (likely(character >= 32))
+            put(&out, shef_code[character], shef_width[character]);
+        else {
+            put(&out, LINE_END, 6);
+            if (character == '\r' && at < length && text[at] == '\n')
+                at++;
+        }
+    }
+    finish(&out);
+}
+
+typedef bool measure_text(const uint8_t *, size_t, size_t *, size_t *);
+typedef void data_of_text(const uint8_t *, size_t, uint8_t *);
+static measure_text *const measures[5] = {NULL, measure_text_pseudo_binary, measure_text_numeric, measure_text_shef, measure_text_full_ascii};
+static data_of_text *const data_of[5] = {NULL, data_of_pseudo_binary, data_of_numeric, data_of_shef, data_of_full_ascii};
+
 rosopyat_write_answer tuned_write(uint32_t format, bool sync, const uint8_t *text, size_t text_length, uint8_t *packet, size_t packet_room)
 {
-    if (format > 7 || (0x13 >> format & 1) == 0)
+    if (format > 4)
         return refuse_writing(12, 0);
     if (text_length == 0)
         return refuse_writing(10, 0);
     size_t bits = 8 * text_length, bad;
-    if (format != 0 && !(format == 1 ? measure_text_pseudo_binary : measure_text_full_ascii)(text, text_length, &bits, &bad))
+    if (format != 0 && !measures[format](text, text_length, &bits, &bad))
         return refuse_writing(9, bad);
     if (bits > 32000)
         return refuse_writing(11, 0);
@@ -487,10 +814,8 @@ rosopyat_write_answer tuned_write(uint32_t format, bool sync, const uint8_t *tex
     uint8_t *data = packet + 4;
     if (format == 0)
         memcpy(data, text, length);
-    else if (format == 1)
-        data_of_pseudo_binary(text, text_length, data);
     else
-        data_of_full_ascii(text, text_length, data);
+        data_of[format](text, text_length, data);
     uint32_t flag = 0x40u | format << 2 | (uint32_t)sync << 1;
     flag |= (uint32_t)!__builtin_parity(flag) << 7;
     uint32_t header = flag << 24 | (uint32_t)length << 10;

@@ -1,4 +1,4 @@
-/* Writes the text of a file as a packet to standard output: write_file FORMAT FILE, where FORMAT is a number of rosopyat_format: 0, 1 or 4.
+/* Writes the text of a file as a packet to standard output: write_file FORMAT FILE, where FORMAT is a number of rosopyat_format, 0 to 4.
  * Status 0: written; 1: refused; 2: a file could not be read or written, or FORMAT is no number. */
 #include "rosopyat.h"
 

@@ -1,7 +1,7 @@
 /* Rosopyat: reads and writes single-packet messages of the GOES DCS binary protocol. This file is the manual.
  *
  * A packet is a flag byte, three bytes of length and check, 1 to 4,000 data bytes and two checksum bytes: 7 to 4,006 bytes. The data is a text in one of
- * three formats (rosopyat_format). Both functions answer a struct: `refusal` is 0 when the call succeeded, and else one of rosopyat_refusal, with
+ * five formats (rosopyat_format). Both functions answer a struct: `refusal` is 0 when the call succeeded, and else one of rosopyat_refusal, with
  * `number` saying more where the refusal says so. Every other member of a refused answer is 0, and no byte of the lent buffer has changed.
  *
  *     uint8_t packet[ROSOPYAT_MOST_PACKET];
@@ -41,13 +41,22 @@ enum {
     ROSOPYAT_MOST_DATA = 4000,         /* data bytes of a packet */
     ROSOPYAT_OVERHEAD = 6,             /* header and checksum */
     ROSOPYAT_MOST_PACKET = 4006,       /* a packet buffer of this size is never too short */
-    ROSOPYAT_MOST_TEXT = 85328         /* a text buffer of this size is never too short (5,333 runs of 16) */
+    ROSOPYAT_MOST_TEXT = 85328         /* a text buffer of this size is never too short (5,333 runs of 16); 10,666 is enough but for Pseudo Binary */
 };
 
-/* The formats, by their number in the flag byte. */
+/* The formats, by their number in the flag byte. "Line end" is CR LF, CR or LF; CR with LF after it is one.
+ *
+ * What is written reads back character for character, but for two things, and what was read back so reads back unchanged:
+ *   - in Numeric and SHEF each line end reads back as CR LF;
+ *   - in Numeric, where two codes fill a byte, an odd number of codes is followed by that of a space: the text reads back with a space behind it.
+ * So it may read back longer than it was written: at most twice as long, or by the space.
+ * In Numeric some pairs of + - . stand for other characters. So a + or - may not have + - # = E or a line end after it, and a . may not have . or : after
+ * it: that second character has no code there (refusal 9). Lower-case letters have no code in SHEF. */
 enum rosopyat_format {
     ROSOPYAT_OPEN = 0,          /* the data bytes are the text: any bytes, 8 bits each */
     ROSOPYAT_PSEUDO_BINARY = 1, /* compacted: characters 64 to 127 (6 bits each, and 8 for a run of up to 128), space and slash (6 for a run of up to 16) */
+    ROSOPYAT_NUMERIC = 2,       /* compacted: digits, space and + , - . / (4 bits), # = : E and line ends (8) */
+    ROSOPYAT_SHEF = 3,          /* compacted: digits, space and + , - . / (5 bits), A to Z, # = : ; and line ends (6) */
     ROSOPYAT_FULL_ASCII = 4     /* compacted: characters 32 to 63 (6 bits), 64 to 126 (7), HT, CR, LF, and CR with LF after it (9) */
 };
 
@@ -58,7 +67,7 @@ enum rosopyat_refusal {
     /* the reader's */
     ROSOPYAT_SHORT = 1,        /* fewer than 4 bytes */
     ROSOPYAT_NO_HEADER = 2,    /* no valid header within two bits of the one received */
-    ROSOPYAT_OTHER_TYPE = 3,   /* the header's type is none of the three formats, or its spare bit is 1 */
+    ROSOPYAT_OTHER_TYPE = 3,   /* the header's type is none of the five formats, or its spare bit is 1 */
     ROSOPYAT_OTHER_LENGTH = 4, /* the length is 0 or above 4,000 */
     ROSOPYAT_CUT_OFF = 5,      /* fewer bytes than the length and 6 */
     ROSOPYAT_CHECKSUM = 6,     /* the checksum of the data is not the one that follows it */
@@ -66,10 +75,10 @@ enum rosopyat_refusal {
     /* both */
     ROSOPYAT_NO_ROOM = 8,      /* the buffer is too short; number: the characters of the text (reader), or the bytes of the packet (writer) */
     /* the writer's */
-    ROSOPYAT_NO_CODE = 9,      /* number: the index of the first character that has no code in the format */
+    ROSOPYAT_NO_CODE = 9,      /* number: the index of the first character that has no code in the format, where it stands */
     ROSOPYAT_EMPTY = 10,       /* the text is empty */
     ROSOPYAT_TOO_LONG = 11,    /* the data would have more than 4,000 bytes */
-    ROSOPYAT_OTHER_FORMAT = 12 /* the format is not 0, 1 or 4 */
+    ROSOPYAT_OTHER_FORMAT = 12 /* the format is not one of 0 to 4 */
 };
 
 typedef struct rosopyat_read_answer {

@@ -1,5 +1,5 @@
-/* The published packets and messages (file given), the table of edges P1 to P15, every unreadable ending and the numbers of formats, through rosopyat.h:
- * linked once with the independent implementation under the library's names, and once with the library. */
+/* The published packets and messages (file given), the table of edges P1 to P15, edges of Numeric and SHEF, every unreadable ending and the numbers of
+ * formats, through rosopyat.h: linked once with the independent implementation under the library's names, and once with the library. */
 #include "maker.h"
 #include "rosopyat.h"
 
@@ -19,7 +19,9 @@ _Static_assert(ROSOPYAT_SHORT == 1 && ROSOPYAT_NO_HEADER == 2 && ROSOPYAT_OTHER_
                    ROSOPYAT_CHECKSUM == 6 && ROSOPYAT_MALFORMED == 7 && ROSOPYAT_NO_ROOM == 8 && ROSOPYAT_NO_CODE == 9 && ROSOPYAT_EMPTY == 10 &&
                    ROSOPYAT_TOO_LONG == 11 && ROSOPYAT_OTHER_FORMAT == 12,
                "numbers of the refusals");
-_Static_assert(ROSOPYAT_ACCEPTED == 0 && ROSOPYAT_OPEN == 0 && ROSOPYAT_PSEUDO_BINARY == 1 && ROSOPYAT_FULL_ASCII == 4, "numbers of the formats");
+_Static_assert(ROSOPYAT_ACCEPTED == 0 && ROSOPYAT_OPEN == 0 && ROSOPYAT_PSEUDO_BINARY == 1 && ROSOPYAT_NUMERIC == 2 && ROSOPYAT_SHEF == 3 &&
+                   ROSOPYAT_FULL_ASCII == 4,
+               "numbers of the formats");
 _Static_assert(ROSOPYAT_MOST_DATA == 4000 && ROSOPYAT_OVERHEAD == 6 && ROSOPYAT_MOST_PACKET == 4006 && ROSOPYAT_MOST_TEXT == 85328, "limits");
 
 /* What a caller names: a narrower type would cut a format to one of ours before the call. */
@@ -85,14 +87,26 @@ static void expect_writing(const char *what, uint32_t format, const uint8_t *tex
     expect_bytes(what, got, packet, packet_length);
 }
 
-/* The data of a text, both ways. */
-static void expect_data(const char *what, unsigned format, const char *text, const char *data, size_t data_length)
+/* The data of a text, and what it comes back as, which gives the same data. */
+static void expect_normal(const char *what, unsigned format, const char *text, const char *data, size_t data_length, const char *back)
 {
     uint8_t packet[64];
     memcpy(packet + 4, data, data_length);
     size_t packet_length = maker_close(packet, 0x40 | format << 2, data_length);
     expect_writing(what, format, (const uint8_t *)text, strlen(text), packet, packet_length);
-    expect_reading(what, packet, packet_length, format, 0, (const uint8_t *)text, strlen(text));
+    expect_reading(what, packet, packet_length, format, 0, (const uint8_t *)back, strlen(back));
+    expect_writing(what, format, (const uint8_t *)back, strlen(back), packet, packet_length);
+}
+
+/* The data of a text, both ways. */
+static void expect_data(const char *what, unsigned format, const char *text, const char *data, size_t data_length)
+{
+    expect_normal(what, format, text, data, data_length, text);
+}
+
+static void expect_uncoded(const char *what, uint32_t format, const char *text, size_t index)
+{
+    expect_not_written(what, format, (const uint8_t *)text, strlen(text), 9, index);
 }
 
 static void expect_malformed(const char *what, unsigned format, const char *data, size_t data_length, size_t bit)
@@ -142,6 +156,72 @@ static void edges(void)
     expect_malformed("P15", 4, "\xff", 1, 0);
 }
 
+static void numeric(void)
+{
+    const char *what = "Numeric";
+    expect_data(what, 2, "0123456789 +,-./", "\x01\x23\x45\x67\x89\xab\xcd\xef", 8);
+    expect_data(what, 2, "#=E:\r\n", "\xbd\xdb\xdd\xee\xbb", 5);
+    expect_normal(what, 2, "1", "\x1a", 1, "1 ");
+    expect_data(what, 2, "1 ", "\x1a", 1);
+    expect_normal(what, 2, "1  ", "\x1a\xaa", 2, "1   ");
+    expect_normal(what, 2, "12+", "\x12\xba", 2, "12+ ");
+    expect_data(what, 2, "-5", "\xd5", 1);
+    /* a pair over two bytes; pairs are looked for from the front */
+    expect_data(what, 2, "1:2", "\x1e\xe2", 2);
+    expect_normal(what, 2, "1\r\n", "\x1b\xba", 2, "1\r\n ");
+    expect_data(what, 2, "1\r\n+", "\x1b\xbb", 2);
+    expect_data(what, 2, "1#+", "\x1b\xdb", 2);
+    expect_data(what, 2, "#-,", "\xbd\xdc", 2);
+    expect_data(what, 2, ":.,", "\xee\xec", 2);
+    expect_data(what, 2, "+:-", "\xbe\xed", 2);
+    expect_data(what, 2, "::", "\xee\xee", 2);
+    /* line ends */
+    expect_normal(what, 2, "\r", "\xbb", 1, "\r\n");
+    expect_normal(what, 2, "\n", "\xbb", 1, "\r\n");
+    expect_normal(what, 2, "\r\r\n", "\xbb\xbb", 2, "\r\n\r\n");
+    expect_normal(what, 2, "\n\r", "\xbb\xbb", 2, "\r\n\r\n");
+    expect_normal(what, 2, "\r\n\n", "\xbb\xbb", 2, "\r\n\r\n");
+    /* what has no code, or none where it stands */
+    expect_uncoded(what, 2, "12e", 2);
+    expect_uncoded(what, 2, "1;", 1);
+    expect_uncoded(what, 2, "12\t", 2);
+    expect_uncoded(what, 2, "++", 1);
+    expect_uncoded(what, 2, "1-+", 2);
+    expect_uncoded(what, 2, "5..", 2);
+    expect_uncoded(what, 2, ".:", 1);
+    expect_uncoded(what, 2, "+\r\n", 1);
+    expect_uncoded(what, 2, "-\n", 1);
+    expect_uncoded(what, 2, "+#", 1);
+    expect_uncoded(what, 2, "+=", 1);
+    expect_uncoded(what, 2, "-E", 1);
+    expect_uncoded(what, 2, "#++", 2);
+    expect_uncoded(what, 2, "-E;", 1);
+    expect_uncoded(what, 2, ";-E", 0);
+}
+
+static void shef(void)
+{
+    const char *what = "SHEF";
+    expect_data(what, 3, "1", "\x0f", 1);
+    expect_data(what, 3, "/", "\x7f", 1);
+    expect_data(what, 3, "A", "\x83", 1);
+    expect_data(what, 3, "AB", "\x82\x1f", 2);
+    expect_data(what, 3, "Z;", "\xe7\xef", 2);
+    expect_data(what, 3, "#=:E", "\xef\xcf\x64", 3);
+    expect_data(what, 3, "++--..", "\x5a\xda\xd7\x3b", 4);
+    expect_data(what, 3, "\r\n", "\xeb", 1);
+    expect_normal(what, 3, "\r", "\xeb", 1, "\r\n");
+    expect_normal(what, 3, "\n", "\xeb", 1, "\r\n");
+    expect_normal(what, 3, "\r\r\n", "\xeb\xaf", 2, "\r\n\r\n");
+    expect_normal(what, 3, "\n\r", "\xeb\xaf", 2, "\r\n\r\n");
+    expect_normal(what, 3, "\r\n\n", "\xeb\xaf", 2, "\r\n\r\n");
+    expect_uncoded(what, 3, "AbC", 1);
+    expect_uncoded(what, 3, "1\t", 1);
+    expect_uncoded(what, 3, "?", 0);
+    expect_malformed(what, 3, "\xff", 1, 0);
+    expect_malformed(what, 3, "\xfb\xff", 2, 6);
+}
+
 /* Endings. A remainder of up to eight bits is bad where it is neither fill nor the start of a whole code; where a value is announced, also fill is. */
 
 static bool bad_full_ascii(unsigned rest, unsigned width)
@@ -150,6 +230,14 @@ static bool bad_full_ascii(unsigned rest, unsigned width)
     if (rest >> (width - 1) == 0)
         return width < 6;
     return width < 7 ? !all_ones : width == 8 && rest >> 1 == 0x7f;
+}
+
+static bool bad_shef(unsigned rest, unsigned width)
+{
+    bool all_ones = rest == (1u << width) - 1;
+    if (rest >> (width - 1) == 0)
+        return width < 5;
+    return width < 6 ? !all_ones : rest >> (width - 6) == 0x3f && !(all_ones && width < 8);
 }
 
 static bool bad_pseudo_binary(unsigned rest, unsigned width)
@@ -182,6 +270,19 @@ static void full_ascii_ending(unsigned rest, unsigned width, bool far)
     expect_bad_ending("ending of Full ASCII", 4, packet, &bits, rest, width);
 }
 
+static void shef_ending(unsigned rest, unsigned width, bool far)
+{
+    uint8_t packet[ROSOPYAT_MOST_PACKET];
+    struct maker_bits bits = {packet + 4, 0};
+    for (unsigned i = 0; far && i < 13; i++) {
+        maker_put(&bits, i, 5);
+        maker_put(&bits, 0x32 + i, 6);
+    }
+    while ((bits.bits + width) % 8 != 0)
+        maker_put(&bits, 0x0f, 5);
+    expect_bad_ending("ending of SHEF", 3, packet, &bits, rest, width);
+}
+
 static void put_values(struct maker_bits *bits, unsigned announced, unsigned count)
 {
     maker_put(bits, 0x80 | (announced - 1), 8);
@@ -211,35 +312,40 @@ static void value_ending(unsigned rest, unsigned width, bool far)
 
 static void endings(void)
 {
-    unsigned full_ascii = 0, at_indicator = 0, within_values = 0;
+    unsigned full_ascii = 0, shef = 0, at_indicator = 0, within_values = 0;
     for (unsigned width = 0; width <= 8; width++)
         for (unsigned rest = 0; rest < 1u << width; rest++)
             for (int far = 0; far < 2; far++) {
                 if (width > 0 && bad_full_ascii(rest, width))
                     full_ascii++, full_ascii_ending(rest, width, far);
+                if (width > 0 && bad_shef(rest, width))
+                    shef++, shef_ending(rest, width, far);
                 if (width > 0 && bad_pseudo_binary(rest, width))
                     at_indicator++, indicator_ending(rest, width, far);
                 if (width < 6 && width % 2 == 0)
                     within_values++, value_ending(rest, width, far);
             }
     expect("endings", "of Full ASCII", full_ascii, 2 * 90);
+    expect("endings", "of SHEF", shef, 2 * 46);
     expect("endings", "at an indicator", at_indicator, 2 * 49);
     expect("endings", "within values", within_values, 2 * 21);
 }
 
-/* Formats. All but three are refused, whatever their low bits say. */
+/* Formats. All but five are refused, whatever their low bits say. */
 static void formats(void)
 {
     static const uint32_t above[] = {256, 257, 260, 65540, 0xffffffff};
     const uint8_t slash[] = "/";
     expect_data("format 0", 0, "/", "\x2f", 1);
     expect_data("format 1", 1, "/", "\x43", 1);
+    expect_normal("format 2", 2, "/", "\xfa", 1, "/ ");
+    expect_data("format 3", 3, "/", "\x7f", 1);
     expect_data("format 4", 4, "/", "\x3f", 1);
     for (uint32_t format = 0; format < 16 + sizeof above / sizeof *above; format++) {
         uint32_t named = format < 16 ? format : above[format - 16];
         char what[32];
         sprintf(what, "format %u", (unsigned)named);
-        if (named != 0 && named != 1 && named != 4)
+        if (named > 4)
             expect_not_written(what, named, slash, 1, 12, 0);
     }
 }
@@ -260,10 +366,6 @@ static size_t hexadecimal(const char *from, uint8_t *to)
 static void published_packet(const char *title, uint8_t *packet, size_t packet_length, uint8_t *text, size_t text_length)
 {
     unsigned format = packet[0] >> 2 & 7;
-    if (format == 2 || format == 3) { /* Numeric and SHEF */
-        expect_refused(title, packet, packet_length, 3, 0);
-        return;
-    }
     if (format == 0) {
         text_length = packet_length - 6;
         memcpy(text, packet + 4, text_length);
@@ -272,6 +374,11 @@ static void published_packet(const char *title, uint8_t *packet, size_t packet_l
         for (size_t i = 0; i < text_length; i++)
             if (text[i] == 0x3f)
                 text[i] = 0x7f;
+    if (format == 2) { /* 331 codes, and the space that makes them even */
+        expect(title, "characters of the message", text_length, 317);
+        expect_writing(title, format, text, text_length, packet, packet_length);
+        text[text_length++] = ' ';
+    }
     expect_reading(title, packet, packet_length, format, 0, text, text_length);
     expect_writing(title, format, text, text_length, packet, packet_length);
 }
@@ -280,10 +387,14 @@ static bool has_code(unsigned format, unsigned character)
 {
     if (format == 1)
         return character == ' ' || character == '/' || (character >= 64 && character <= 127);
+    if (format == 2)
+        return character < 128 && strchr("0123456789 +,-./\r\n#=:E", character) != NULL;
+    if (format == 3)
+        return character < 128 && strchr("0123456789 +,-./\r\n#=:;ABCDEFGHIJKLMNOPQRSTUVWXYZ", character) != NULL;
     return character == '\t' || character == '\r' || character == '\n' || (character >= 32 && character <= 126);
 }
 
-/* Where the first character without a code is, or `length`. */
+/* Where the first character without a code is, or `length`. (No message has a + - . in Numeric before what would make a pair with it.) */
 static size_t first_uncoded(unsigned format, const uint8_t *text, size_t length)
 {
     size_t i = 0;
@@ -296,10 +407,8 @@ static size_t first_uncoded(unsigned format, const uint8_t *text, size_t length)
 static unsigned published_message(const char *title, const uint8_t *text, size_t length)
 {
     unsigned written = 0;
-    expect_not_written(title, 2, text, length, 12, 0);
-    expect_not_written(title, 3, text, length, 12, 0);
-    for (unsigned format = 1; format <= 4; format += 3) {
-        uint8_t packet[ROSOPYAT_MOST_PACKET];
+    for (unsigned format = 1; format <= 4; format++) {
+        uint8_t packet[ROSOPYAT_MOST_PACKET], back[4096];
         size_t index = first_uncoded(format, text, length);
         if (index < length) {
             expect_not_written(title, format, text, length, 9, index);
@@ -307,7 +416,9 @@ static unsigned published_message(const char *title, const uint8_t *text, size_t
         }
         rosopyat_write_answer answer = rosopyat_write(format, false, text, length, packet, sizeof packet);
         expect(title, "refusal", answer.refusal, 0);
-        expect_reading(title, packet, answer.length, format, 0, text, length);
+        memcpy(back, text, length);
+        back[length] = ' ';
+        expect_reading(title, packet, answer.length, format, 0, back, format == 2 ? length + 1 : length);
         written++;
     }
     return written;
@@ -344,7 +455,7 @@ static unsigned published(const char *path)
             text_length += hexadecimal(line + 5, text + text_length);
     }
     fclose(file);
-    expect("published", "messages written", messages, 5); /* all in Full ASCII; in Pseudo Binary a question mark or a digit is in the way */
+    expect("published", "messages written", messages, 8); /* all in Full ASCII, two in SHEF, one in Numeric; in Pseudo Binary a question mark or a digit is in the way */
     return packets;
 }
 
@@ -355,6 +466,8 @@ int main(int count, char **words)
         return 2;
     }
     edges();
+    numeric();
+    shef();
     endings();
     formats();
     expect("published", "packets", published(words[1]), 6);

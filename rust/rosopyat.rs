@@ -22,6 +22,11 @@ pub enum Format {
     Open = 0,
     /// Compacted: characters 64 to 127, space and slash.
     PseudoBinary = 1,
+    /// Compacted: digits, space and `+ , - . /`, then `# = : E` and line ends. A line end reads back as CR LF, and an odd number of codes with a space
+    /// behind the text. A `+` or `-` may not have `+ - # = E` or a line end after it, a `.` not `.` or `:`.
+    Numeric = 2,
+    /// Compacted: digits, space and `+ , - . /`, then A to Z, `# = : ;` and line ends. A line end reads back as CR LF.
+    Shef = 3,
     /// Compacted: characters 32 to 126, HT, CR and LF.
     FullAscii = 4,
 }
@@ -32,7 +37,7 @@ impl From<Format> for u32 {
     }
 }
 
-/// The format of a number: 0, 1 or 4.
+/// The format of a number: 0 to 4.
 impl TryFrom<u32> for Format {
     type Error = WriteRefusal;
 
@@ -40,6 +45,8 @@ impl TryFrom<u32> for Format {
         match number {
             0 => Ok(Format::Open),
             1 => Ok(Format::PseudoBinary),
+            2 => Ok(Format::Numeric),
+            3 => Ok(Format::Shef),
             4 => Ok(Format::FullAscii),
             _ => Err(WriteRefusal::OtherFormat),
         }
@@ -66,7 +73,7 @@ pub enum ReadRefusal {
     Short,
     /// 2: no valid header within two bits of the one received
     NoHeader,
-    /// 3: the header's type is none of the three formats, or its spare bit is 1
+    /// 3: the header's type is none of the five formats, or its spare bit is 1
     OtherType,
     /// 4: the length is 0 or above 4,000
     OtherLength,
@@ -85,13 +92,13 @@ pub enum ReadRefusal {
 pub enum WriteRefusal {
     /// 8: with the packet's length
     NoRoom(usize),
-    /// 9: with the index of the first character that has no code in the format
+    /// 9: with the index of the first character that has no code in the format, where it stands
     NoCode(usize),
     /// 10: the text is empty
     Empty,
     /// 11: the data would have more than 4,000 bytes
     TooLong,
-    /// 12: the format is not 0, 1 or 4; answered where a `Format` is made of its number
+    /// 12: the format is not one of 0 to 4; answered where a `Format` is made of its number
     OtherFormat,
 }
 
@@ -130,7 +137,7 @@ impl fmt::Display for ReadRefusal {
         match self {
             ReadRefusal::Short => write!(to, "fewer than 4 bytes"),
             ReadRefusal::NoHeader => write!(to, "no valid header within two bits of the one received"),
-            ReadRefusal::OtherType => write!(to, "the header's type is none of the three formats, or its spare bit is 1"),
+            ReadRefusal::OtherType => write!(to, "the header's type is none of the five formats, or its spare bit is 1"),
             ReadRefusal::OtherLength => write!(to, "the length is 0 or above 4,000"),
             ReadRefusal::CutOff => write!(to, "fewer bytes than the length and 6"),
             ReadRefusal::Checksum => write!(to, "the checksum of the data is not the one that follows it"),
@@ -148,7 +155,7 @@ impl fmt::Display for WriteRefusal {
             WriteRefusal::NoCode(index) => write!(to, "the character at index {} has no code in the format", index),
             WriteRefusal::Empty => write!(to, "the text is empty"),
             WriteRefusal::TooLong => write!(to, "the data would have more than 4,000 bytes"),
-            WriteRefusal::OtherFormat => write!(to, "the format is not 0, 1 or 4"),
+            WriteRefusal::OtherFormat => write!(to, "the format is not one of 0 to 4"),
         }
     }
 }

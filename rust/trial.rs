@@ -7,13 +7,18 @@ mod rosopyat;
 use rosopyat::{read, write, Format, ReadRefusal, WriteRefusal, MOST_DATA, MOST_PACKET, MOST_TEXT};
 
 fn there_and_back(format: Format, sync: bool, text: &[u8]) -> usize {
+    comes_back_as(format, sync, text, text)
+}
+
+/// Writes a text and reads it back, and answers the packet's length.
+fn comes_back_as(format: Format, sync: bool, text: &[u8], wanted: &[u8]) -> usize {
     let mut packet = [0; MOST_PACKET];
     let mut back = vec![0; MOST_TEXT];
     let packet = write(format, sync, text, &mut packet).unwrap();
     let reading = read(packet, &mut back).unwrap();
     assert_eq!((reading.format, reading.sync, reading.mended), (format, sync, 0));
     assert_eq!((reading.data_length + 6, reading.used), (packet.len(), packet.len()));
-    assert_eq!(reading.text, text);
+    assert_eq!(reading.text, wanted);
     packet.len()
 }
 
@@ -50,6 +55,8 @@ fn write_refusals() {
     let mut packet = [0; 64];
     assert_eq!(write(Format::Open, false, b"", &mut packet), Err(WriteRefusal::Empty));
     assert_eq!(write(Format::PseudoBinary, false, b"@A!", &mut packet), Err(WriteRefusal::NoCode(2)));
+    assert_eq!(write(Format::Numeric, false, b"12+\r\n", &mut packet), Err(WriteRefusal::NoCode(3)));
+    assert_eq!(write(Format::Shef, false, b"Ab", &mut packet), Err(WriteRefusal::NoCode(1)));
     assert_eq!(write(Format::FullAscii, false, b"\x7f", &mut packet), Err(WriteRefusal::NoCode(0)));
     assert_eq!(write(Format::Open, false, &[0; MOST_DATA + 1], &mut packet), Err(WriteRefusal::TooLong));
     assert_eq!(write(Format::Open, false, b"abc", &mut packet[..8]), Err(WriteRefusal::NoRoom(9)));
@@ -62,7 +69,7 @@ fn formats() {
     for number in (0..16).chain([256, 257, 260, 65_540, u32::MAX]) {
         let written = Format::try_from(number).and_then(|format| write(format, false, b"/", &mut packet).map(<[u8]>::to_vec));
         match number {
-            0 | 1 | 4 => assert_eq!(written.map(|packet| u32::from(packet[0] >> 2 & 7)), Ok(number)),
+            0..=4 => assert_eq!(written.map(|packet| u32::from(packet[0] >> 2 & 7)), Ok(number)),
             _ => assert_eq!(written, Err(WriteRefusal::OtherFormat)),
         }
     }
@@ -96,6 +103,11 @@ fn main() {
     assert_eq!(there_and_back(Format::Open, true, &every), 262);
     assert_eq!(there_and_back(Format::PseudoBinary, false, b"@A~\x7f//// ZZ"), 14);
     assert_eq!(there_and_back(Format::PseudoBinary, true, &[b'/'; MOST_TEXT]), MOST_PACKET);
+    assert_eq!(there_and_back(Format::Numeric, true, b"13:30:00 -4.8,E\r\n"), 16);
+    assert_eq!(comes_back_as(Format::Numeric, false, b"1\n2\r", b"1\r\n2\r\n"), 9);
+    assert_eq!(comes_back_as(Format::Numeric, false, b"123", b"123 "), 8);
+    assert_eq!(there_and_back(Format::Shef, true, b":HG 4 #5 190.039;\r\n"), 18);
+    assert_eq!(comes_back_as(Format::Shef, false, b"A\rB\n", b"A\r\nB\r\n"), 9);
     assert_eq!(there_and_back(Format::FullAscii, false, b"Stage 1.23 m\r\n\t~"), 19);
     read_refusals();
     write_refusals();

@@ -8,6 +8,7 @@ plainest way: bits are strings of 0 and 1, a header is mended by trying every pa
     python3 vector-maker/make_vectors.py            writes both files
     python3 vector-maker/make_vectors.py --check    writes nothing: are they what would be written?
 """
+import bisect
 import itertools
 import pathlib
 import random
@@ -16,7 +17,9 @@ import sys
 import zlib
 
 ROOT = pathlib.Path(__file__).resolve().parent.parent
-OPEN, PSEUDO, ASCII = 0, 1, 4
+OPEN, PSEUDO, NUMERIC, SHEF, ASCII = range(5)
+FORMATS = range(5)
+COMPACT = FORMATS[1:]
 LONGEST = 4000
 
 
@@ -76,7 +79,7 @@ def packet_of(format, data, sync=0):
     return packet(header(2, format, sync, 0, len(data)), data)
 
 
-# ---- the three kinds of data
+# ---- the five kinds of data
 
 class Malformed(Exception):
     """At which bit."""
@@ -135,7 +138,35 @@ def read_ascii(data):
     return bytes(text)
 
 
-READ = {OPEN: bytes, PSEUDO: read_pseudo, ASCII: read_ascii}
+TABLE_4 = b"0123456789 +,-./"
+TABLE_5 = {b"++": b"\r\n", b"+-": b"#", b"-+": b"=", b"..": b":", b"--": b"E"}
+TABLE_6 = [bytes([character]) for character in b"ABCDEFGHIJKLMNOPQRSTUVWXYZ"] + [b"\r\n", b"#", b"=", b":", b";"]
+
+
+def from_base(base):
+    """What the characters of Table 4 mean: the pairs of Table 5 are looked for from the front."""
+    return re.sub(rb"[+][+]|[+]-|-[+]|[.][.]|--", lambda pair: TABLE_5[pair[0]], base)
+
+
+def read_numeric(data):
+    return from_base(bytes(TABLE_4[code] for byte in data for code in (byte >> 4, byte & 15)))
+
+
+def read_shef(data):
+    bits, at, text = bits_of(data), 0, bytearray()
+    while not is_end(bits[at:at + 8]) or len(bits) - at > 7:
+        if bits[at] == "0":
+            text.append(TABLE_4[int(take(bits, at, 5, at), 2)])
+            at += 5
+        elif take(bits, at, 6, at) == "1" * 6:
+            raise Malformed(at)
+        else:
+            text += TABLE_6[int(bits[at + 1:at + 6], 2)]
+            at += 6
+    return bytes(text)
+
+
+READ = {OPEN: bytes, PSEUDO: read_pseudo, NUMERIC: read_numeric, SHEF: read_shef, ASCII: read_ascii}
 
 
 def pseudo_kind(character):
@@ -170,8 +201,55 @@ def write_ascii(text):
     return bytes_of("".join("1" * 9 if part == b"\r\n" else ascii_code(part[0]) for part in re.findall(rb"\r\n|[\0-\xff]", text)))
 
 
-WRITE = {OPEN: bytes, PSEUDO: write_pseudo, ASCII: write_ascii}
-CODE = {OPEN: lambda character: True, PSEUDO: pseudo_kind, ASCII: ascii_code}
+def with_line_ends(text):
+    """Every line end (CR LF, CR, LF) as CR LF."""
+    return re.sub(rb"\r\n|\r|\n", b"\r\n", text)
+
+
+def pieces(text):
+    return re.findall(rb"\r\n|[\0-\xff]", with_line_ends(text))
+
+
+BASE = {bytes([character]): bytes([character]) for character in TABLE_4} | {meaning: pair for pair, meaning in TABLE_5.items()}
+SHEF_CODE = {bytes([character]): f"{code:05b}" for code, character in enumerate(TABLE_4)} | {piece: f"1{code:05b}" for code, piece in enumerate(TABLE_6)}
+
+
+def to_base(text):
+    """In characters of Table 4, an even number; those without a code are left out."""
+    base = b"".join(BASE.get(piece, b"") for piece in pieces(text))
+    return base + b" " * (len(base) % 2)
+
+
+def write_numeric(text):
+    return bytes_of("".join(f"{TABLE_4.index(character):04b}" for character in to_base(text)))
+
+
+def write_shef(text):
+    return bytes_of("".join(SHEF_CODE[piece] for piece in pieces(text)))
+
+
+WRITE = {OPEN: bytes, PSEUDO: write_pseudo, NUMERIC: write_numeric, SHEF: write_shef, ASCII: write_ascii}
+
+
+def normal(format, text):
+    """What a text comes back as."""
+    if format in (NUMERIC, SHEF):
+        text = with_line_ends(text)
+    odd = format == NUMERIC and sum(len(BASE.get(piece, b"")) for piece in pieces(text)) % 2 == 1
+    return text + b" " if odd else text
+
+
+def uncoded_numeric(text):
+    """The index of the first character up to which no data carries what the text comes back as. Then none carries more of the text either."""
+    return bisect.bisect_left(range(len(text)), True, key=lambda index: from_base(to_base(text[:index + 1])) != normal(NUMERIC, text[:index + 1]))
+
+
+def uncoded(format, text):
+    """The index of the first character that has no code where it stands, or the text's length."""
+    if format == NUMERIC:
+        return uncoded_numeric(text)
+    has_code = {OPEN: lambda character: True, PSEUDO: pseudo_kind, SHEF: lambda character: normal(SHEF, bytes([character])) in SHEF_CODE, ASCII: ascii_code}
+    return next((index for index, character in enumerate(text) if not has_code[format](character)), len(text))
 
 
 # ---- the reader and the writer: (answer, the number beside it, what is written into the buffer)
@@ -208,9 +286,9 @@ def write(format, sync, text, room):
         return "refused 12", 0, b""
     if not text:
         return "refused 10", 0, b""
-    for index, character in enumerate(text):
-        if not CODE[format](character):
-            return "refused 9", index, b""
+    index = uncoded(format, text)
+    if index < len(text):
+        return "refused 9", index, b""
     data = WRITE[format](text)
     if len(data) > LONGEST:
         return "refused 11", 0, b""
@@ -275,15 +353,16 @@ def sections():
 def published():
     """001's section 5: the packets, and the messages beside them."""
     for name, (sent, message) in sections().items():
-        if name in ("5.3", "5.4"):  # Numeric and SHEF: refused
-            reads(sent, 400, ("refused 3", 0, b""))
-            continue
-        format = {"5.1": OPEN, "5.2.1": PSEUDO, "5.2.2": PSEUDO, "5.5": ASCII}[name]
+        format = {"5.1": OPEN, "5.2.1": PSEUDO, "5.2.2": PSEUDO, "5.3": NUMERIC, "5.4": SHEF, "5.5": ASCII}[name]
         text = bytes(range(256)) if format == OPEN else message
         if format == PSEUDO:  # house rule: value 63 is character 7F
             writes(format, text, 200, answer=("refused 9", text.index(0x3F), b""))
             text = text.replace(b"\x3f", b"\x7f")
         length, used = len(sent) - 6, len(sent)
+        if format == NUMERIC:  # an odd number of codes, and the space behind them
+            writes(format, text, used, answer=(f"written {used}", used, sent))
+            assert len(text) == 317
+            text += b" "
         ok = (f"ok {format} 0 0 {length} {len(text)}", used, text)
         for more in b"", b"\x00", bytes(range(100)):
             reads(sent + more, len(text) + 4, ok)
@@ -297,19 +376,20 @@ def published():
 
 
 def messages():
-    """The text of every message of section 5, in formats 4 and 1 where it has codes there, and read back; 2 and 3 are not ours."""
+    """The text of every message of section 5, in the compact formats where it has codes there, and read back; 5 and 6 are no formats."""
     for sent, text in sections().values():
-        for extended in 2, 3:
+        for extended in 5, 6:
             writes(extended, text, 500, answer=("refused 12", 0, b""))
-        for format in ASCII, PSEUDO:
-            uncoded = [index for index, character in enumerate(text) if not CODE[format](character)]
-            if not text or uncoded:
-                writes(format, text, 500, answer=("refused 9", uncoded[0], b"") if text else ("refused 10", 0, b""))
+        for format in COMPACT:
+            index = uncoded(format, text)
+            if not text or index < len(text):
+                writes(format, text, 500, answer=("refused 9", index, b"") if text else ("refused 10", 0, b""))
                 continue
+            back = normal(format, text)
             for sync in 0, 1:
                 whole = packet_of(format, WRITE[format](text), sync)
                 writes(format, text, 500, sync, (f"written {len(whole)}", len(whole), whole))
-                reads(whole, len(text) + 1, (f"ok {format} {sync} 0 {len(whole) - 6} {len(text)}", len(whole), text))
+                reads(whole, len(back) + 1, (f"ok {format} {sync} 0 {len(whole) - 6} {len(back)}", len(whole), back))
 
 
 def edges():
@@ -344,9 +424,52 @@ def edges():
     malformed(ASCII, "FF", 0)  # P15
 
 
+def line_ends_and_pairs():
+    """Numeric and SHEF, by hand from Tables 4 to 6: data, the text that it carries, and others that come back as that."""
+    for format, sent, back, *others in (
+            (NUMERIC, "0123456789ABCDEF", b"0123456789 +,-./"),
+            (NUMERIC, "BDDBDDEEBB", b"#=E:\r\n", b"#=E:\r", b"#=E:\n"),
+            (NUMERIC, "1A", b"1 ", b"1"),
+            (NUMERIC, "1AAA", b"1   ", b"1  "),
+            (NUMERIC, "12BA", b"12+ ", b"12+"),
+            (NUMERIC, "1EE2", b"1:2"),
+            (NUMERIC, "1BBA", b"1\r\n ", b"1\r\n", b"1\r", b"1\n"),
+            (NUMERIC, "1BBB", b"1\r\n+", b"1\n+"),
+            (NUMERIC, "BBBB", b"\r\n\r\n", b"\r\r\n", b"\n\r", b"\n\n", b"\r\r", b"\r\n\n", b"\n\r\n"),
+            (NUMERIC, "BDBA", b"#+ ", b"#+"),
+            (NUMERIC, "DDDA", b"E- ", b"E-"),
+            (NUMERIC, "DBBA", b"=+ ", b"=+"),
+            (NUMERIC, "EEEA", b":. ", b":."),
+            (NUMERIC, "BEED", b"+:-"),
+            (SHEF, "0F", b"1"),
+            (SHEF, "7F", b"/"),
+            (SHEF, "83", b"A"),
+            (SHEF, "821F", b"AB"),
+            (SHEF, "E7EF", b"Z;"),
+            (SHEF, "EFCF64", b"#=:E"),
+            (SHEF, "5ADAD73B", b"++--.."),
+            (SHEF, "EB", b"\r\n", b"\r", b"\n"),
+            (SHEF, "EBAF", b"\r\n\r\n", b"\r\r\n", b"\n\r", b"\n\n", b"\r\r", b"\r\n\n", b"\n\r\n"),
+    ):
+        whole = packet_of(format, bytes.fromhex(sent))
+        reads(whole, len(back) + 2, (f"ok {format} 0 0 {len(whole) - 6} {len(back)}", len(whole), back))
+        for text in back, *others:
+            writes(format, text, len(whole) + 2, answer=(f"written {len(whole)}", len(whole), whole))
+    for text, index in ((b"++", 1), (b"+-", 1), (b"-+", 1), (b"--", 1), (b"..", 1), (b"+#", 1), (b"+=", 1), (b"-E", 1), (b".:", 1), (b"+\r\n", 1),
+                        (b"+\r", 1), (b"-\n", 1), (b"1#++", 3), (b"12:..", 4), (b"\r\n+\n", 3), (b"-5 -4e1", 5), (b"-E;", 1), (b";-E", 0)):
+        writes(NUMERIC, text, 20, answer=("refused 9", index, b""))
+    for text, index in (b"Ab", 1), (b"z", 0), (b"1\t", 1), (b"A?", 1):
+        writes(SHEF, text, 20, answer=("refused 9", index, b""))
+    for pair in itertools.product(TABLE_4 + b"\r\n#=:E", repeat=2):
+        writes(NUMERIC, bytes(pair), 10)
+    for sent, place in ("FF", 0), ("FBFF", 6), ("07FF", 5), ("FE", 0), ("FC", 0):
+        reads(packet_of(SHEF, bytes.fromhex(sent)), 10, ("refused 7", place, b""))
+
+
 def headers():
     """Headers 0 to 3 bits off."""
-    for format, sent, sync in (OPEN, b"\x37", 0), (PSEUDO, bytes.fromhex("81042F"), 1), (ASCII, b"\x83\x0b", 0):
+    sent_data = (OPEN, b"\x37", 0), (PSEUDO, bytes.fromhex("81042F"), 1), (ASCII, b"\x83\x0b", 0), (NUMERIC, b"\x1e\xe2", 1), (SHEF, b"\x82\x1f", 0)
+    for format, sent, sync in sent_data:
         whole = packet_of(format, sent, sync)
         text = READ[format](sent)
         for places in [()] + list(itertools.combinations(range(32), 1)) + (list(itertools.combinations(range(32), 2)) if format == PSEUDO else []):
@@ -366,7 +489,7 @@ def reader_refusals():
         whole = packet(header(kind, extended, 0, spare, 1), b"\x83")
         reads(whole, 4)
         reads(flipped(whole, (3, 29)), 4)
-    for format in OPEN, PSEUDO, ASCII:
+    for format in FORMATS:
         for length in 0, 1, 3999, 4000, 4001, 8192, 16383:
             for places in (), (12,), (0, 21):
                 reads(flipped(packet(header(2, format, 0, 0, length), b"?"), places), 7)
@@ -387,18 +510,20 @@ def bit_strings(longest):
 def begins_code(format, rest):
     """Whether the bits start with a whole code (Pseudo Binary: with a whole indicator)."""
     if rest[:1] == "0":
-        return len(rest) >= 6
+        return len(rest) >= (5 if format == SHEF else 6)
     if format == PSEUDO:
         return len(rest) >= 8
+    if format == SHEF:
+        return len(rest) >= 6 and rest[:6] != "1" * 6
     return len(rest) >= (9 if rest[:7] == "1" * 7 else 7)
 
 
 def endings():
     """Every remainder that cannot be read, each at two distances from the start."""
-    bad = {format: [rest for rest in bit_strings(8) if not is_end(rest) and not begins_code(format, rest)] for format in (ASCII, PSEUDO)}
+    bad = {format: [rest for rest in bit_strings(8) if not is_end(rest) and not begins_code(format, rest)] for format in (ASCII, PSEUDO, SHEF)}
     bad[PSEUDO] = [rest for rest in bad[PSEUDO] if len(rest) % 2 == 0]  # its codes have 6 and 8 bits
     values = [rest for rest in bit_strings(5) if len(rest) % 2 == 0]  # where a value of six bits is announced, ones are no fill
-    assert (len(bad[ASCII]), len(bad[PSEUDO]), len(values)) == (90, 49, 21)
+    assert (len(bad[ASCII]), len(bad[PSEUDO]), len(bad[SHEF]), len(values)) == (90, 49, 46, 21)
 
     def malformed(format, front, rest):
         assert len(front + rest) % 8 == 0
@@ -408,6 +533,10 @@ def endings():
         to_byte = -len(rest) % 8  # seven bits are one less than a byte
         malformed(ASCII, "1000001" * (8 - to_byte), rest)
         malformed(ASCII, "111111111" + "010000" * 12 + "1111110" * (17 - to_byte), rest)
+    for rest in bad[SHEF]:
+        fives = -5 * len(rest) % 8  # 25 bits are one more than three bytes
+        malformed(SHEF, "01110" * fives, rest)
+        malformed(SHEF, "111010" * 4 + "01111" * (8 + fives) + "111110" * 4, rest)
     for rest in bad[PSEUDO]:
         sixes = len(rest) // 2 % 4  # six bits are two less than a byte
         malformed(PSEUDO, "010010" * sixes, rest)
@@ -421,7 +550,7 @@ def endings():
 def compact_data():
     """Every data byte alone, and others by chance."""
     generator = random.Random(2)
-    for format in PSEUDO, ASCII:
+    for format in COMPACT:
         for byte in range(256):
             reads(packet_of(format, bytes([byte])), 20)
         for length, times in (2, 80), (3, 60), (5, 40):
@@ -431,6 +560,8 @@ def compact_data():
                     data[-1] |= (1 << generator.randrange(8)) - 1
                 if format == PSEUDO and generator.random() < 0.5:
                     data[0] = 0x80 | generator.randrange(8)
+                if format == NUMERIC and generator.random() < 0.7:
+                    data = bytearray(generator.choice((0xBB, 0xBD, 0xDB, 0xDD, 0xEE, 0xBE, 0xEB, 0x1B, 0xB1)) for _ in data)
                 try:
                     room = len(READ[format](bytes(data)))
                 except Malformed:
@@ -446,13 +577,23 @@ def longest():
             reads(sent, room)
     for length in 4000, 4001:
         reads(packet_of(OPEN, b"x" * length), 4001)
-    for format, unit, most in (OPEN, b"x", 4000), (PSEUDO, b"A", 5277), (ASCII, b"0", 5333), (ASCII, b"A", 4571), (ASCII, b"\r\n", 3555):
+    for format, unit, most in ((OPEN, b"x", 4000), (PSEUDO, b"A", 5277), (ASCII, b"0", 5333), (ASCII, b"A", 4571), (ASCII, b"\r\n", 3555),
+                               (NUMERIC, b"0", 8000), (NUMERIC, b":", 4000), (NUMERIC, b"\r\n", 4000), (SHEF, b"0", 6400), (SHEF, b"A", 5333),
+                               (SHEF, b"\r\n", 5333)):
         fullest = packet_of(format, WRITE[format](unit * most))
         assert len(fullest) == LONGEST + 6
         for room in len(unit) * most, len(unit) * most - 1:
             reads(fullest, room)
         writes(format, unit * most, 4006, answer=("written 4006", 4006, fullest))
         writes(format, unit * (most + 1), 4006, answer=("refused 11", 0, b""))
+    for format, most in (NUMERIC, 4000), (SHEF, 5333):  # line ends of one character
+        for unit in b"\r", b"\n":
+            writes(format, unit * most, 4006, answer=("written 4006", 4006, packet_of(format, WRITE[format](b"\r\n" * most))))
+            writes(format, unit * (most + 1), 4006, answer=("refused 11", 0, b""))
+    for digits in 7999, 8000:
+        writes(NUMERIC, b"5" * digits, 4006, answer=("written 4006", 4006, packet_of(NUMERIC, (b"\x55" * 4000)[:digits // 2] + b"\x5a" * (digits % 2))))
+    writes(NUMERIC, b"5" * 8001 + b"++", 0, answer=("refused 9", 8002, b""))  # 9 comes before 11
+    writes(SHEF, b"5" * 6401 + b"a", 0, answer=("refused 9", 6401, b""))
     writes(PSEUDO, b"/" * 85328, 4006, answer=("written 4006", 4006, packet_of(PSEUDO, bytes_of("011111" * 5333))))
     writes(PSEUDO, b" " * 85329, 4006, answer=("refused 11", 0, b""))
     writes(OPEN, b"x" * 4000, 4005, answer=("refused 8", 4006, b""))
@@ -467,11 +608,11 @@ def writer_refusals():
                 writes(format, text, room)
     for format in 255, 256, 257, 260, 65540, 0xFFFFFF:  # the low byte of some is a format's number
         writes(format, b"/", 16)
-    for format in PSEUDO, ASCII:
+    for format in COMPACT:
         for character in range(256):
             writes(format, bytes([character]), 9, sync=character % 2)
         for index in 0, 1, 17, 40:
-            text = bytearray(b"A / " * 11)
+            text = bytearray(b"E / " * 11 if format == NUMERIC else b"A / " * 11)
             text[index] = 0x80
             text[43] = 0x1F
             writes(format, bytes(text), 100)
@@ -485,21 +626,26 @@ def texts():
         chosen += [(PSEUDO, character * n) for character in (b"/", b" ", b"\x7f")]
         chosen += [(PSEUDO, b"@" * n + b"/" + b"~" * n + b" "), (OPEN, b"\xff" * n)]
         chosen += [(ASCII, text) for text in (b"\r" * n + b"\n", b"\r\n" * n, b"\t5" * n)]
-    letters = {OPEN: bytes(range(256)), PSEUDO: bytes(range(64, 128)) + b" / / / / / /" * 4, ASCII: bytes(range(32, 127)) + b"\t\r\n\r\n" * 6}
+    letters = {OPEN: bytes(range(256)), PSEUDO: bytes(range(64, 128)) + b" / / / / / /" * 4, ASCII: bytes(range(32, 127)) + b"\t\r\n\r\n" * 6,
+               NUMERIC: TABLE_4 + b"+-.#=:E\r\n\r\n", SHEF: TABLE_4 * 2 + b"".join(TABLE_6) + b"\r\n"}
     for format in letters:
         for _ in range(40):
             runs = generator.randrange(1, 24)
             text = b"".join(bytes([generator.choice(letters[format])]) * generator.choice((1, 1, 1, 2, 9, 20)) for _ in range(runs))
             chosen.append((format, text))
     for format, text in chosen:
+        if uncoded(format, text) < len(text):  # in Numeric: written, refused; and then without what has no code where it stands
+            writes(format, text, 600)
+        while (index := uncoded(format, text)) < len(text):
+            text = text[:index] + text[index + 1:]
         sync = generator.randrange(2)
         whole = packet_of(format, WRITE[format](text), sync)
         writes(format, text, len(whole) + generator.randrange(-1, 3), sync)
-        reads(whole + generator.randbytes(generator.randrange(3)), len(text) + generator.randrange(-1, 3))
+        reads(whole + generator.randbytes(generator.randrange(3)), len(normal(format, text)) + generator.randrange(-1, 3))
 
 
 def make():
-    for group in published, messages, edges, headers, reader_refusals, endings, compact_data, longest, writer_refusals, texts:
+    for group in published, messages, edges, line_ends_and_pairs, headers, reader_refusals, endings, compact_data, longest, writer_refusals, texts:
         before = COUNT
         group()
         print(f"{group.__name__}: {COUNT - before} cases")

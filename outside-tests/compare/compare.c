@@ -4,7 +4,8 @@
  *
  * Each case depends on the seed and its own number only, so `outside-tests/compare/run 1 SEED FIRST` repeats one. A difference in any member of an
  * answer or any byte of a buffer, a byte changed outside of what the answer allows, a read or write past a buffer's end, or an answer other than the
- * one known from how the packet was made ends the run with status 1. So does, in a run of MEANT_CASES or more, an outcome that never occurred. */
+ * one known from how the packet was made ends the run with status 1. So does, in a run of MEANT_CASES or more, an outcome that never occurred, of the list
+ * below or of an answer in a format. */
 #define _GNU_SOURCE
 #include "independent.h"
 #include "maker.h"
@@ -59,10 +60,7 @@ static void random_bytes(uint8_t *to, size_t length)
 
 enum outcome {
     READ_REFUSED, /* and its number, up to 8 */
-    READ_OPEN = READ_REFUSED + 9,
-    READ_PSEUDO_BINARY,
-    READ_FULL_ASCII,
-    MENDED_0,
+    MENDED_0 = READ_REFUSED + 9,
     MENDED_1,
     MENDED_2,
     READ_SYNC_0,
@@ -70,6 +68,8 @@ enum outcome {
     READ_DATA_1,
     READ_DATA_4000,
     READ_LONGEST,
+    READ_LONGEST_NUMERIC,
+    READ_LONGEST_SHEF,
     READ_ROOM_EXACT,
     READ_ROOM_ONE_MORE,
     READ_TRAILING,
@@ -77,22 +77,20 @@ enum outcome {
     MADE_AND_READ,
     DAMAGED, /* and its kind */
     DAMAGED_MENDED = DAMAGED + 4, /* and the header bits flipped beside it */
-    MALFORMED_PSEUDO_BINARY = DAMAGED_MENDED + 3,
-    MALFORMED_FULL_ASCII,
-    NO_ROOM_ONE_SHORT,
+    NO_ROOM_ONE_SHORT = DAMAGED_MENDED + 3,
     FLIPPED_3,
     FLIPPED_4,
     WRITE_REFUSED, /* and its number, 8 to 12 */
     WRITE_LOW_8_OURS = WRITE_REFUSED + 13,
     WRITE_LOW_16_OURS,
-    WRITE_OPEN,
-    WRITE_PSEUDO_BINARY,
-    WRITE_FULL_ASCII,
+    WRITE_NO_PAIR,
     WRITE_SYNC_1,
     WRITE_DATA_4000,
     WRITE_ROOM_EXACT,
     WRITTEN_AND_READ,
-    WRITE_ONE_SHORT,
+    WRITTEN_SPACE,
+    WRITTEN_LINE_END, /* and its kind: CR LF, CR alone, LF alone */
+    WRITE_ONE_SHORT = WRITTEN_LINE_END + 3,
     OUTCOMES
 };
 
@@ -105,10 +103,7 @@ static const char *const outcome_name[OUTCOMES] = {
     [READ_REFUSED + 6] = "reader refused 6, checksum",
     [READ_REFUSED + 7] = "reader refused 7, malformed",
     [READ_REFUSED + 8] = "reader refused 8, no room",
-    [READ_OPEN] = "reader accepted Open",
-    [READ_PSEUDO_BINARY] = "reader accepted Compact Pseudo Binary",
-    [READ_FULL_ASCII] = "reader accepted Compact Full ASCII",
-    [MENDED_0] = "  with 0 bits mended",
+    [MENDED_0] = "reader accepted, with 0 bits mended",
     [MENDED_1] = "  with 1 bit mended",
     [MENDED_2] = "  with 2 bits mended",
     [READ_SYNC_0] = "  with sync 0",
@@ -116,6 +111,8 @@ static const char *const outcome_name[OUTCOMES] = {
     [READ_DATA_1] = "  with 1 data byte",
     [READ_DATA_4000] = "  with 4,000 data bytes",
     [READ_LONGEST] = "  with 85,328 characters",
+    [READ_LONGEST_NUMERIC] = "  with 8,000 characters of Compact Numeric",
+    [READ_LONGEST_SHEF] = "  with 10,666 characters of Compact SHEF",
     [READ_ROOM_EXACT] = "  with exactly the room needed",
     [READ_ROOM_ONE_MORE] = "  with one byte more room",
     [READ_TRAILING] = "  with bytes behind the packet",
@@ -128,8 +125,6 @@ static const char *const outcome_name[OUTCOMES] = {
     [DAMAGED_MENDED + 0] = "  under a header as sent",
     [DAMAGED_MENDED + 1] = "  under a header with 1 bit flipped",
     [DAMAGED_MENDED + 2] = "  under a header with 2 bits flipped",
-    [MALFORMED_PSEUDO_BINARY] = "malformed Compact Pseudo Binary",
-    [MALFORMED_FULL_ASCII] = "malformed Compact Full ASCII",
     [NO_ROOM_ONE_SHORT] = "text buffer one byte too short",
     [FLIPPED_3] = "read under a header with 3 bits flipped",
     [FLIPPED_4] = "read under a header with 4 bits flipped",
@@ -140,17 +135,36 @@ static const char *const outcome_name[OUTCOMES] = {
     [WRITE_REFUSED + 12] = "writer refused 12, format",
     [WRITE_LOW_8_OURS] = "  whose low 8 bits are a format's number",
     [WRITE_LOW_16_OURS] = "  whose low 16 bits are a format's number",
-    [WRITE_OPEN] = "writer accepted Open",
-    [WRITE_PSEUDO_BINARY] = "writer accepted Compact Pseudo Binary",
-    [WRITE_FULL_ASCII] = "writer accepted Compact Full ASCII",
-    [WRITE_SYNC_1] = "  with sync 1",
+    [WRITE_NO_PAIR] = "writer refused 9, a pair of Compact Numeric",
+    [WRITE_SYNC_1] = "writer accepted, with sync 1",
     [WRITE_DATA_4000] = "  with 4,000 data bytes",
     [WRITE_ROOM_EXACT] = "  with exactly the room needed",
     [WRITTEN_AND_READ] = "  and read back as written",
+    [WRITTEN_SPACE] = "  with a space behind it (Compact Numeric)",
+    [WRITTEN_LINE_END + 0] = "line ends of CR LF written (Compact Numeric and SHEF)",
+    [WRITTEN_LINE_END + 1] = "line ends of CR alone",
+    [WRITTEN_LINE_END + 2] = "line ends of LF alone",
     [WRITE_ONE_SHORT] = "packet buffer one byte too short",
 };
 
 static uint64_t outcomes[OUTCOMES];
+
+/* Answers in each format: accepted (0), or refused. Those that must occur are named by a bit each. */
+
+enum { FORMATS = 5, REFUSALS = 13 };
+
+static const struct {
+    const char *name;
+    unsigned read, written;
+} formats[FORMATS] = {
+    {"Open", 0x171, 0xd01},
+    {"Compact Pseudo Binary", 0x1f1, 0xf01},
+    {"Compact Numeric", 0x171, 0xf01},
+    {"Compact SHEF", 0x1f1, 0xf01},
+    {"Compact Full ASCII", 0x1f1, 0xf01},
+};
+
+static uint64_t read_answers[FORMATS][REFUSALS], write_answers[FORMATS][REFUSALS];
 
 /* Buffers. Each region ends at a page that may not be touched. A buffer ends there, or GUARD bytes before. The outputs of both sides start as copies of
  * `untouched`, and are put back to that after each case. */
@@ -304,6 +318,7 @@ struct made {
     bool damaged; /* known too: refused by checksum, for a damage of this kind */
     unsigned kind;
     unsigned format, sync, mended;
+    unsigned flag; /* that the header says, unless more than two bits of it were flipped */
     size_t data_length, text_length;
 };
 
@@ -346,15 +361,15 @@ static size_t some_run(size_t most)
 }
 
 /* Whether another code is put where `rest` bits remain: it must be when they are too many to be fill. */
-static bool one_more(size_t rest)
+static bool one_more(size_t rest, size_t shortest)
 {
-    return rest > 7 || (rest >= 6 && chance(50));
+    return rest > 7 || (rest >= shortest && chance(50));
 }
 
 /* `longest`: full runs of space and slash only. */
 static void make_pseudo_binary(struct maker_bits *bits, size_t most_bits, bool longest)
 {
-    while (one_more(most_bits - bits->bits)) {
+    while (one_more(most_bits - bits->bits, 6)) {
         size_t rest = most_bits - bits->bits;
         unsigned kind = longest ? below(2) : below(4);
         if (kind >= 2 && rest >= 14) {
@@ -378,7 +393,7 @@ static void make_pseudo_binary(struct maker_bits *bits, size_t most_bits, bool l
 static void make_full_ascii(struct maker_bits *bits, size_t most_bits)
 {
     unsigned controls = chance(20) ? 60 : 8;
-    while (one_more(most_bits - bits->bits)) {
+    while (one_more(most_bits - bits->bits, 6)) {
         size_t rest = most_bits - bits->bits;
         if (rest >= 9 && chance(controls)) {
             unsigned code = below(4);
@@ -394,6 +409,58 @@ static void make_full_ascii(struct maker_bits *bits, size_t most_bits)
             unsigned character = between(32, 63);
             maker_put(bits, character - 32, 6);
             add_text(character, 1);
+        }
+    }
+}
+
+/* Whether a character may not follow another in Compact Numeric. */
+static bool makes_pair(unsigned before, unsigned character)
+{
+    if (before == '+' || before == '-')
+        return character != 0 && strchr("+-#=E\r\n", character) != NULL;
+    return before == '.' && (character == '.' || character == ':');
+}
+
+static const char numeric_characters[] = "0123456789 +,-./", special_characters[] = "\n#=:E";
+static const unsigned sign_codes[] = {0xb, 0xd, 0xe}, special_codes[] = {0xbb, 0xbd, 0xdb, 0xee, 0xdd};
+
+/* All codes are used, so that data is full. `longest`: no special character but the line end. */
+static void make_numeric(struct maker_bits *bits, size_t most_bits, bool longest)
+{
+    unsigned specials = chance(30) ? 60 : 10, signs = chance(30) ? 60 : 10, before = 0;
+    while (bits->bits < most_bits) {
+        unsigned code = chance(signs) ? sign_codes[below(3)] : below(16), character = numeric_characters[code], width = 4;
+        if (most_bits - bits->bits >= 8 && chance(specials)) {
+            unsigned special = longest ? 0 : below(5);
+            code = special_codes[special];
+            character = special_characters[special];
+            width = 8;
+        }
+        if (makes_pair(before, character))
+            continue;
+        maker_put(bits, code, width);
+        if (character == '\n')
+            add_text('\r', 1);
+        add_text(character, 1);
+        before = character;
+    }
+}
+
+/* `longest`: line ends only. */
+static void make_shef(struct maker_bits *bits, size_t most_bits, bool longest)
+{
+    unsigned letters = chance(30) ? 80 : 20;
+    while (one_more(most_bits - bits->bits, longest ? 8 : 5)) {
+        if (longest || (most_bits - bits->bits >= 6 && chance(letters))) {
+            unsigned code = longest || chance(10) ? 26 : below(31);
+            maker_put(bits, 32 + code, 6);
+            if (code == 26)
+                add_text('\r', 1);
+            add_text("ABCDEFGHIJKLMNOPQRSTUVWXYZ\n#=:;"[code], 1);
+        } else {
+            unsigned code = below(16);
+            maker_put(bits, code, 5);
+            add_text(numeric_characters[code], 1);
         }
     }
 }
@@ -414,7 +481,7 @@ static void make_ending(struct maker_bits *bits)
 
 static size_t make_data(unsigned format, uint8_t *data)
 {
-    bool longest = format == 1 && chance(2);
+    bool longest = format >= 1 && format <= 3 && chance(4);
     size_t length = longest ? 4000 : some_length();
     struct maker_bits bits = {data, 0};
     if (format == 0) {
@@ -429,10 +496,17 @@ static size_t make_data(unsigned format, uint8_t *data)
         random_bytes(data, length);
         if (chance(30))
             memset(data, 0xff, below(length + 1));
+        else if (chance(30)) /* of signs and points */
+            for (size_t i = 0; i < length; i++)
+                data[i] = sign_codes[below(3)] << 4 | sign_codes[below(3)];
         return length;
     }
     if (format == 1)
         make_pseudo_binary(&bits, 8 * length, longest);
+    else if (format == 2)
+        make_numeric(&bits, 8 * length, longest);
+    else if (format == 3)
+        make_shef(&bits, 8 * length, longest);
     else
         make_full_ascii(&bits, 8 * length);
     if (dice < 35 && length <= 3990) {
@@ -478,8 +552,10 @@ static void damage_header(void)
     made.mended = flips;
     outcomes[FLIPPED_3] += flips == 3;
     outcomes[FLIPPED_4] += flips == 4;
-    if (flips > 2)
+    if (flips > 2) {
         made.known = false;
+        made.flag = 0;
+    }
 }
 
 /* Only a data byte or two neighbouring ones, or only one or both checksum bytes, each made any other. */
@@ -513,6 +589,7 @@ static void other_header(unsigned flag)
     made.known = false;
     if (chance(50))
         flag = below(128);
+    made.flag = flag;
     types_made |= 1u << (flag >> 2);
     uint32_t header = maker_header(flag, chance(30) ? lengths[below(8)] : chance(30) ? below(0x4000) : made.data_length);
     for (int i = 0; i < 4; i++)
@@ -532,11 +609,16 @@ static void add_tail(void)
     made.length += more;
 }
 
+static unsigned some_format(void)
+{
+    return chance(8) ? 0 : between(1, 4);
+}
+
 static void make_packet(void)
 {
-    static const unsigned formats[] = {0, 1, 1, 1, 4, 4, 4};
     made.known = true;
     made.damaged = false;
+    made.flag = 0;
     made.text_length = 0;
     if (chance(4)) { /* any bytes at all */
         made.known = false;
@@ -544,10 +626,10 @@ static void make_packet(void)
         random_bytes(made.packet, made.length);
         return;
     }
-    made.format = formats[below(7)];
+    made.format = some_format();
     made.sync = below(2);
     made.data_length = make_data(made.format, made.packet + 4);
-    unsigned flag = 0x40 | made.format << 2 | made.sync << 1;
+    unsigned flag = made.flag = 0x40 | made.format << 2 | made.sync << 1;
     made.length = maker_close(made.packet, flag, made.data_length);
     if (chance(10))
         other_header(flag);
@@ -594,21 +676,23 @@ static bool same_read_answer(rosopyat_read_answer a, rosopyat_read_answer b)
            a.data_length == b.data_length && a.text_length == b.text_length && a.used == b.used;
 }
 
-static void count_reading(rosopyat_read_answer answer, size_t room, unsigned format)
+static void count_reading(rosopyat_read_answer answer, size_t room)
 {
+    if (answer.refusal > 3 && made.flag >> 5 == 2 && (made.flag >> 2 & 7) < FORMATS)
+        read_answers[made.flag >> 2 & 7][answer.refusal]++;
     if (answer.refusal != 0) {
         outcomes[READ_REFUSED + answer.refusal]++;
-        outcomes[MALFORMED_PSEUDO_BINARY] += answer.refusal == 7 && format == 1;
-        outcomes[MALFORMED_FULL_ASCII] += answer.refusal == 7 && format == 4;
         outcomes[NO_ROOM_ONE_SHORT] += answer.refusal == 8 && room + 1 == answer.number;
         return;
     }
-    outcomes[answer.format == 0 ? READ_OPEN : answer.format == 1 ? READ_PSEUDO_BINARY : READ_FULL_ASCII]++;
+    read_answers[answer.format][0]++;
     outcomes[MENDED_0 + answer.mended]++;
     outcomes[READ_SYNC_0 + answer.sync]++;
     outcomes[READ_DATA_1] += answer.data_length == 1;
     outcomes[READ_DATA_4000] += answer.data_length == 4000;
     outcomes[READ_LONGEST] += answer.text_length == ROSOPYAT_MOST_TEXT;
+    outcomes[READ_LONGEST_NUMERIC] += answer.format == 2 && answer.text_length == 8000;
+    outcomes[READ_LONGEST_SHEF] += answer.format == 3 && answer.text_length == 10666;
     outcomes[READ_ROOM_EXACT] += room == answer.text_length;
     outcomes[READ_ROOM_ONE_MORE] += room == answer.text_length + 1;
     outcomes[READ_TRAILING] += made.length > answer.used;
@@ -647,16 +731,30 @@ static bool reader_case(void)
         return false;
     }
     put_back(text, ours.text_length);
-    count_reading(ours, room, needed.refusal == 7 ? made.format : 0);
+    count_reading(ours, room);
     return true;
 }
 
 /* Texts for the writer. */
 
+/* A line end of one or two characters, or another of those that the table has. */
+static size_t make_piece(uint8_t *text, const char *others, unsigned line_ends)
+{
+    if (chance(line_ends)) {
+        unsigned kind = below(4);
+        text[0] = kind == 0 ? '\n' : '\r';
+        text[1] = '\n';
+        return kind < 2 ? 1 : 2;
+    }
+    text[0] = others[below(strlen(others))];
+    return 1;
+}
+
 static size_t make_pieces(unsigned format, uint8_t *text, size_t least)
 {
     size_t length = 0;
     bool few = chance(30), runs = chance(3);
+    unsigned line_ends = chance(5) ? 99 : few ? 3 : 20, pairs = chance(70) ? 0 : chance(50) ? 2 : 20;
     while (length < least) {
         if (format == 0)
             text[length++] = random_64() >> 56;
@@ -669,6 +767,19 @@ static size_t make_pieces(unsigned format, uint8_t *text, size_t least)
             } else
                 for (size_t run = some_run(chance(10) ? 300 : 130); run > 0; run--)
                     text[length++] = between(64, 127);
+        } else if (format == 2) {
+            size_t piece = make_piece(text + length, few ? "0123456789 ,/." : "0123456789 +,-./+-.#=:E", line_ends);
+            if (length > 0 && makes_pair(text[length - 1], text[length]))
+                text[length++] = '0' + below(10);
+            else
+                length += piece;
+            if (chance(pairs)) { /* mostly without a code */
+                text[length++] = "+-."[below(3)];
+                text[length++] = "+-.#=:E\r\n"[below(9)];
+            }
+        } else if (format == 3) {
+            static const char all[] = "0123456789 +,-./#=:;ABCDEFGHIJKLMNOPQRSTUVWXYZ";
+            length += make_piece(text + length, few ? "0123456789 .:" : all, line_ends);
         } else if (chance(few ? 3 : 30)) {
             unsigned code = below(5);
             if (code >= 3)
@@ -696,11 +807,11 @@ static size_t longest_part(unsigned format, const uint8_t *text, size_t length)
 
 static size_t make_text(uint32_t format, uint8_t *text)
 {
-    unsigned dice = below(100), coded = format == 1 || format == 4 ? format : 0;
+    unsigned dice = below(100), coded = format < FORMATS ? format : 0;
     if (dice < 3)
         return 0;
     if (dice < 10) {
-        size_t length = make_pieces(coded, text, coded == 0 ? 4100 : coded == 1 && chance(20) ? 90000 : 8000);
+        size_t length = make_pieces(coded, text, coded == 0 ? 4100 : coded == 1 && chance(20) ? 90000 : 11000);
         size_t fits = longest_part(coded, text, length);
         size_t part = chance(60) ? fits : chance(70) ? fits + 1 : fits + between(2, 10);
         return part < length ? part : length;
@@ -718,53 +829,98 @@ static bool same_write_answer(rosopyat_write_answer a, rosopyat_write_answer b)
 
 static bool is_ours(uint32_t format)
 {
-    return format == 0 || format == 1 || format == 4;
+    return format < FORMATS;
 }
 
-static void count_writing(rosopyat_write_answer answer, size_t room, uint32_t format, bool sync)
+static void count_writing(rosopyat_write_answer answer, size_t room, uint32_t format, bool sync, const uint8_t *text)
 {
+    if (is_ours(format))
+        write_answers[format][answer.refusal]++;
     if (answer.refusal != 0) {
+        outcomes[WRITE_NO_PAIR] +=
+            answer.refusal == 9 && format == 2 && answer.number > 0 && makes_pair(text[answer.number - 1], text[answer.number]);
         outcomes[WRITE_REFUSED + answer.refusal]++;
         outcomes[WRITE_LOW_8_OURS] += answer.refusal == 12 && is_ours(format & 0xff);
         outcomes[WRITE_LOW_16_OURS] += answer.refusal == 12 && is_ours(format & 0xffff);
         outcomes[WRITE_ONE_SHORT] += answer.refusal == 8 && room + 1 == answer.number;
         return;
     }
-    outcomes[format == 0 ? WRITE_OPEN : format == 1 ? WRITE_PSEUDO_BINARY : WRITE_FULL_ASCII]++;
     outcomes[WRITE_SYNC_1] += sync;
     outcomes[WRITE_DATA_4000] += answer.length == 4006;
     outcomes[WRITE_ROOM_EXACT] += room == answer.length;
 }
 
-/* Reads the library's packet back into the other output, which is put back by the caller. */
+/* What a text comes back as, in `normal`, and its length: in Compact Numeric and SHEF with all line ends as CR LF, and in Numeric with a space behind it
+ * where it has an odd number of codes. */
+static uint8_t normal[2 * LONG_TEXT + 1];
+
+static size_t make_normal(uint32_t format, const uint8_t *text, size_t text_length)
+{
+    size_t length = 0, codes = 0;
+    for (size_t i = 0; i < text_length; i++) {
+        bool cr = text[i] == '\r', lf = text[i] == '\n', cr_before = i > 0 && text[i - 1] == '\r';
+        if ((format != 2 && format != 3) || (!cr && !lf))
+            normal[length++] = text[i];
+        else if (cr || !cr_before) {
+            memcpy(normal + length, "\r\n", 2);
+            length += 2;
+            outcomes[WRITTEN_LINE_END + (lf ? 2 : i + 1 < text_length && text[i + 1] == '\n' ? 0 : 1)]++;
+        }
+    }
+    for (size_t i = 0; i < length; i++) /* CR and LF have one each, so to speak */
+        codes += strchr("#=:E", normal[i]) ? 2 : 1;
+    if (format == 2 && codes % 2 == 1) {
+        normal[length++] = ' ';
+        outcomes[WRITTEN_SPACE]++;
+    }
+    return length;
+}
+
+/* Reads the library's packet back into the other output, which is put back by the caller, and writes what came back again. */
 static bool reads_back(struct place packet, size_t length, uint32_t format, bool sync, const uint8_t *text, size_t text_length)
 {
+    static uint8_t again[ROSOPYAT_MOST_PACKET];
     uint8_t *back = independent_output;
+    size_t normal_length = make_normal(format, text, text_length);
     rosopyat_read_answer answer = rosopyat_read(library_output + packet.start, length, back, REGION);
     bool same = answer.refusal == 0 && answer.format == format && answer.sync == sync && answer.mended == 0 && answer.data_length + 6 == length &&
-                answer.used == length && answer.text_length == text_length && memcmp(back, text, text_length) == 0;
+                answer.used == length && answer.text_length == normal_length && memcmp(back, normal, normal_length) == 0;
+    rosopyat_write_answer rewritten = rosopyat_write(format, sync, back, answer.text_length, again, sizeof again);
+    same &= rewritten.refusal == 0 && rewritten.length == length && memcmp(again, library_output + packet.start, length) == 0;
     memcpy(back, untouched, answer.text_length);
     return same;
+}
+
+static unsigned other_character(unsigned kind)
+{
+    switch (kind) {
+    case 0: /* that makes a pair in Compact Numeric with what may stand beside it */
+        return "+-."[below(3)];
+    case 1: /* that has no code in Compact SHEF */
+        return between('a', 'z');
+    default:
+        return chance(30) ? between(31, 33) : chance(30) ? between(126, 128) : random_64() >> 56;
+    }
 }
 
 /* One to three characters made any others, mostly without a code. */
 static void damage_text(size_t length)
 {
+    unsigned kind = below(5);
     for (unsigned i = between(1, 3); i > 0; i--)
-        made_text[chance(20) ? length - 1 : below(length)] = chance(30) ? between(31, 33) : chance(30) ? between(126, 128) : random_64() >> 56;
+        made_text[chance(20) ? length - 1 : below(length)] = other_character(kind);
 }
 
 /* Mostly one of ours; or near them; or one that only its upper bits tell from ours; or any. */
-static uint32_t some_format(void)
+static uint32_t some_number(void)
 {
-    static const uint32_t ours[] = {0, 1, 1, 1, 4, 4, 4};
-    static const uint32_t others[] = {256, 257, 260, 65540, 0xffffffff};
-    uint32_t format = ours[below(7)];
+    static const uint32_t others[] = {5, 256, 257, 258, 259, 260, 65538, 65540, 0xffffffff};
+    uint32_t format = some_format();
     switch (below(40)) {
     case 0:
         return below(16);
     case 1:
-        return others[below(5)];
+        return others[below(9)];
     case 2:
         return format | random_64() << (chance(50) ? 8 : 16);
     case 3:
@@ -776,7 +932,7 @@ static uint32_t some_format(void)
 
 static bool writer_case(void)
 {
-    uint32_t format = some_format();
+    uint32_t format = some_number();
     bool sync = below(2);
     size_t length = make_text(format, made_text);
     if (length > 0 && chance(10))
@@ -809,7 +965,7 @@ static bool writer_case(void)
     }
     outcomes[WRITTEN_AND_READ] += ours.refusal == 0;
     put_back(packet, ours.length);
-    count_writing(ours, room, format, sync);
+    count_writing(ours, room, format, sync, input + text.start);
     return true;
 }
 
@@ -830,9 +986,29 @@ static void prepare(void)
     memcpy(independent_output, untouched, REGION);
 }
 
+static bool print_answers(const char *side, unsigned format, const uint64_t *answers, unsigned meant)
+{
+    bool missing = false;
+    printf("%10" PRIu64 "  %s accepted %s", answers[0], side, formats[format].name);
+    for (unsigned refusal = 0; refusal < REFUSALS; refusal++) {
+        if (refusal > 0 && answers[refusal] > 0)
+            printf(", refused %u: %" PRIu64, refusal, answers[refusal]);
+        if ((meant >> refusal & 1) && answers[refusal] == 0) {
+            printf(", %u NEVER OCCURRED", refusal);
+            missing = true;
+        }
+    }
+    printf("\n");
+    return missing;
+}
+
 static bool print_outcomes(bool all_meant)
 {
     bool missing = false;
+    for (unsigned format = 0; format < FORMATS; format++) {
+        missing |= print_answers("reader", format, read_answers[format], all_meant ? formats[format].read : 0);
+        missing |= print_answers("writer", format, write_answers[format], all_meant ? formats[format].written : 0);
+    }
     for (int i = 0; i < OUTCOMES; i++)
         if (outcome_name[i]) {
             bool never = all_meant && outcomes[i] == 0;

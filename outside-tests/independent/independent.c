@@ -151,6 +151,75 @@ static bool read_pseudo_binary(const uint8_t *data, size_t length, uint8_t *text
     return true;
 }
 
+/* Compact Numeric and SHEF. Table 4's characters by their codes; those of Table 6 with six bits, where six ones are no code. A line end stands as LF in
+ * the tables and in a piece of text, and reads as CR LF. */
+
+static const char numeric_characters[] = "0123456789 +,-./";
+static const char shef_characters[] = "ABCDEFGHIJKLMNOPQRSTUVWXYZ\n#=:;";
+
+static void put_piece(uint8_t *text, size_t *count, unsigned piece)
+{
+    if (piece == '\n')
+        put_character(text, count, '\r');
+    put_character(text, count, piece);
+}
+
+/* Table 5: what two characters of Table 4 in a row mean, or 0. */
+static unsigned meaning_of(unsigned first, unsigned second)
+{
+    if (first == '+' && second == '+')
+        return '\n';
+    if (first == '+' && second == '-')
+        return '#';
+    if (first == '-' && second == '+')
+        return '=';
+    if (first == '.' && second == '.')
+        return ':';
+    if (first == '-' && second == '-')
+        return 'E';
+    return 0;
+}
+
+static bool read_numeric(const uint8_t *data, size_t length, uint8_t *text, size_t *count)
+{
+    size_t bits = 8 * length;
+    size_t at = 0;
+    *count = 0;
+    while (at < bits) {
+        unsigned first = numeric_characters[bits_at(data, at, 4)], meaning = 0;
+        if ((first == '+' || first == '-' || first == '.') && bits - at > 4)
+            meaning = meaning_of(first, numeric_characters[bits_at(data, at + 4, 4)]);
+        put_piece(text, count, meaning ? meaning : first);
+        at += meaning ? 8 : 4;
+    }
+    return true;
+}
+
+static bool read_shef(const uint8_t *data, size_t length, uint8_t *text, size_t *count, size_t *bad)
+{
+    size_t bits = 8 * length;
+    size_t at = 0;
+    *count = 0;
+    while (!at_end(data, bits, at)) {
+        *bad = at;
+        if (!bit_at(data, at)) {
+            if (bits - at < 5)
+                return false;
+            put_piece(text, count, numeric_characters[bits_at(data, at, 5)]);
+            at += 5;
+            continue;
+        }
+        if (bits - at < 6)
+            return false;
+        unsigned code = bits_at(data, at, 6);
+        if (code == 0x3f)
+            return false;
+        put_piece(text, count, shef_characters[code - 0x20]);
+        at += 6;
+    }
+    return true;
+}
+
 static bool read_full_ascii(const uint8_t *data, size_t length, uint8_t *text, size_t *count, size_t *bad)
 {
     size_t bits = 8 * length;
@@ -201,6 +270,10 @@ static bool read_data(unsigned format, const uint8_t *data, size_t length, uint8
         return read_open(data, length, text, count);
     if (format == 1)
         return read_pseudo_binary(data, length, text, count, bad);
+    if (format == 2)
+        return read_numeric(data, length, text, count);
+    if (format == 3)
+        return read_shef(data, length, text, count, bad);
     return read_full_ascii(data, length, text, count, bad);
 }
 
@@ -224,7 +297,7 @@ rosopyat_read_answer independent_read(const uint8_t *packet, size_t packet_lengt
 
     unsigned flag = header >> 24;
     unsigned type = flag >> 5 & 3, format = flag >> 2 & 7;
-    if ((flag & 1) != 0 || type != 2 || (format != 0 && format != 1 && format != 4))
+    if ((flag & 1) != 0 || type != 2 || format > 4)
         return refuse_reading(3, 0);
     size_t length = header >> 10 & 0x3fff;
     if (length == 0 || length > 4000)
@@ -254,13 +327,115 @@ rosopyat_read_answer independent_read(const uint8_t *packet, size_t packet_lengt
 
 /* Writing. */
 
-static bool has_code(unsigned format, unsigned character)
+/* The code of a character in Table 4, or NO_CODE. */
+enum { NO_CODE = 0x40 };
+
+static unsigned numeric_code(unsigned character)
+{
+    if (character >= '0' && character <= '9')
+        return character - '0';
+    if (character == ' ')
+        return 10;
+    if (character >= '+' && character <= '/')
+        return 11 + character - '+';
+    return NO_CODE;
+}
+
+/* Table 5: the two characters of Table 4 that stand for a piece of text, or NULL. */
+static const char *pair_for(unsigned piece)
+{
+    switch (piece) {
+    case '\n':
+        return "++";
+    case '#':
+        return "+-";
+    case '=':
+        return "-+";
+    case ':':
+        return "..";
+    case 'E':
+        return "--";
+    default:
+        return NULL;
+    }
+}
+
+/* The code of a piece of text in Table 6, or NO_CODE. Those from 0x20 on have six bits, the others five. */
+static unsigned shef_code(unsigned piece)
+{
+    if (piece >= 'A' && piece <= 'Z')
+        return 0x20 + piece - 'A';
+    switch (piece) {
+    case '\n':
+        return 0x3a;
+    case '#':
+        return 0x3b;
+    case '=':
+        return 0x3c;
+    case ':':
+        return 0x3d;
+    case ';':
+        return 0x3e;
+    default:
+        return numeric_code(piece);
+    }
+}
+
+/* The piece of text at `at`: a character, or a line end (CR LF, CR or LF), which stands as LF. Answers how many characters it has. */
+static size_t take_piece(const uint8_t *text, size_t length, size_t at, unsigned *piece)
+{
+    *piece = text[at] == '\r' ? '\n' : text[at];
+    return text[at] == '\r' && at + 1 < length && text[at + 1] == '\n' ? 2 : 1;
+}
+
+static bool has_code(unsigned format, unsigned piece)
 {
     if (format == 1)
-        return (character >= 64 && character <= 127) || character == ' ' || character == '/';
+        return (piece >= 64 && piece <= 127) || piece == ' ' || piece == '/';
+    if (format == 2)
+        return numeric_code(piece) != NO_CODE || pair_for(piece) != NULL;
+    if (format == 3)
+        return shef_code(piece) != NO_CODE;
     if (format == 4)
-        return (character >= 32 && character <= 126) || character == '\t' || character == '\r' || character == '\n';
+        return (piece >= 32 && piece <= 126) || piece == '\t' || piece == '\n';
     return true;
+}
+
+static size_t put_base(unsigned *base, unsigned piece)
+{
+    const char *pair = pair_for(piece);
+    base[0] = pair ? (unsigned)pair[0] : piece;
+    base[1] = pair ? pair[1] : 0;
+    return pair ? 2 : 1;
+}
+
+/* Compact Numeric: whether two pieces in a row, written down in characters of Table 4, read back as the two. */
+static bool reads_back(unsigned before, unsigned piece)
+{
+    unsigned base[5] = {0}, back[2] = {before, piece};
+    size_t count = put_base(base, before), at = 0;
+    count += put_base(base + count, piece);
+    for (int i = 0; i < 2; i++) {
+        unsigned meaning = meaning_of(base[at], base[at + 1]);
+        if ((meaning ? meaning : base[at]) != back[i])
+            return false;
+        at += meaning ? 2 : 1;
+    }
+    return at == count;
+}
+
+/* The index of the first character that has no code where it stands, or the length. */
+static size_t first_uncoded(unsigned format, const uint8_t *text, size_t length)
+{
+    unsigned before = 0, piece;
+    size_t at = 0, taken;
+    for (; at < length; at += taken) {
+        taken = take_piece(text, length, at, &piece);
+        if (!has_code(format, piece) || (format == 2 && at > 0 && !reads_back(before, piece)))
+            break;
+        before = piece;
+    }
+    return at;
 }
 
 /* Of space, slash and value: the kind of a character, and how many of it stand together, at most `most`. */
@@ -297,6 +472,30 @@ static void write_pseudo_binary(struct bit_row *row, const uint8_t *text, size_t
     }
 }
 
+static void write_numeric(struct bit_row *row, const uint8_t *text, size_t length)
+{
+    unsigned piece;
+    for (size_t i = 0; i < length;) {
+        i += take_piece(text, length, i, &piece);
+        const char *pair = pair_for(piece);
+        put_bits(row, numeric_code(pair ? (unsigned)pair[0] : piece), 4);
+        if (pair)
+            put_bits(row, numeric_code(pair[1]), 4);
+    }
+    if (row->bits % 8 != 0)
+        put_bits(row, numeric_code(' '), 4);
+}
+
+static void write_shef(struct bit_row *row, const uint8_t *text, size_t length)
+{
+    unsigned piece;
+    for (size_t i = 0; i < length;) {
+        i += take_piece(text, length, i, &piece);
+        unsigned code = shef_code(piece);
+        put_bits(row, code, code < 0x20 ? 5 : 6);
+    }
+}
+
 static void write_full_ascii(struct bit_row *row, const uint8_t *text, size_t length)
 {
     for (size_t i = 0; i < length; i++) {
@@ -321,6 +520,10 @@ static void write_data(unsigned format, struct bit_row *row, const uint8_t *text
 {
     if (format == 1)
         write_pseudo_binary(row, text, length);
+    else if (format == 2)
+        write_numeric(row, text, length);
+    else if (format == 3)
+        write_shef(row, text, length);
     else if (format == 4)
         write_full_ascii(row, text, length);
     else {
@@ -342,13 +545,13 @@ static rosopyat_write_answer refuse_writing(uint32_t refusal, size_t number)
 
 rosopyat_write_answer independent_write(uint32_t format, bool sync, const uint8_t *text, size_t text_length, uint8_t *packet, size_t packet_room)
 {
-    if (format != 0 && format != 1 && format != 4)
+    if (format > 4)
         return refuse_writing(12, 0);
     if (text_length == 0)
         return refuse_writing(10, 0);
-    for (size_t i = 0; i < text_length; i++)
-        if (!has_code(format, text[i]))
-            return refuse_writing(9, i);
+    size_t uncoded = first_uncoded(format, text, text_length);
+    if (uncoded < text_length)
+        return refuse_writing(9, uncoded);
     struct bit_row row = {NULL, 0};
     write_data(format, &row, text, text_length);
     size_t length = row.bits / 8;

@@ -1,7 +1,10 @@
 // Bits taken out of bytes and put in, through a number that holds some of them; and what the loops over a text that is written ask of it. The definitions and
 // laws are those of codes.
 
+use codes::Code;
 use codes::Held;
+use codes::Measured;
+use codes::Place;
 use codes::Sent;
 ghost use mathlib.Core.Path.{_≡_};
 ghost use mathlib.Core.Logic.{_⊎_};
@@ -14,7 +17,10 @@ ghost use Rattle.codes.specs.Coded.{lastOf};
 ghost use Rattle.codes.specs.Pack.{low};
 ghost use Rattle.codes.specs.Steps.BitBuffer.{Window};
 ghost use Rattle.codes.specs.Steps.EightBytes.{eightAt, spilled};
-ghost use Rattle.codes.specs.Steps.Laid.{Flushed};
+ghost use Rattle.codes.specs.Steps.Laid.{laid, Flushed};
+ghost use Rattle.codes.specs.Steps.Measure.{withFront, FrontFits};
+ghost use Rattle.codes.specs.Steps.Taken.{charactersOf};
+ghost use Rattle.codes.specs.Steps.Words.{NearEnd, Last};
 ghost use Rattle.codes.specs.Steps.Sending.{Joinable, Joined, FourJoined, Sends};
 
 // The bits that are still to be read: the lowest `have` bits of `held`, then those of the bytes from `next` on.
@@ -79,6 +85,46 @@ pub fn push(held: u64, bits: u64, width: u64) -> u64
     ensures { λ r. ⌜ ((n : ℕ) → n + width ≤ 64 → low (n + width) r ≡ low n held ++ low width bits) ⌝ }
 {
     (held << width) | bits
+}
+
+// The last bits in a buffer: those of fewer than eight bytes.
+pub fn last_bits(s: &[u8], place: Place) -> Buffer
+    requires { ⌜ NearEnd (now s) place ⌝ }
+    ensures { λ r. ⌜ Last (now (s .entry)) place (r .held) (r .have) ⌝ }
+{
+    let mut held: u64 = 0;
+    let mut next = place.next;
+    while next < s.len() {
+        held = push(held, s[next] as u64, 8);
+        next += 1;
+    }
+    Buffer {
+        held,
+        have: (next - place.next) as u64 * 8 - place.skip,
+        next,
+    }
+}
+
+// What the last bits come to, told of the whole: `at` bits stand before them, which say n characters.
+pub fn with_front(last: Measured, n: usize, at: usize) -> Measured
+    requires { ⌜ FrontFits n at last ⌝ }
+    ensures { λ r. ⌜ r ≡ withFront n at last ⌝ }
+{
+    match last {
+        Measured::Text(k) => Measured::Text(n + k),
+        Measured::Malformed(i) => Measured::Malformed(at + i),
+    }
+}
+
+// The one or two characters of a code, from place n on.
+pub fn put(out: &mut [u8], n: usize, c: Code)
+    requires { ⌜ (1 ≤ c .count) × (c .count ≤ 2) × (n + c .count ≤ length (now out)) ⌝ }
+    ensures { λ r. ⌜ now (out .exit) ≡ laid (now (out .entry)) n (charactersOf c) ⌝ }
+{
+    out[n] = c.first;
+    if c.count == 2 {
+        out[n + 1] = c.second;
+    }
 }
 
 // The upper four bytes of the lowest `have` bits of `held`, from place n on.

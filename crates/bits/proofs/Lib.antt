@@ -1,4 +1,5 @@
 pub mod All
 pub mod Ones
+pub mod Rows
 pub mod Said
 pub mod Xor

@@ -9,7 +9,7 @@ use native.Mathlib.Omega.{arith}
 use lib.Arith.{digits-lt}
 use lib.Dec.{lit<}
 use lib.ListN.{length, take, drop, getD, replicate, length-append, length-replicate, replicate-append-replicate, take-append-drop, drop-of-length-le}
-use lib.Pow.{shl-exact, mod-mod-pow, pow-add, pow-pos, ones-lt}
+use lib.Pow.{shl-exact, field, mod-mod-pow, pow-add, pow-pos, ones-lt, shr-shr}
 use lib.Seq.{take-at, drop-cons, drop-at, take-take, take-append-seam, take-append-le, take-append-add}
 use Rattle.bits.specs.Row.{bits}
 use Rattle.bits.specs.Word.{bit}
@@ -92,6 +92,14 @@ window-whole held have h = record {
       (sym (low-add 9 (have - 9) held) ∙ ap (λ (n : ℕ). low n held) (let e : 9 + (have - 9) ≡ have = omega arith in e)));
   small = mod-lt (held / 2 ^ (have - 9)) (zero-lt-suc 511);
 }
+
+-- its first n bits
+pub window-top : (held have n : ℕ) → n ≤ 9 → 9 ≤ have → held / 2 ^ (have - 9) % 512 / 2 ^ (9 - n) ≡ held / 2 ^ (have - n) % 2 ^ n
+window-top held have n h k =
+    ap (λ (i : ℕ). held / 2 ^ (have - 9) % 2 ^ i / 2 ^ (9 - n)) (let e : 9 ≡ n + (9 - n) = omega arith in e)
+    ∙ field (held / 2 ^ (have - 9)) n (9 - n)
+    ∙ ap (λ (x : ℕ). x % 2 ^ n)
+    (shr-shr held (have - 9) (9 - n) ∙ ap (λ (i : ℕ). held / 2 ^ i) (let e : have - 9 + (9 - n) ≡ have - n = omega arith in e))
 
 -- what the code works out where there are fewer
 pub one-shifted : (k : ℕ) → k ≤ 9 → 1 * 2 ^ k % 2 ^ 64 ≡ 2 ^ k

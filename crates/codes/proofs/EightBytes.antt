@@ -62,6 +62,19 @@ shifted-on v k n h =
     ∙ sym (split (v * 2 ^ k))
     ∙ ap (λ (x : ℕ). x % 2 ^ 64) (mul-assoc v (2 ^ k) (2 ^ n) ∙ ap (λ (x : ℕ). v * x) (sym (pow-add 2 k n)))
 
+-- the n bits at the top of a word to which the lowest `left` bits of a number are shifted
+pub top-bits : (held left top n : ℕ) → n ≤ left → left ≤ 64 → top ≡ held * 2 ^ (64 - left) % 2 ^ 64
+    → top / 2 ^ (64 - n) ≡ held / 2 ^ (left - n) % 2 ^ n
+top-bits held left top n h k e = ap (λ (x : ℕ). x / 2 ^ (64 - n)) e ∙ shifted-down held (64 - left) n (left - n) (omega arith)
+
+-- the word is shifted on by the bits that were passed
+pub top-on : (held left top width : ℕ) → width ≤ left → left ≤ 64 → top ≡ held * 2 ^ (64 - left) % 2 ^ 64
+    → top * 2 ^ width % 2 ^ 64 ≡ held * 2 ^ (64 - (left - width)) % 2 ^ 64
+top-on held left top width h k e =
+    ap (λ (x : ℕ). x * 2 ^ width % 2 ^ 64) e
+    ∙ shifted-on held (64 - left) width (omega arith)
+    ∙ ap (λ (n : ℕ). held * 2 ^ n % 2 ^ 64) (let x : 64 - left + width ≡ 64 - (left - width) = omega arith in x)
+
 -- one number stored, by what it is, in a place, by where it is
 store : {l d : List ℕ} {s t u v : ℕ} → l ≡ d → s ≡ t → u ≡ v → set l s u ≡ set d t v
 store {d = d} {t = t} {u = u} f g h = ap₂ (λ (z : List ℕ) (w : ℕ). set z w u) f g ∙ ap (set d t) h

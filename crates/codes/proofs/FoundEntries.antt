@@ -10,7 +10,7 @@ use lib.Dec.{T, leb, leb→le, eqb, eqb→eq}
 use lib.ListN.{length, length-append}
 use Rattle.codes.specs.Chain.{Entry, codes}
 use Rattle.codes.specs.LineEnds.{eachAfter}
-use Rattle.codes.specs.Lookup.{same, found, saying}
+use Rattle.codes.specs.Lookup.{same, found, first, saying}
 use Rattle.codes.specs.Pack.{Binary}
 use Rattle.bits.proofs.Said.{and-left, and-right, and-both}
 use Rattle.codes.proofs.BitsInBytes.{binary, binary-append, every-binary}
@@ -25,7 +25,7 @@ same-rows (c ∷ a) (d ∷ b) t =
     ap₂ (λ (x : ℕ) (l : List ℕ). x ∷ l) (eqb→eq c d (and-left (eqb c d) (same a b) t)) (same-rows a b (and-right (eqb c d) (same a b) t))
 
 pub saying-every : (f : Entry → Bool) (table : List Entry) → T (every f table) → (text : List ℕ) → T (every f (saying table text))
-unfolding saying every
+unfolding saying every first
 saying-every f [] t text = tt
 saying-every f (e ∷ table) t text =
     pick (same (e .says) text) (and-left (f e) (every f table) t) (saying-every f table (and-right (f e) (every f table) t) text)
@@ -36,7 +36,7 @@ saying-every f (e ∷ table) t text =
 
 -- one is found, or none
 pub saying-one : (table : List Entry) (text : List ℕ) → T (found (saying table text)) → length (saying table text) ≡ 1
-unfolding saying found
+unfolding saying found first
 saying-one [] text t = absurd t
 saying-one (e ∷ table) text t = pick (same (e .says) text) (saying-one table text) t
   where

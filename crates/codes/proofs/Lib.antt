@@ -2,8 +2,11 @@ pub mod Beginning
 pub mod BitBuffer
 pub mod BitsInBytes
 pub mod ByteTests
+pub mod CodedBehind
 pub mod CodedTexts
+pub mod ConsecutiveCodes
 pub mod DataInBuffer
+pub mod DataLaws
 pub mod EachAfter
 pub mod EightBytes
 pub mod EveryElement
@@ -15,13 +18,18 @@ pub mod LastBytes
 pub mod JoinedCodes
 pub mod LeastCost
 pub mod LineEnds
+pub mod LineTables
+pub mod Lookup
 pub mod LowBits
 pub mod NonemptyText
 pub mod NumberRanges
 pub mod OneAnswer
+pub mod OneBuilding
 pub mod OneReading
 pub mod PassedEntries
+pub mod PassedWords
 pub mod PendingBytes
+pub mod Pieces
 pub mod PushedBits
 pub mod PutSoFar
 pub mod ReadSoFar
@@ -30,4 +38,5 @@ pub mod SchemeLaws
 pub mod SingleTable
 pub mod SizeBounds
 pub mod TableSearch
+pub mod TakenCodes
 pub mod WriterLaws

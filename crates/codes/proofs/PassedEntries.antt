@@ -10,7 +10,7 @@ use Rattle.codes.specs.Steps.Passed.{Passed}
 use Rattle.codes.proofs.SchemeLaws.{Laws}
 use Rattle.codes.proofs.OneReading.{Answer, text, stuck, Means, answer, always, one-text, never-both}
 
-row-append : (scheme : Scheme) (m k n : ℕ) (es ds : List Entry) → Row scheme m es k → Row scheme k ds n → Row scheme m (es ++ ds) n
+pub row-append : (scheme : Scheme) (m k n : ℕ) (es ds : List Entry) → Row scheme m es k → Row scheme k ds n → Row scheme m (es ++ ds) n
 row-append scheme m k n [] ds r q = subst (λ (j : ℕ). Row scheme j ds n) (sym r) q
 row-append scheme m k n (e ∷ es) ds r q = (r .0, row-append scheme (stateAfter m e) k n es ds (r .1) q)
 
@@ -20,7 +20,7 @@ codes-append [] ds = refl
 codes-append (e ∷ es) ds =
     ap (λ (l : List ℕ). e .code ++ l) (codes-append es ds) ∙ sym (append-assoc (e .code) (codes es) (codes ds))
 
-texts-append : (es ds : List Entry) → texts (es ++ ds) ≡ texts es ++ texts ds
+pub texts-append : (es ds : List Entry) → texts (es ++ ds) ≡ texts es ++ texts ds
 unfolding texts
 texts-append [] ds = refl
 texts-append (e ∷ es) ds =

@@ -2,15 +2,19 @@
 -- Assumes nothing.
 use mathlib.Core.Path.{_≡_, refl, sym, ap, subst, _∙_}
 use mathlib.Core.List.{List, [], _++_, append-nil}
-use Prim.Native.Nat.{ℕ, _+_, _-_, _≤_}
+use Prim.Native.Nat.{ℕ, _+_, _-_, _^_, _≤_, _<_}
 use native.Mathlib.Nat.{add-zero}
 use native.Mathlib.Omega.{arith}
+use lib.Dec.{T}
 use lib.ListN.{length, length-append}
 use Rattle.codes.specs.Chain.{Scheme, Fill, Builds}
 use Rattle.codes.specs.Steps.Laid.{laid, Readable, Placed}
-use Rattle.codes.specs.Steps.Measure.{Measures}
+use Rattle.codes.specs.Steps.Measure.{Measures, withFront, FrontFits}
 use Rattle.codes.specs.Steps.Passed.{Passed, CountedSoFar, LaidSoFar}
+use Rattle.codes.specs.declared.Measured.{Measured}
 use Rattle.codes.specs.declared.Measured.the-variants.{Text, Malformed}
+use Rattle.codes.proofs.EveryElement.{every}
+use Rattle.codes.proofs.SizeBounds.{brief, builds-within, stuck-within}
 use Rattle.codes.proofs.LaidRows.{laid-nil, laid-laid, length-laid}
 use Rattle.codes.proofs.SchemeLaws.{Laws}
 use Rattle.codes.proofs.PassedEntries.{passed-none, passed-front, passed-on, passed-builds, passed-stuck, passed-text}
@@ -54,6 +58,16 @@ module _ {scheme : Scheme} {bs rest : List ℕ} {n : ℕ} (c : CountedSoFar sche
 
   pub counting-malformed : (i j : ℕ) → j + length rest ≡ length bs + i → Measures scheme rest (Malformed i) → Measures scheme bs (Malformed j)
   counting-malformed i j e s = passed-stuck rest j i (c .passed) e s
+
+  pub counting-whole : (at : ℕ) → at + length rest ≡ length bs → (m : Measured) → Measures scheme rest m → Measures scheme bs (withFront n at m)
+  counting-whole at e (Text k) t = counting-text k t
+  counting-whole at e (Malformed i) s = counting-malformed i (at + i) (omega arith) s
+
+-- where a scheme says at most one character a bit, what a row comes to is counted
+pub front-fits : (scheme : Scheme) → ((m : ℕ) → T (every (brief 1) (scheme .table m))) → (bs : List ℕ) (n at : ℕ) (m : Measured)
+    → Measures scheme bs m → n + length bs < 2 ^ 64 → at + length bs < 2 ^ 64 → FrontFits n at m
+front-fits scheme briefs bs n at (Text k) t h j = omega (arith, t .1, builds-within scheme 1 briefs (t .2))
+front-fits scheme briefs bs n at (Malformed i) s h j = omega (arith, stuck-within s)
 
 pub laying-none : (scheme : Scheme) (bs out : List ℕ) (n : ℕ) → LaidSoFar scheme bs bs out out n n
 laying-none scheme bs out n = record { said = []; passed = passed-none scheme bs; place = sym (add-zero n); whole = sym (laid-nil out n) }

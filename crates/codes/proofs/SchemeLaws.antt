@@ -34,7 +34,7 @@ apart (e ∷ es) = ltb 0 (length (e .code)) && (every (parted e) es && apart es)
 unfoldable pub unfilled : ℕ → List Entry → Bool
 unfilled unused es = every (λ (e : Entry). not (fills unused (e .code))) es
 
-parted-never : (d e : Entry) → T (parted d e) → (bs : List ℕ) → Begins (d .code) bs → Begins (e .code) bs → ⊥
+pub parted-never : (d e : Entry) → T (parted d e) → (bs : List ℕ) → Begins (d .code) bs → Begins (e .code) bs → ⊥
 unfolding parted
 parted-never d e t bs p q =
     let a : Bool = not (begun (d .code) (e .code)) in

@@ -1,6 +1,6 @@
 -- What a scheme's writer has, and what follows of the data that it writes and of the texts that can be read, whatever the tables.
 -- Assumes nothing.
-use mathlib.Core.Path.{_≡_, subst}
+use mathlib.Core.Path.{_≡_, sym, _∙_, subst}
 use mathlib.Core.Bool.{Bool}
 use mathlib.Core.List.{List, [], _∷_}
 use Prim.Native.Nat.{ℕ, _≤_, _<_}
@@ -22,12 +22,15 @@ spells has e = every has (e .says)
 
 -- where characters have codes by themselves, what a row says has codes if each entry spells such characters: a test of the tables
 module _ (scheme : Scheme) (has : ℕ → Bool) (all-spell : (m : ℕ) → T (every (spells has) (scheme .table m))) where
-  pub row-coded : (m n : ℕ) (es : List Entry) → Row scheme m es n → CodedBelow (alone has) (texts es) (length (texts es))
+  row-coded : (m n : ℕ) (es : List Entry) → Row scheme m es n → CodedBelow (alone has) (texts es) (length (texts es))
   unfolding texts spells
   row-coded m n [] r = coded-none has
   row-coded m n (e ∷ es) r =
       coded-append has (e .says) (texts es) (coded-every has (e .says) (every-at (spells has) (scheme .table m) (all-spell m) e (r .0)))
       (row-coded (stateAfter m e) n es (r .1))
+
+  pub said-coded : (t : List ℕ) (es : List Entry) → Row scheme 0 es 0 → texts es ≡ t → CodedBelow (alone has) t (length t)
+  said-coded t es r x = subst (λ (u : List ℕ). CodedBelow (alone has) u (length u)) x (row-coded 0 0 es r)
 
 -- `ours` is what the writer builds of a text, and `given` is what that text comes back as: itself, unless the tables cannot tell it from another
 pub record WriterFacts (scheme : Scheme) (has : List ℕ → ℕ → Bool) (given : List ℕ → List ℕ) (ours : List ℕ → List Entry) : Type 0 where
@@ -41,8 +44,8 @@ pub record WriterFacts (scheme : Scheme) (has : List ℕ → ℕ → Bool) (give
   pub nonempty : (t : List ℕ) → 0 < length t → CodedBelow has t (length t) → 0 < length (given t)
   -- what a row that closes says comes back as it is
   pub kept : (es : List Entry) → Row scheme 0 es 0 → Closes scheme es → given (texts es) ≡ texts es
-  -- what a row says has codes (`row-coded`, where a test of the tables shows it)
-  pub coded : (es : List Entry) → Row scheme 0 es 0 → CodedBelow has (texts es) (length (texts es))
+  -- a text has codes if a row says what it comes back as (`said-coded`, where that is itself and a test of the tables shows it)
+  pub coded : (t : List ℕ) (es : List Entry) → Row scheme 0 es 0 → texts es ≡ given t → CodedBelow has t (length t)
   -- two tests of the tables: codes are bits, and something is said
   pub all-bits : (m : ℕ) → T (every binary (scheme .table m))
   pub sounds : Speaks scheme
@@ -61,6 +64,8 @@ pub record WriterLaws (scheme : Scheme) (has : List ℕ → ℕ → Bool) (given
   pub no-shorter : (t sent : List ℕ) → CodedBelow has t (length t) → (b : Built scheme (given t) sent)
       → length (codes (ours t)) ≤ length (codes (b .entries))
   pub no-fewer-bytes : (t sent : List ℕ) → CodedBelow has t (length t) → Built scheme (given t) sent → length (written (ours t)) ≤ length sent
+  -- a text has codes if what it comes back as was built
+  pub back-coded : (t sent : List ℕ) → Built scheme (given t) sent → CodedBelow has t (length t)
   -- a text that was built has codes, comes back as it is, and is built again by the writer; and if its data has a byte or more, it is not empty
   pub built-coded : (t sent : List ℕ) → Built scheme t sent → CodedBelow has t (length t)
   pub built-kept : (t sent : List ℕ) → Built scheme t sent → given t ≡ t
@@ -78,11 +83,11 @@ module _ {scheme : Scheme} {has : List ℕ → ℕ → Bool} {given : List ℕ �
   built t h =
       subst (λ (u : List ℕ). Built scheme u (written (ours t))) (w .says t h) (written-built (ours t) (w .closes t h) (w .row t h) (codes-binary t h))
 
-  text-coded : (t sent : List ℕ) → Built scheme t sent → CodedBelow has t (length t)
-  text-coded t sent b = subst (λ (u : List ℕ). CodedBelow has u (length u)) (b .says) (w .coded (b .entries) (b .row))
-
   same : (t sent : List ℕ) → Built scheme t sent → given t ≡ t
   same t sent b = subst (λ (u : List ℕ). given u ≡ u) (b .says) (w .kept (b .entries) (b .row) (built-closes sent b))
+
+  text-coded : (t sent : List ℕ) → Built scheme t sent → CodedBelow has t (length t)
+  text-coded t sent b = w .coded t (b .entries) (b .row) (b .says ∙ sym (same t sent b))
 
   pub writer-laws : WriterLaws scheme has given ours
   writer-laws = record {
@@ -92,6 +97,7 @@ module _ {scheme : Scheme} {has : List ℕ → ℕ → Bool} {given : List ℕ �
     given-nonempty = w .nonempty;
     no-shorter = none-shorter;
     no-fewer-bytes = λ t sent h b. omega (arith, none-shorter t sent h b, length-written (ours t), built-length (w .few) sent b);
+    back-coded = λ t sent b. w .coded t (b .entries) (b .row) (b .says);
     built-coded = text-coded;
     built-kept = same;
     built-again = λ t sent b. subst (λ (u : List ℕ). Built scheme u (written (ours t))) (same t sent b) (built t (text-coded t sent b));

@@ -18,12 +18,15 @@ unfoldable pub found : List Entry → Bool
 found [] = false
 found (e ∷ es) = true
 
--- the entry of a table that says the text, the first if there were two; none where none does
+-- the first entry of a table that passes a test; none where none does
+unfoldable pub first : (Entry → Bool) → List Entry → List Entry
+first test [] = []
+first test (e ∷ es) = cond (test e) (e ∷ []) (first test es)
+
+-- the entry that says the text
 unfoldable pub saying : List Entry → List ℕ → List Entry
-saying [] text = []
-saying (e ∷ es) text = cond (same (e .says) text) (e ∷ []) (saying es text)
+saying table text = first (λ e. same (e .says) text) table
 
 -- and the one whose code this is
 unfoldable pub meaning : List Entry → List ℕ → List Entry
-meaning [] code = []
-meaning (e ∷ es) code = cond (same (e .code) code) (e ∷ []) (meaning es code)
+meaning table code = first (λ e. same (e .code) code) table

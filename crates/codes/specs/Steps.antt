@@ -9,3 +9,5 @@ pub mod Pending
 pub mod Sending
 pub mod Size
 pub mod Summed
+pub mod Taken
+pub mod Words

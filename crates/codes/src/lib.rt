@@ -40,6 +40,27 @@ pub enum Stored {
     Bytes(usize),
 }
 
+// A code that was taken out of the bits: how many it has, and the one or two characters that it says.
+pub struct Code {
+    pub width: u64,
+    pub count: usize,
+    pub first: u8,
+    pub second: u8,
+}
+
+// What codes that were passed leave of the bits of a number, and how many characters they say.
+pub struct Skimmed {
+    pub left: u64,
+    pub count: usize,
+}
+
+// How far a reading has come: the next byte, how many of its bits are passed, and the characters so far.
+pub struct Place {
+    pub next: usize,
+    pub skip: u64,
+    pub n: usize,
+}
+
 // A code to be sent, or some in a row: the bits as a number, how many they are, and the characters that they take.
 pub struct Sent {
     pub bits: u64,

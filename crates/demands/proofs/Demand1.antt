@@ -2,7 +2,7 @@
 -- Assumes nothing.
 use mathlib.Core.Bool.{Bool}
 use mathlib.Core.List.{List, [], _∷_, _++_}
-use mathlib.Core.Logic.{⊎-elim, _↔_}
+use mathlib.Core.Logic.{_⊎_, inr, ⊎-elim, _↔_}
 use mathlib.Core.Path.{_≡_, refl, sym, ap, ap₂, _∙_, subst}
 use Prim.Native.Nat.{ℕ, zero, suc, _+_, _≤_, _<_}
 use native.Mathlib.Nat.{eq-or-lt-of-le, le-of-suc-le-suc}
@@ -11,15 +11,17 @@ use lib.Dec.{T}
 use lib.ListN.{length, getD, take, drop, length-append}
 use lib.Seq.{drop-at, length-take-le, getD-take}
 use Rattle.header.specs.declared.Format.{Format}
-use Rattle.header.specs.declared.Format.the-variants.{Open, PseudoBinary, FullAscii}
+use Rattle.header.specs.declared.Format.the-variants.{Open, PseudoBinary, Numeric, Shef, FullAscii}
 use Rattle.header.specs.Fields.{bytesOf}
 use Rattle.checksum.specs.Checksum.{checksumBytes}
 use Rattle.checksum.proofs.Row.{checksum-bytes-length}
 use Rattle.codes.specs.Coded.{CodedBelow}
 use Rattle.full_ascii.proofs.Writer as ascii-writer
+use Rattle.numeric.proofs.Table as numeric-table
 use Rattle.pseudo_binary.proofs.Writer as pseudo-writer
-use Rattle.formats.specs.Data.{Carries, Unreadable, coded, AllCoded, Uncoded, dataOf}
-use Rattle.formats.proofs.Formats.{carries-coded, readable, never-unreadable, writer-carries, no-fewer}
+use Rattle.shef.proofs.Table as shef-table
+use Rattle.formats.specs.Data.{Carries, Unreadable, coded, AllCoded, Uncoded, dataOf, comesBack}
+use Rattle.formats.proofs.Formats.{carries-coded, back-coded, readable, never-unreadable, writer-carries, no-fewer}
 use Rattle.refusals.specs.declared.ExamineRefusal.{ExamineRefusal}
 use Rattle.refusals.specs.declared.ReadRefusal.{ReadRefusal}
 use Rattle.refusals.specs.declared.WriteRefusal.{WriteRefusal}
@@ -89,6 +91,10 @@ malformed-bit : (format : Format) (carried : List ℕ) (bit : ℕ) → Unreadabl
 malformed-bit Open carried bit = (λ u. u, λ s. s)
 malformed-bit PseudoBinary carried bit =
     (pseudo-writer.reading-agrees .malformed-is-stuck bit carried, pseudo-writer.reading-agrees .stuck-is-malformed bit carried)
+malformed-bit Numeric carried bit =
+    (numeric-table.reading-agrees .malformed-is-stuck bit carried, numeric-table.reading-agrees .stuck-is-malformed bit carried)
+malformed-bit Shef carried bit =
+    (shef-table.reading-agrees .malformed-is-stuck bit carried, shef-table.reading-agrees .stuck-is-malformed bit carried)
 malformed-bit FullAscii carried bit =
     (ascii-writer.reading-agrees .malformed-is-stuck bit carried, ascii-writer.reading-agrees .stuck-is-malformed bit carried)
 
@@ -130,6 +136,23 @@ module _ (format : Format) (text : List ℕ) where
         record { there = p .0; before = before; none = λ has. p .2 (coded-front (suc index) (p .0) .0 (one-more index before has)) },
   )
 
+  no-code-means : (index : ℕ)
+      → Uncoded format text index
+      ↔ ((index < length text) × ((index ≡ 0) ⊎ ((carried : List ℕ) × Carries format (comesBack format (take index text)) carried))
+        × ((carried : List ℕ) → Carries format (comesBack format (take (suc index) text)) carried → ⊥))
+  no-code-means index = (
+    λ u.
+        let p = no-code-index index .0 u in
+        (p .0, inr (dataOf format (take index text), writer-carries format (take index text) (p .1)), λ carried c. p .2 (back-coded format (take (suc index) text) carried c)),
+    λ p.
+        no-code-index index .1 (
+          p .0,
+          ⊎-elim (λ e. subst (λ (n : ℕ). AllCoded format (take n text)) (sym e) (λ i lt. absurd (let no′ : ⊥ = omega arith in no′)))
+            (λ s. back-coded format (take index text) (s .0) (s .1)) (p .1),
+          λ all. p .2 (dataOf format (take (suc index) text)) (writer-carries format (take (suc index) text) all),
+        ),
+  )
+
 pub conditions : (terms : Terms) → Conditions terms
 conditions terms = record {
   malformed-means = λ format carried. (
@@ -140,6 +163,7 @@ conditions terms = record {
   carried-coded = carries-coded;
   coded-carried = writer-carries;
   no-code-index = no-code-index;
+  no-code-means = no-code-means;
   too-long-means = λ format text coded. (
     λ long carried c. omega (arith, no-fewer format text carried coded c),
     λ all. all (dataOf format text) (writer-carries format text coded),

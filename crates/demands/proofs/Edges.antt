@@ -1,14 +1,14 @@
 -- Every row of the table of edges holds.
 -- Assumes nothing.
 use mathlib.Core.Bool.{Bool, true, false, not, _&&_}
-use mathlib.Core.List.{List, [], _∷_, _++_}
+use mathlib.Core.List.{List, [], _∷_, _++_, List·Memᴰ, List·Memᴰ·head, List·Memᴰ·tail}
 use mathlib.Core.Path.{_≡_, refl, sym, ap₂, subst}
 use Prim.Native.Nat.{ℕ, zero, suc, _%_, _^_, _<_, _≤_}
 use native.Mathlib.Omega.{arith}
 use lib.Bits.{xor-lt}
 use lib.Count.{onesIn}
 use lib.Dec.{T, T-not, leb, ltb, eqb, leb→le, ltb→lt, eqb→eq, eqb-refl}
-use lib.ListN.{length, length-append}
+use lib.ListN.{length, length-append, take, getD}
 use lib.Pow.{pow-lt}
 use Rattle.bits.specs.Row.{bits}
 use Rattle.bits.specs.Word.{bit, differences}
@@ -16,7 +16,7 @@ use Rattle.bits.proofs.All.{all, all-at}
 use Rattle.bits.proofs.Ones.{flip}
 use Rattle.bits.proofs.Said.{and-left, and-right, and-both}
 use Rattle.header.specs.declared.Format.{Format}
-use Rattle.header.specs.declared.Format.the-variants.{Open, PseudoBinary, FullAscii}
+use Rattle.header.specs.declared.Format.the-variants.{Open, PseudoBinary, Numeric, Shef, FullAscii}
 use Rattle.header.specs.declared.Header.{Header}
 use Rattle.header.specs.Check.{generator, remainder, checkOf}
 use Rattle.header.specs.Flag.{Odd, flagBits, spareIn, syncIn, extendedTypeIn, messageTypeIn, parityFor}
@@ -27,27 +27,40 @@ use Rattle.mending.specs.declared.Mending.the-variants.{Mended}
 use Rattle.distance.specs.Distance.{distance, ValidWithin}
 use Rattle.mending.specs.Mends.{MendsWithin}
 use Rattle.distance.proofs.Search.{none-at, none-around}
-use Rattle.codes.specs.Chain.{Scheme, stateAfter, codes, Builds, Stuck}
+use Rattle.codes.specs.Chain.{Scheme, stateAfter, codes, texts, Builds, Stuck}
+use Rattle.codes.specs.Coded.{lastOf}
+use Rattle.codes.specs.Consecutive.{codeFor, consecutive}
+use Rattle.codes.specs.LineEnds.{eachAfter, ended, lineEnds}
+use Rattle.codes.specs.Lookup.{same, found, first, saying, meaning}
 use Rattle.codes.specs.Pack.{low, numbers, value, bytes, packed, gap, filled, written}
 use Rattle.codes.proofs.Beginning.{begun}
-use Rattle.codes.proofs.EveryElement.{every}
+use Rattle.codes.proofs.EveryElement.{every, every-at}
+use Rattle.codes.proofs.Lookup.{same-is}
 use Rattle.codes.proofs.Fill.{fills}
 use Rattle.codes.proofs.TableSearch.{find}
 use Rattle.codes.proofs.OneReading.{Answer, text as reads-text, stuck as reads-stuck, Means, answer, always}
 use Rattle.full_ascii.specs.Table as ascii
 use Rattle.full_ascii.specs.Writer as ascii-writer
 use Rattle.full_ascii.proofs.Table as ascii-table
+use Rattle.numeric.specs.Steps.Text.{character, spelled, textOf}
+use Rattle.numeric.specs.Table as numeric
+use Rattle.numeric.specs.Translation as numeric-translation
+use Rattle.numeric.specs.Writer as numeric-writer
+use Rattle.numeric.proofs.Data.{text-built}
 use Rattle.pseudo_binary.specs.Table as pseudo
 use Rattle.pseudo_binary.specs.Writer as pseudo-writer
 use Rattle.pseudo_binary.proofs.Table as pseudo-table
+use Rattle.shef.specs.Table as shef
+use Rattle.shef.specs.Writer as shef-writer
+use Rattle.shef.proofs.Table as shef-table
 use Rattle.refusals.specs.declared.ExamineRefusal.the-variants.{NoHeader, OtherType}
-use Rattle.formats.specs.Data.{Carries, Unreadable, dataOf}
+use Rattle.formats.specs.Data.{Carries, Unreadable, coded, dataOf, comesBack}
 use Rattle.packet.specs.Packet.{received, headerFor}
 use Rattle.reader.specs.Examine.{Refuses}
 use Rattle.packet.proofs.Sent.{header-valid, header-typed, header-length, header-sync}
 use Rattle.reader.proofs.ExamineStages.{clear-two, clear-three}
 use Rattle.reader.proofs.ReadOnce.{refused-packet}
-use Rattle.demands.specs.Edges.{Edge, checks, heads, reads, hopeless, foreign, writes, carries, stops, mending, Holds, edges, Every}
+use Rattle.demands.specs.Edges.{Edge, checks, heads, reads, hopeless, foreign, writes, carries, stops, lacks, mending, Holds, edges, Every}
 
 -- ---- that no valid header lies near a word, as one computed test
 
@@ -108,19 +121,23 @@ ours-test f format t =
     (subst (λ (n : ℕ). T (eqb n (formatNumber format))) (sym (t .«extended_type»)) (eqb-refl (formatNumber format))))
 
 -- or of none of ours
+abbrev formats : List Format
+formats = Open ∷ PseudoBinary ∷ Numeric ∷ Shef ∷ FullAscii ∷ []
+
+format-in : (format : Format) → List·Memᴰ format formats
+format-in Open = List·Memᴰ·head refl
+format-in PseudoBinary = List·Memᴰ·tail (List·Memᴰ·head refl)
+format-in Numeric = List·Memᴰ·tail (List·Memᴰ·tail (List·Memᴰ·head refl))
+format-in Shef = List·Memᴰ·tail (List·Memᴰ·tail (List·Memᴰ·tail (List·Memᴰ·head refl)))
+format-in FullAscii = List·Memᴰ·tail (List·Memᴰ·tail (List·Memᴰ·tail (List·Memᴰ·tail (List·Memᴰ·head refl))))
+
 other : Header → Bool
-other f = _&&_ (not (ours f Open)) (_&&_ (not (ours f PseudoBinary)) (not (ours f FullAscii)))
+other f = every (λ (format : Format). not (ours f format)) formats
 
 other-none : (f : Header) → T (other f) → (format : Format) → HasFormat f format → ⊥
 unfolding other
-other-none f t Open typed =
-    T-not (ours f Open) (and-left (not (ours f Open)) (_&&_ (not (ours f PseudoBinary)) (not (ours f FullAscii))) t) (ours-test f Open typed)
-other-none f t PseudoBinary typed =
-    let two = and-right (not (ours f Open)) (_&&_ (not (ours f PseudoBinary)) (not (ours f FullAscii))) t in
-    T-not (ours f PseudoBinary) (and-left (not (ours f PseudoBinary)) (not (ours f FullAscii)) two) (ours-test f PseudoBinary typed)
-other-none f t FullAscii typed =
-    let two = and-right (not (ours f Open)) (_&&_ (not (ours f PseudoBinary)) (not (ours f FullAscii))) t in
-    T-not (ours f FullAscii) (and-right (not (ours f PseudoBinary)) (not (ours f FullAscii)) two) (ours-test f FullAscii typed)
+other-none f t format typed =
+    T-not (ours f format) (every-at (λ (k : Format). not (ours f k)) formats t format (format-in format)) (ours-test f format typed)
 
 -- what starts with four bytes has their word
 front-word : (head after : List ℕ) → length head ≡ 4 → received (head ++ after) ≡ received head
@@ -151,23 +168,11 @@ module _ (mend : ℕ) (head : List ℕ) (four : length head ≡ 4) (after : List
 
 -- ---- data, by a reading that computes
 
-same : List ℕ → List ℕ → Bool
-same [] [] = true
-same [] (d ∷ m) = false
-same (c ∷ l) [] = false
-same (c ∷ l) (d ∷ m) = _&&_ (eqb c d) (same l m)
-
-same-is : (l m : List ℕ) → T (same l m) → l ≡ m
-unfolding same
-same-is [] [] t = refl
-same-is [] (d ∷ m) t = absurd t
-same-is (c ∷ l) [] t = absurd t
-same-is (c ∷ l) (d ∷ m) t =
-    ap₂ (λ (x : ℕ) (y : List ℕ). x ∷ y) (eqb→eq c d (and-left (eqb c d) (same l m) t)) (same-is l m (and-right (eqb c d) (same l m) t))
-
 reading : Format → List ℕ → Answer
 reading Open carried = reads-text carried
 reading PseudoBinary carried = answer pseudo.scheme (length (bits carried)) 0 (bits carried)
+reading Numeric carried = reads-text (textOf carried)
+reading Shef carried = answer shef.scheme (length (bits carried)) 0 (bits carried)
 reading FullAscii carried = answer ascii.scheme (length (bits carried)) 0 (bits carried)
 
 comes-to : Answer → List ℕ → Bool
@@ -192,12 +197,16 @@ carries-by-test : (format : Format) (text carried : List ℕ) → T (comes-to (r
 unfolding reading comes-to
 carries-by-test Open text carried p = same-is carried text p
 carries-by-test PseudoBinary text carried p = to-text pseudo.scheme (bits carried) (reading PseudoBinary carried) text (always pseudo-table.laws 0 (bits carried)) p
+carries-by-test Numeric text carried p = subst (λ (t : List ℕ). Carries Numeric t carried) (same-is (textOf carried) text p) (text-built carried)
+carries-by-test Shef text carried p = to-text shef.scheme (bits carried) (reading Shef carried) text (always shef-table.laws 0 (bits carried)) p
 carries-by-test FullAscii text carried p = to-text ascii.scheme (bits carried) (reading FullAscii carried) text (always ascii-table.laws 0 (bits carried)) p
 
 stops-by-test : (format : Format) (carried : List ℕ) (bit : ℕ) → T (stuck-at (reading format carried) bit) → Unreadable format carried bit
 unfolding reading stuck-at
 stops-by-test Open carried bit p = p
 stops-by-test PseudoBinary carried bit p = to-place pseudo.scheme (bits carried) (reading PseudoBinary carried) bit (always pseudo-table.laws 0 (bits carried)) p
+stops-by-test Numeric carried bit p = absurd p
+stops-by-test Shef carried bit p = to-place shef.scheme (bits carried) (reading Shef carried) bit (always shef-table.laws 0 (bits carried)) p
 stops-by-test FullAscii carried bit p = to-place ascii.scheme (bits carried) (reading FullAscii carried) bit (always ascii-table.laws 0 (bits carried)) p
 
 -- ---- the rows
@@ -219,9 +228,11 @@ tests (foreign mend head header mended) =
     let h = received header in
     let d = distance (received head) h in
     eqb (length head) 4 ∷ ltb h (2 ^ 32) ∷ valid h ∷ _&&_ (leb d mend) (eqb mended d) ∷ other (fieldsIn h) ∷ []
-tests (writes format text carried) = same (dataOf format text) carried ∷ comes-to (reading format carried) text ∷ []
+tests (writes format text carried) = same (dataOf format text) carried ∷ comes-to (reading format carried) (comesBack format text) ∷ []
 tests (carries format text carried) = comes-to (reading format carried) text ∷ []
 tests (stops format carried bit) = stuck-at (reading format carried) bit ∷ []
+tests (lacks format text index) =
+    ltb index (length text) ∷ all (λ (i : ℕ). coded format (take i text) (getD text i 0)) index ∷ not (coded format (take index text) (getD text index 0)) ∷ []
 
 Passed : List Bool → Type 0
 Passed [] = Unit {0}
@@ -253,9 +264,15 @@ row-holds (foreign mend head header mended) (four, (small, (v, (near, (none, t))
     let h = received header in
     let mends = mends-by-test mend (received head) h mended (valid-by-test h (ltb→lt h (2 ^ 32) small) v) near in
     (mends, λ after room. refused-packet (mending mend) (head ++ after) room OtherType (refuses-foreign mend head (eqb→eq (length head) 4 four) after room h (mends .0) (other-none (fieldsIn h) none)))
-row-holds (writes format text carried) (made, (read, t)) = (same-is (dataOf format text) carried made, carries-by-test format text carried read)
+row-holds (writes format text carried) (made, (read, t)) = (same-is (dataOf format text) carried made, carries-by-test format (comesBack format text) carried read)
 row-holds (carries format text carried) (read, t) = carries-by-test format text carried read
 row-holds (stops format carried bit) (read, t) = stops-by-test format carried bit read
+row-holds (lacks format text index) (there, (before, (none, t))) =
+    record {
+      there = ltb→lt index (length text) there;
+      before = all-at (λ (i : ℕ). coded format (take i text) (getD text i 0)) index before;
+      none = T-not (coded format (take index text) (getD text index 0)) none;
+    }
 
 every-row : List Edge → List Bool
 every-row [] = []
@@ -270,11 +287,16 @@ rows-hold (e ∷ es) (p, t) = (row-holds e (passed (tests e) p), rows-hold es t)
 computed : Passed (every-row edges)
 unfolding Passed every-row every-test tests same other ours reading comes-to stuck-at none all valid flip onesIn Odd received distance differences
     flagIn checkIn checkOf informationIn lengthIn remainder generator bytesOf headerFor headerOf lowFlag parityFor fieldsIn messageTypeIn extendedTypeIn spareIn syncIn flagBits
-    bits bit low numbers every begun fills find answer stateAfter codes value bytes packed gap filled written
+    bits bit low numbers every begun fills find answer stateAfter codes texts value bytes packed gap filled written
     pseudo.isOf pseudo.valueOf pseudo.characterOf pseudo.indicator pseudo.most pseudo.indicators pseudo.six pseudo.tables
     pseudo-writer.kind pseudo-writer.run pseudo-writer.besides pseudo-writer.oursAfter pseudo-writer.ours
+    codeFor consecutive lastOf eachAfter ended lineEnds found first saying meaning character spelled textOf
+    numeric.characters numeric.table numeric-translation.sent numeric-translation.itself numeric-translation.specials numeric-translation.translation
+    numeric-translation.translated numeric-writer.own numeric-writer.baseOf numeric-writer.clashes numeric-writer.codedBehind numeric-writer.evened
+    numeric-writer.sentFor numeric-writer.ours numeric-writer.comesBack shef.table shef-writer.coded shef-writer.own shef-writer.ours
     ascii.six ascii.seven ascii.special ascii.pair ascii.table ascii-writer.own ascii-writer.ours
-computed = (tt, (tt, (tt, (tt, (tt, (tt, (tt, (tt, (tt, (tt, (tt, (tt, (tt, (tt, (tt, (tt, (tt, tt)))))))))))))))))
+computed =
+    (tt, (tt, (tt, (tt, (tt, (tt, (tt, (tt, (tt, (tt, (tt, (tt, (tt, (tt, (tt, (tt, (tt, (tt, (tt, (tt, (tt, (tt, (tt, (tt, (tt, (tt, (tt, (tt, (tt, (tt, (tt, (tt, (tt, (tt, (tt, (tt, (tt, (tt, (tt, (tt, tt))))))))))))))))))))))))))))))))))))))))
 
 -- the one statement: every row of the table
 pub edges-hold : Every edges

@@ -13,6 +13,8 @@ use Rattle.header.specs.Formats.{HasFormat}
 use Rattle.header.specs.Valid.{lengthIn}
 use Rattle.distance.specs.Distance.{ValidWithin}
 use Rattle.checksum.specs.Checksum.{checksumBytes}
+use Rattle.numeric.proofs.Writer as numeric-writer
+use Rattle.shef.proofs.Writer as shef-writer
 use Rattle.formats.specs.Data.{Carries, Unreadable}
 use Rattle.refusals.specs.declared.ExamineRefusal.{ExamineRefusal}
 use Rattle.refusals.specs.declared.ExamineRefusal.the-variants.{Short, NoHeader, OtherType, OtherLength, CutOff, Checksum, Malformed}
@@ -34,7 +36,10 @@ use Rattle.reader.proofs.Headers.{one-header, under}
 use Rattle.reader.proofs.ReadAnswers.{no-room, read-into}
 use Rattle.reader.proofs.ReadOnce.{reads-one, refused-packet, packet-refused}
 use Rattle.writer.proofs.WriteOnce.{writes-one}
-use Rattle.demands.specs.OneAnswer.{OneAnswer, Agreement, NothingAfter}
+use Rattle.demands.specs.OneAnswer.{OneAnswer, OneBuilding, Agreement, NothingAfter}
+
+pub one-building : OneBuilding
+one-building = record { in-numeric = numeric-writer.one-building; in-shef = shef-writer.one-building }
 
 module _ (terms : Terms) (named : MayBeNamed terms) where
   pub one-answer : OneAnswer terms

@@ -16,6 +16,7 @@ kept terms named = record {
   demand-2 = second.demand-2 terms named;
   demand-3 = third.demand-3 terms named;
   one-answer = beside.one-answer terms named;
+  one-building = beside.one-building;
   agreement = beside.agreement terms named;
   nothing-after = beside.nothing-after terms named;
 }

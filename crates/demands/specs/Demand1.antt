@@ -4,15 +4,17 @@
 -- Assumes nothing.
 use mathlib.Core.Bool.{Bool}
 use mathlib.Core.List.{List, [], _∷_}
-use mathlib.Core.Logic.{_↔_}
+use mathlib.Core.Logic.{_⊎_, _↔_}
 use mathlib.Core.Path.{_≡_}
 use Prim.Native.Nat.{ℕ, suc, _<_}
 use lib.ListN.{length, take, drop}
 use Rattle.header.specs.declared.Format.{Format}
-use Rattle.header.specs.declared.Format.the-variants.{Open, PseudoBinary, FullAscii}
+use Rattle.header.specs.declared.Format.the-variants.{Open, PseudoBinary, Numeric, Shef, FullAscii}
 use Rattle.codes.specs.Reading.{DataGives, stuck}
 use Rattle.full_ascii.specs.Table as ascii
+use Rattle.numeric.specs.Table as numeric
 use Rattle.pseudo_binary.specs.Table as pseudo
+use Rattle.shef.specs.Table as shef
 use Rattle.formats.specs.Data.{Carries, Unreadable, AllCoded, Uncoded, comesBack, dataOf}
 use Rattle.refusals.specs.declared.ExamineRefusal.{ExamineRefusal}
 use Rattle.refusals.specs.declared.ReadRefusal.{ReadRefusal}
@@ -42,6 +44,8 @@ RefusedExactly Refusal told Fault turn Answered =
 abbrev pub StuckAt : Format → List ℕ → ℕ → Type 0
 StuckAt Open carried bit = ⊥
 StuckAt PseudoBinary carried bit = DataGives pseudo.scheme carried (stuck bit)
+StuckAt Numeric carried bit = DataGives numeric.scheme carried (stuck bit)
+StuckAt Shef carried bit = DataGives shef.scheme carried (stuck bit)
 StuckAt FullAscii carried bit = DataGives ascii.scheme carried (stuck bit)
 
 pub record Demand1 (terms : Terms) : Type 0 where
@@ -77,6 +81,12 @@ pub record Conditions (terms : Terms) : Type 0 where
   -- its index: the characters before it have codes, and with it they do not
   pub no-code-index : (format : Format) (text : List ℕ) (index : ℕ)
       → Uncoded format text index ↔ ((index < length text) × AllCoded format (take index text) × (AllCoded format (take (suc index) text) → ⊥))
+  -- and as it is said: no data carries what the text up to and including it comes back as, while nothing stands before it or some data carries what the
+  -- text before it comes back as
+  pub no-code-means : (format : Format) (text : List ℕ) (index : ℕ)
+      → Uncoded format text index
+      ↔ ((index < length text) × ((index ≡ 0) ⊎ ((carried : List ℕ) × Carries format (comesBack format (take index text)) carried))
+        × ((carried : List ℕ) → Carries format (comesBack format (take (suc index) text)) carried → ⊥))
   -- 11: the text fits in no single packet of the format
   pub too-long-means : (format : Format) (text : List ℕ) → AllCoded format text
       → (terms .most < length (dataOf format text)) ↔ ((carried : List ℕ) → Carries format (comesBack format text) carried → terms .most < length carried)

@@ -6,13 +6,13 @@ use mathlib.Core.Path.{_≡_}
 use Prim.Native.Nat.{ℕ}
 use lib.ListN.{replicate}
 use Rattle.header.specs.declared.Format.{Format}
-use Rattle.header.specs.declared.Format.the-variants.{Open, PseudoBinary, FullAscii}
+use Rattle.header.specs.declared.Format.the-variants.{Open, PseudoBinary, Numeric, Shef, FullAscii}
 use Rattle.header.specs.Fields.{fieldsIn, bytesOf}
 use Rattle.header.specs.Formats.{HasFormat}
 use Rattle.header.specs.Valid.{Valid, flagIn, lengthIn, checkIn}
 use Rattle.mending.specs.declared.Mending.the-variants.{Mended}
 use Rattle.mending.specs.Mends.{MendsWithin}
-use Rattle.formats.specs.Data.{Carries, Unreadable, dataOf}
+use Rattle.formats.specs.Data.{Carries, Unreadable, Uncoded, dataOf, comesBack}
 use Rattle.refusals.specs.declared.ExamineRefusal.{ExamineRefusal}
 use Rattle.refusals.specs.declared.ExamineRefusal.the-variants.{NoHeader, OtherType}
 use Rattle.refusals.specs.declared.ReadRefusal.the-variants.{Packet}
@@ -32,12 +32,14 @@ pub data Edge : Type 0 where
   hopeless : (mend : ℕ) → List ℕ → Edge
   -- a received header is mended to one, with so many bits, whose type is none of ours: refusal 3, whatever follows it
   foreign : (mend : ℕ) (head header : List ℕ) (mended : ℕ) → Edge
-  -- our writer makes this data of the text, and the data carries the text
+  -- our writer makes this data of the text, and the data carries what the text comes back as
   writes : Format → (text carried : List ℕ) → Edge
   -- the data carries the text
   carries : Format → (text carried : List ℕ) → Edge
   -- the data is malformed at this bit
   stops : Format → (carried : List ℕ) (bit : ℕ) → Edge
+  -- the first character of the text that has no code is this one
+  lacks : Format → (text : List ℕ) (index : ℕ) → Edge
 
 -- terms that name so many bits to mend
 abbrev pub mending : ℕ → Terms
@@ -58,11 +60,12 @@ Holds (reads mend head format sync length mended) =
 Holds (hopeless mend head) = RefusesAll mend head NoHeader
 Holds (foreign mend head header mended) =
     MendsWithin mend (received head) (Mended (received header) mended) × RefusesAll mend head OtherType
-Holds (writes format text carried) = (dataOf format text ≡ carried) × Carries format text carried
+Holds (writes format text carried) = (dataOf format text ≡ carried) × Carries format (comesBack format text) carried
 Holds (carries format text carried) = Carries format text carried
 Holds (stops format carried bit) = Unreadable format carried bit
+Holds (lacks format text index) = Uncoded format text index
 
--- text in ASCII: A 65, B 66, space 32, slash 47, CR 13, LF 10
+-- text in ASCII: A 65, B 66, E 69, a 97, 0 48, 1 49, 2 50, space 32, # 35, + 43, - 45, . 46, slash 47, : 58, ; 59, = 61, CR 13, LF 10
 abbrev pub edges : List Edge
 edges =
     -- P1
@@ -95,6 +98,39 @@ edges =
     ∷ writes FullAscii (13 ∷ 10 ∷ []) (0xFF ∷ 0xFF ∷ [])
     -- P15
     ∷ stops FullAscii (0xFF ∷ []) 0
+    -- N1
+    ∷ writes Numeric (49 ∷ 50 ∷ []) (0x12 ∷ [])
+    ∷ writes Numeric (49 ∷ []) (0x1A ∷ [])
+    ∷ carries Numeric (49 ∷ 32 ∷ []) (0x1A ∷ [])
+    -- N2
+    ∷ writes Numeric (13 ∷ 10 ∷ []) (0xBB ∷ [])
+    ∷ writes Numeric (13 ∷ []) (0xBB ∷ [])
+    ∷ writes Numeric (10 ∷ []) (0xBB ∷ [])
+    -- N3
+    ∷ writes Numeric (35 ∷ 61 ∷ 58 ∷ 69 ∷ []) (0xBD ∷ 0xDB ∷ 0xEE ∷ 0xDD ∷ [])
+    -- N4
+    ∷ carries Numeric (48 ∷ 13 ∷ 10 ∷ 43 ∷ []) (0x0B ∷ 0xBB ∷ [])
+    -- N5
+    ∷ lacks Numeric (43 ∷ 43 ∷ []) 1
+    ∷ lacks Numeric (43 ∷ 35 ∷ []) 1
+    ∷ lacks Numeric (45 ∷ 69 ∷ []) 1
+    ∷ lacks Numeric (46 ∷ 58 ∷ []) 1
+    ∷ lacks Numeric (49 ∷ 50 ∷ 43 ∷ 13 ∷ []) 3
+    ∷ writes Numeric (49 ∷ 50 ∷ 43 ∷ []) (0x12 ∷ 0xBA ∷ [])
+    -- S1
+    ∷ writes Shef (48 ∷ []) (0x07 ∷ [])
+    ∷ writes Shef (65 ∷ []) (0x83 ∷ [])
+    -- S2
+    ∷ writes Shef (13 ∷ 10 ∷ []) (0xEB ∷ [])
+    ∷ writes Shef (13 ∷ []) (0xEB ∷ [])
+    ∷ writes Shef (10 ∷ []) (0xEB ∷ [])
+    -- S3
+    ∷ writes Shef (59 ∷ []) (0xFB ∷ [])
+    ∷ stops Shef (0xFF ∷ []) 0
+    -- S4
+    ∷ stops Shef (0x07 ∷ 0xFF ∷ []) 5
+    -- S5
+    ∷ lacks Shef (65 ∷ 97 ∷ []) 1
     ∷ []
 
 abbrev pub Every : List Edge → Type 0

@@ -1,5 +1,5 @@
 -- For every input the promises of the entry points leave one answer and one content of the lent buffer (RULES, What a promise says); what `examine` and the
--- reader say of one packet agrees; and bytes after the checksum are not looked at (RULES, Packet).
+-- reader say of one packet agrees; no text has two buildings in Numeric or SHEF; and bytes after the checksum are not looked at (RULES, Packet).
 -- Assumes nothing.
 use mathlib.Core.Bool.{Bool}
 use mathlib.Core.List.{List, _++_}
@@ -7,8 +7,11 @@ use mathlib.Core.Logic.{_↔_}
 use mathlib.Core.Path.{_≡_}
 use Prim.Native.Nat.{ℕ, _+_, _≤_, _<_}
 use lib.ListN.{length}
+use Rattle.bits.specs.Row.{Bytes}
+use Rattle.header.specs.declared.Format.the-variants.{Numeric, Shef}
 use Rattle.header.specs.Valid.{lengthIn}
 use Rattle.distance.specs.Distance.{ValidWithin}
+use Rattle.formats.specs.Data.{Carries}
 use Rattle.refusals.specs.declared.ExamineRefusal.{ExamineRefusal}
 use Rattle.refusals.specs.declared.ReadRefusal.the-variants.{Packet, NoRoom}
 use Rattle.terms.specs.declared.Terms.{Terms}
@@ -28,6 +31,11 @@ pub record OneAnswer (terms : Terms) : Type 0 where
   pub reads-one : (packet entry : List ℕ) (a b : ReadAnswer) (x y : List ℕ) → Reads terms packet entry a x → Reads terms packet entry b y → (a ≡ b) × (x ≡ y)
   pub writes-one : (number : ℕ) (sync : Bool) (text entry : List ℕ) (a b : WriteAnswer) (x y : List ℕ)
       → Writes terms number sync text entry a x → Writes terms number sync text entry b y → (a ≡ b) × (x ≡ y)
+
+-- where the tables have one code for each thing that they say, no text has two buildings, so none of equally few bits (RULES, Formats)
+pub record OneBuilding : Type 0 where
+  pub in-numeric : (text a b : List ℕ) → Bytes a → Bytes b → Carries Numeric text a → Carries Numeric text b → a ≡ b
+  pub in-shef : (text a b : List ℕ) → Bytes a → Bytes b → Carries Shef text a → Carries Shef text b → a ≡ b
 
 -- of one packet, examined and read into a buffer
 pub record Agreement (terms : Terms) : Type 0 where

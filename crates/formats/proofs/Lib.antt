@@ -1,4 +1,5 @@
 pub mod Formats
+pub mod NumericData
 pub mod OfScheme
 pub mod Once
 pub mod OpenData

@@ -7,7 +7,7 @@ use native.Mathlib.Nat.{zero-add}
 use lib.ListN.{length, drop}
 use Rattle.bits.specs.Row.{bits}
 use Rattle.header.specs.declared.Format.{Format}
-use Rattle.header.specs.declared.Format.the-variants.{PseudoBinary, FullAscii}
+use Rattle.header.specs.declared.Format.the-variants.{PseudoBinary, Shef, FullAscii}
 use Rattle.codes.specs.Chain as chain
 use Rattle.codes.specs.Chain.{Scheme, Built}
 use Rattle.codes.specs.Steps.Laid.{laid, Readable, Placed}
@@ -16,6 +16,7 @@ use Rattle.codes.specs.declared.Measured.{Measured}
 use Rattle.codes.specs.declared.Measured.the-variants.{Text, Malformed}
 use Rattle.full_ascii.specs.Table as ascii
 use Rattle.pseudo_binary.specs.Table as pseudo
+use Rattle.shef.specs.Table as shef
 use Rattle.formats.specs.Data.{Carries, Unreadable}
 use Rattle.formats.specs.Steps.Text.{MeasuresData, HasRoom, PutsText}
 
@@ -27,6 +28,10 @@ pub record OfScheme (scheme : Scheme) (format : Format) : Type 0 where
 pub of-pseudo-binary : (format : Format) → format ≡ PseudoBinary → OfScheme pseudo.scheme format
 of-pseudo-binary format told =
     subst⁻¹ (OfScheme pseudo.scheme) told (record { carries = λ text carried b. b; built = λ text carried b. b; unreadable = λ carried i s. s })
+
+pub of-shef : (format : Format) → format ≡ Shef → OfScheme shef.scheme format
+of-shef format told =
+    subst⁻¹ (OfScheme shef.scheme) told (record { carries = λ text carried b. b; built = λ text carried b. b; unreadable = λ carried i s. s })
 
 pub of-full-ascii : (format : Format) → format ≡ FullAscii → OfScheme ascii.scheme format
 of-full-ascii format told =

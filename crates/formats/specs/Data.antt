@@ -7,31 +7,43 @@ use mathlib.Core.Path.{_≡_}
 use Prim.Native.Nat.{ℕ}
 use lib.ListN.{length}
 use Rattle.header.specs.declared.Format.{Format}
-use Rattle.header.specs.declared.Format.the-variants.{Open, PseudoBinary, FullAscii}
+use Rattle.header.specs.declared.Format.the-variants.{Open, PseudoBinary, Numeric, Shef, FullAscii}
 use Rattle.codes.specs.Chain.{Built, Malformed}
 use Rattle.codes.specs.Coded.{alone, CodedBelow, FirstUncoded}
 use Rattle.codes.specs.Pack.{written}
 use Rattle.full_ascii.specs.Table as ascii
 use Rattle.full_ascii.specs.Writer as ascii-writer
+use Rattle.numeric.specs.Table as numeric
+use Rattle.numeric.specs.Data as numeric-data
+use Rattle.numeric.specs.Writer as numeric-writer
 use Rattle.pseudo_binary.specs.Table as pseudo
 use Rattle.pseudo_binary.specs.Writer as pseudo-writer
+use Rattle.shef.specs.Table as shef
+use Rattle.shef.specs.Writer as shef-writer
 
 -- the data is what a maker may build of the text. Open: the data bytes are the text
 abbrev pub Carries : Format → List ℕ → List ℕ → Type 0
 Carries Open text carried = carried ≡ text
 Carries PseudoBinary text carried = Built pseudo.scheme text carried
+Carries Numeric text carried = numeric-data.Built text carried
+Carries Shef text carried = Built shef.scheme text carried
 Carries FullAscii text carried = Built ascii.scheme text carried
 
 -- the data is malformed, and its first unreadable indicator, value or code starts at this bit. Open data never is
 abbrev pub Unreadable : Format → List ℕ → ℕ → Type 0
 Unreadable Open carried i = ⊥
 Unreadable PseudoBinary carried i = Malformed pseudo.scheme carried i
+Unreadable Numeric carried i = Malformed numeric.scheme carried i
+Unreadable Shef carried i = Malformed shef.scheme carried i
 Unreadable FullAscii carried i = Malformed ascii.scheme carried i
 
--- whether the character has a code, by what stands before it in the text and by itself: in these formats by itself alone, and in Open each has one
+-- whether the character has a code, by what stands before it in the text and by itself: in Numeric by the character right before it and by
+-- itself, in the others by itself alone, and in Open each has one
 abbrev pub coded : Format → List ℕ → ℕ → Bool
 coded Open = alone (λ c. true)
 coded PseudoBinary = alone pseudo.coded
+coded Numeric = numeric-writer.coded
+coded Shef = alone shef-writer.coded
 coded FullAscii = alone ascii-writer.coded
 
 -- each character of the text has a code
@@ -46,10 +58,14 @@ Uncoded format = FirstUncoded (coded format)
 abbrev pub dataOf : Format → List ℕ → List ℕ
 dataOf Open text = text
 dataOf PseudoBinary text = written (pseudo-writer.ours text)
+dataOf Numeric text = written (numeric-writer.ours text)
+dataOf Shef text = written (shef-writer.ours text)
 dataOf FullAscii text = written (ascii-writer.ours text)
 
 -- what such a text comes back as when that data is read
 abbrev pub comesBack : Format → List ℕ → List ℕ
 comesBack Open text = text
 comesBack PseudoBinary text = pseudo-writer.comesBack text
+comesBack Numeric text = numeric-writer.comesBack text
+comesBack Shef text = shef-writer.comesBack text
 comesBack FullAscii text = ascii-writer.comesBack text

@@ -26,21 +26,40 @@ fn has_code(format: Format, text: &[u8], i: usize) -> bool
     match format {
         Format::Open => true,
         Format::PseudoBinary => pseudo_binary_writer::is_coded(text[i]),
+        Format::Numeric => numeric_writer::is_coded(text, i),
+        Format::Shef => shef_writer::is_coded(text[i]),
         Format::FullAscii => full_ascii_writer::is_coded(text[i]),
     }
 }
 
 // Whether each character has a code. All are looked at, whatever is found: a loop with no way out before its end is done for many characters at once.
-fn all_coded(format: Format, text: &[u8]) -> bool
+fn all_coded_in(format: Format, text: &[u8]) -> bool
+    requires { ⌜ 0 < length (now text) ⌝ }
     ensures { λ r. ⌜ Says r (AllCoded format (now (text .entry))) ⌝ }
 {
-    let mut all = true;
-    let mut i: usize = 0;
+    let mut all = has_code(format, text, 0);
+    let mut i: usize = 1;
     while i < text.len() {
         all = all & has_code(format, text, i);
         i += 1;
     }
     all
+}
+
+// The same, whatever the length. Each format has its own call, so that LLVM makes a loop of its own for each.
+fn all_coded(format: Format, text: &[u8]) -> bool
+    ensures { λ r. ⌜ Says r (AllCoded format (now (text .entry))) ⌝ }
+{
+    if text.len() == 0 {
+        return true;
+    }
+    match format {
+        Format::Open => all_coded_in(Format::Open, text),
+        Format::PseudoBinary => all_coded_in(Format::PseudoBinary, text),
+        Format::Numeric => all_coded_in(Format::Numeric, text),
+        Format::Shef => all_coded_in(Format::Shef, text),
+        Format::FullAscii => all_coded_in(Format::FullAscii, text),
+    }
 }
 
 // The index of the first character that has no code.
@@ -78,6 +97,8 @@ fn coded_length(format: Format, text: &[u8], most: u16) -> Needed
     match format {
         Format::Open => open_length(text, most),
         Format::PseudoBinary => pseudo_binary_writer::coded_length(text, most),
+        Format::Numeric => numeric_writer::coded_length(text, most),
+        Format::Shef => shef_writer::coded_length(text, most),
         Format::FullAscii => full_ascii_writer::coded_length(text, most),
     }
 }
@@ -101,6 +122,8 @@ fn put_data(format: Format, text: &[u8], out: &mut [u8]) -> usize
     match format {
         Format::Open => bytes::copy(text, out),
         Format::PseudoBinary => pseudo_binary_writer::put_data(text, out),
+        Format::Numeric => numeric_writer::put_data(text, out),
+        Format::Shef => shef_writer::put_data(text, out),
         Format::FullAscii => full_ascii_writer::put_data(text, out),
     }
 }
@@ -130,6 +153,8 @@ fn measure(format: Format, data: &[u8]) -> Measured
     match format {
         Format::Open => Measured::Text(data.len()),
         Format::PseudoBinary => pseudo_binary_reader::measure(data),
+        Format::Numeric => Measured::Text(numeric_reader::measure(data)),
+        Format::Shef => shef_reader::measure(data),
         Format::FullAscii => full_ascii_reader::measure(data),
     }
 }
@@ -156,6 +181,8 @@ pub fn put_text(format: Format, data: &[u8], out: &mut [u8]) -> usize
     match format {
         Format::Open => bytes::copy(data, out),
         Format::PseudoBinary => pseudo_binary_reader::put_text(data, out),
+        Format::Numeric => numeric_reader::put_text(data, out),
+        Format::Shef => shef_reader::put_text(data, out),
         Format::FullAscii => full_ascii_reader::put_text(data, out),
     }
 }

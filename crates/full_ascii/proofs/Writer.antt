@@ -21,7 +21,7 @@ use Rattle.codes.proofs.LeastCost.{Cost, cost-shortest}
 use Rattle.codes.proofs.BitsInBytes.{gap-few}
 use Rattle.codes.proofs.SingleTable.{row-one, builds-one}
 use Rattle.codes.proofs.WriterLaws as writing
-use Rattle.codes.proofs.WriterLaws.{spells, row-coded, WriterFacts, WriterLaws}
+use Rattle.codes.proofs.WriterLaws.{spells, said-coded, WriterFacts, WriterLaws}
 use Rattle.full_ascii.specs.Table.{LF, CR, six, seven, special, pair, table, scheme}
 use Rattle.full_ascii.specs.Writer.{comesBack, coded, AllCoded, own, ours}
 use Rattle.full_ascii.proofs.Table.{laws, sounds, mutes, all-bits}
@@ -114,7 +114,7 @@ writer = record {
   shortest = λ t h es r x says. cost-shortest ours cost (λ u. refl) t es r says;
   nonempty = λ t some h. some;
   kept = λ es r x. refl;
-  coded = row-coded scheme coded all-spell 0 0;
+  coded = said-coded scheme coded all-spell;
   all-bits = all-bits;
   sounds = sounds;
   few = lit< tt;

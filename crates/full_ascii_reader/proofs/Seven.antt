@@ -8,15 +8,16 @@ use native.Mathlib.Decide.{decLe, decLt}
 use native.Mathlib.Nat.{add-comm, zero-div}
 use native.Mathlib.Omega.{arith}
 use lib.Bits.{bitAnd, and-shr, and-mod}
-use lib.Dec.{eqb}
-use lib.Pow.{field, shr-shr}
+use lib.Dec.{eqb, lit≤}
+use lib.Pow.{shr-shr}
 use borrow.Author.Tests.{eqb-true}
 use Rattle.codes.specs.Steps.BitBuffer.{Window}
-use Rattle.codes.proofs.BitBuffer.{window-whole, window-short}
-use Rattle.codes.proofs.EightBytes.{shifted-down, shifted-on}
+use Rattle.codes.proofs.BitBuffer.{window-whole, window-top, window-short}
+use Rattle.codes.proofs.EightBytes.{top-bits}
+use Rattle.full_ascii.specs.Table.{table}
 use Rattle.full_ascii_reader.specs.Steps.Passing.{Plain}
-use Rattle.full_ascii_reader.specs.Steps.Taken.{FirstCode}
-use Rattle.full_ascii_reader.specs.declared.Code.{Code}
+use Rattle.codes.specs.Steps.Taken.{FirstCode}
+use Rattle.codes.specs.declared.Code.{Code}
 
 -- the ones that have another one j places above them
 meet : ℕ → ℕ → ℕ
@@ -61,35 +62,16 @@ pub plain-tested : (n : ℕ)
 unfolding sevens meet
 plain-tested n h = none-plain n (eqb-true (sevens n) 0 h)
 
--- the seven bits at the top of a word to which the lowest `left` bits of a number are shifted
-pub top-seven : (held left top : ℕ) → 7 ≤ left → left ≤ 64 → top ≡ held * 2 ^ (64 - left) % 2 ^ 64
-    → top / 2 ^ 57 ≡ held / 2 ^ (left - 7) % 128
-top-seven held left top h k e = ap (λ (x : ℕ). x / 2 ^ 57) e ∙ shifted-down held (64 - left) 7 (left - 7) (omega arith)
-
--- they begin the nine bits of the window
+-- seven bits begin the nine of the window
 seven-nine : (held left : ℕ) → 8 ≤ left → (w : ℕ) × Window held left w × (w / 4 ≡ held / 2 ^ (left - 7) % 128)
 seven-nine held left h = by-cases (decLe 9 left)
-    (λ k. (
-      held / 2 ^ (left - 9) % 512,
-      window-whole held left k,
-      field (held / 2 ^ (left - 9)) 7 2
-          ∙ ap (λ (x : ℕ). x % 128)
-          (shr-shr held (left - 9) 2 ∙ ap (λ (i : ℕ). held / 2 ^ i) (let e : left - 9 + 2 ≡ left - 7 = omega arith in e)),
-    ))
+    (λ k. (held / 2 ^ (left - 9) % 512, window-whole held left k, window-top held left 7 (lit≤ tt) k))
     (λ k. subst⁻¹ (λ (n : ℕ). (w : ℕ) × Window held n w × (w / 4 ≡ held / 2 ^ (n - 7) % 128)) (let e : left ≡ 8 = omega arith in e)
     (held % 256 * 2 + 1, window-short held 8 (held % 256 * 2 + 1) (omega arith) refl, omega arith))
 
 -- what is taken of the seven bits is taken of the window
 pub seven-takes : (held left top : ℕ) (r : Code) → 8 ≤ left → left ≤ 64 → top ≡ held * 2 ^ (64 - left) % 2 ^ 64
-    → ((w : ℕ) → w / 4 ≡ top / 2 ^ 57 → FirstCode w r) → (w : ℕ) × Window held left w × FirstCode w r
+    → ((w : ℕ) → w / 4 ≡ top / 2 ^ 57 → FirstCode table w r) → (w : ℕ) × Window held left w × FirstCode table w r
 seven-takes held left top r h k e takes =
     let n = seven-nine held left h in
-    (n .0, n .1, takes (n .0) (n .2 ∙ sym (top-seven held left top (omega arith) k e)))
-
--- the word is shifted on by the bits that were passed
-pub top-on : (held left top width : ℕ) → width ≤ left → left ≤ 64 → top ≡ held * 2 ^ (64 - left) % 2 ^ 64
-    → top * 2 ^ width % 2 ^ 64 ≡ held * 2 ^ (64 - (left - width)) % 2 ^ 64
-top-on held left top width h k e =
-    ap (λ (x : ℕ). x * 2 ^ width % 2 ^ 64) e
-    ∙ shifted-on held (64 - left) width (omega arith)
-    ∙ ap (λ (n : ℕ). held * 2 ^ n % 2 ^ 64) (let x : 64 - left + width ≡ 64 - (left - width) = omega arith in x)
+    (n .0, n .1, takes (n .0) (n .2 ∙ sym (top-bits held left top 7 (omega arith) k e)))

@@ -1,7 +1,9 @@
 // Compact Full ASCII (001, 4.5), read: how long the text of its data is, or where the data is malformed; and the text. The table is in full_ascii.
 
-use bit_buffer::Buffer;
+use codes::Code;
 use codes::Measured;
+use codes::Place;
+use codes::Skimmed;
 use full_ascii::Character;
 use full_ascii::Special;
 ghost use mathlib.Core.Bool.{true};
@@ -9,20 +11,13 @@ ghost use mathlib.Core.Path.{_≡_};
 ghost use Prim.Native.Nat.{ℕ, _+_, _-_, _/_, _<_, _≤_};
 ghost use lib.ListN.{length};
 ghost use Rattle.bits.specs.Row.{bits};
-ghost use Rattle.codes.specs.Steps.Laid.{laid, Readable, Placed};
+ghost use Rattle.codes.specs.Steps.Laid.{Readable, Placed};
 ghost use Rattle.codes.specs.Steps.Measure.{Measures, countable};
 ghost use Rattle.codes.specs.Pack.{low};
-ghost use Rattle.full_ascii.specs.Table.{scheme};
-ghost use Rattle.full_ascii_reader.specs.Steps.Taken.{FirstCode, charactersOf, oneCharacter};
-ghost use Rattle.full_ascii_reader.specs.Steps.Passing.{Plain, Skims, Begun, SkimsInto, NearEnd, CountedTo, LaidTo, Last};
-
-// A code: how many bits it has, and the one or two characters that it says.
-struct Code {
-    pub width: u64,
-    pub count: usize,
-    pub first: u8,
-    pub second: u8,
-}
+ghost use Rattle.codes.specs.Steps.Taken.{FirstCode, oneCharacter};
+ghost use Rattle.codes.specs.Steps.Words.{SkimsInto, Begun, CountedTo, LaidTo};
+ghost use Rattle.full_ascii.specs.Table.{table, scheme};
+ghost use Rattle.full_ascii_reader.specs.Steps.Passing.{Plain, Skims};
 
 // A code that says one character.
 fn one_character(width: u64, first: u8) -> Code
@@ -39,7 +34,7 @@ fn one_character(width: u64, first: u8) -> Code
 // The code that begins nine bits: any nine bits begin one.
 fn first_code(w: u64) -> Code
     requires { ⌜ w < 512 ⌝ }
-    ensures { λ r. ⌜ FirstCode w r ⌝ }
+    ensures { λ r. ⌜ FirstCode table w r ⌝ }
 {
     if w < 256 {
         return one_character(6, (w / 8 + 32) as u8);
@@ -63,7 +58,7 @@ fn first_code(w: u64) -> Code
 // The code of six or seven bits that begins seven: any seven bits that are not all ones begin one.
 fn first_plain(bits: u64) -> Code
     requires { ⌜ bits < 127 ⌝ }
-    ensures { λ r. ⌜ (r .width ≤ 7) × (r .count ≡ 1) × ((w : ℕ) → w / 4 ≡ bits → FirstCode w r) ⌝ }
+    ensures { λ r. ⌜ (6 ≤ r .width) × (r .width ≤ 7) × (r .count ≡ 1) × ((w : ℕ) → w / 4 ≡ bits → FirstCode table w r) ⌝ }
 {
     let width = 6 + bits / 64;
     if bits < 64 {
@@ -89,12 +84,6 @@ fn plain(held: u64) -> bool
     let two = held & (held >> 1);
     let four = two & (two >> 2);
     four & (four >> 3) == 0
-}
-
-// What codes leave of the bits of a number, and how many characters they say.
-struct Skimmed {
-    pub left: u64,
-    pub count: usize,
 }
 
 // Eight codes of six or seven bits passed.
@@ -140,17 +129,10 @@ fn skim(held: u64, have: u64) -> Skimmed
     skim_each(held, have)
 }
 
-// How far a reading has come: the next byte, how many of its bits are passed, and the characters so far.
-struct Place {
-    pub next: usize,
-    pub skip: u64,
-    pub n: usize,
-}
-
 // The codes passed, up to fewer than eight bytes before the end.
 fn measure_words(s: &[u8]) -> Place
     requires { ⌜ length (now s) < countable ⌝ }
-    ensures { λ r. ⌜ CountedTo (now (s .entry)) r ⌝ }
+    ensures { λ r. ⌜ CountedTo scheme (now (s .entry)) r ⌝ }
 {
     let mut next: usize = 0;
     let mut skip: u64 = 0;
@@ -163,24 +145,6 @@ fn measure_words(s: &[u8]) -> Place
         n += w.count;
     }
     Place { next, skip, n }
-}
-
-// The last bits in a buffer: those of fewer than eight bytes.
-fn last_bits(s: &[u8], place: Place) -> Buffer
-    requires { ⌜ NearEnd (now s) place ⌝ }
-    ensures { λ r. ⌜ Last (now (s .entry)) place r ⌝ }
-{
-    let mut held: u64 = 0;
-    let mut next = place.next;
-    while next < s.len() {
-        held = bit_buffer::push(held, s[next] as u64, 8);
-        next += 1;
-    }
-    Buffer {
-        held,
-        have: (next - place.next) as u64 * 8 - place.skip,
-        next,
-    }
 }
 
 // What the last bits come to, `have` of them.
@@ -209,36 +173,22 @@ pub fn measure(s: &[u8]) -> Measured
     ensures { λ r. ⌜ Measures scheme (bits (now (s .entry))) r ⌝ }
 {
     let place = measure_words(s);
-    let b = last_bits(s, place);
+    let b = bit_buffer::last_bits(s, place);
     let last = measure_last(b.held, b.have);
-    match last {
-        Measured::Text(k) => Measured::Text(place.n + k),
-        Measured::Malformed(i) => Measured::Malformed(s.len() * 8 - b.have as usize + i),
-    }
-}
-
-// The one or two characters of a code, from place n on.
-fn put(out: &mut [u8], n: usize, c: Code)
-    requires { ⌜ (1 ≤ c .count) × (c .count ≤ 2) × (n + c .count ≤ length (now out)) ⌝ }
-    ensures { λ r. ⌜ now (out .exit) ≡ laid (now (out .entry)) n (charactersOf c) ⌝ }
-{
-    out[n] = c.first;
-    if c.count == 2 {
-        out[n + 1] = c.second;
-    }
+    bit_buffer::with_front(last, place.n, s.len() * 8 - b.have as usize)
 }
 
 // The characters of eight codes of six or seven bits, from place n on.
 fn put_plain(held: u64, have: u64, out: &mut [u8], n: usize) -> Skimmed
-    requires { ⌜ (57 ≤ have) × (have ≤ 64) × Plain held × (n ≤ length (now out)) × Begun held have (length (now out) - n) ⌝ }
-    ensures { λ r. ⌜ SkimsInto held have (now (out .entry)) (now (out .exit)) n r ⌝ }
+    requires { ⌜ (57 ≤ have) × (have ≤ 64) × Plain held × (n ≤ length (now out)) × Begun scheme held have (length (now out) - n) ⌝ }
+    ensures { λ r. ⌜ SkimsInto scheme held have (now (out .entry)) (now (out .exit)) n r ⌝ }
 {
     let mut top = held << (64 - have);
     let mut left = have;
     let mut count: usize = 0;
     while count < 8 {
         let c = first_plain(top >> 57);
-        put(out, n + count, c);
+        bit_buffer::put(out, n + count, c);
         top = top << c.width;
         left -= c.width;
         count += c.count;
@@ -248,14 +198,14 @@ fn put_plain(held: u64, have: u64, out: &mut [u8], n: usize) -> Skimmed
 
 // The characters of codes one by one, as long as there are nine bits.
 fn put_each(held: u64, have: u64, out: &mut [u8], n: usize) -> Skimmed
-    requires { ⌜ (have ≤ 64) × (n ≤ length (now out)) × Begun held have (length (now out) - n) ⌝ }
-    ensures { λ r. ⌜ SkimsInto held have (now (out .entry)) (now (out .exit)) n r ⌝ }
+    requires { ⌜ (have ≤ 64) × (n ≤ length (now out)) × Begun scheme held have (length (now out) - n) ⌝ }
+    ensures { λ r. ⌜ SkimsInto scheme held have (now (out .entry)) (now (out .exit)) n r ⌝ }
 {
     let mut left = have;
     let mut count: usize = 0;
     while 9 <= left {
         let c = first_code(bit_buffer::window(held, left));
-        put(out, n + count, c);
+        bit_buffer::put(out, n + count, c);
         left -= c.width;
         count += c.count;
     }
@@ -264,8 +214,8 @@ fn put_each(held: u64, have: u64, out: &mut [u8], n: usize) -> Skimmed
 
 // The characters of the codes in the lowest `have` bits of a number, up to its last few bits.
 fn put_word(held: u64, have: u64, out: &mut [u8], n: usize) -> Skimmed
-    requires { ⌜ (57 ≤ have) × (have ≤ 64) × (n ≤ length (now out)) × Begun held have (length (now out) - n) ⌝ }
-    ensures { λ r. ⌜ SkimsInto held have (now (out .entry)) (now (out .exit)) n r ⌝ }
+    requires { ⌜ (57 ≤ have) × (have ≤ 64) × (n ≤ length (now out)) × Begun scheme held have (length (now out) - n) ⌝ }
+    ensures { λ r. ⌜ SkimsInto scheme held have (now (out .entry)) (now (out .exit)) n r ⌝ }
 {
     if plain(held) {
         return put_plain(held, have, out, n);
@@ -276,7 +226,7 @@ fn put_word(held: u64, have: u64, out: &mut [u8], n: usize) -> Skimmed
 // The text of the codes up to fewer than eight bytes before the end.
 fn read_words(s: &[u8], out: &mut [u8]) -> Place
     requires { ⌜ Readable scheme (bits (now s)) (length (now out)) ⌝ }
-    ensures { λ r. ⌜ LaidTo (now (s .entry)) (now (out .entry)) (now (out .exit)) r ⌝ }
+    ensures { λ r. ⌜ LaidTo scheme (now (s .entry)) (now (out .entry)) (now (out .exit)) r ⌝ }
 {
     let mut next: usize = 0;
     let mut skip: u64 = 0;
@@ -303,7 +253,7 @@ fn read_last(held: u64, have: u64, out: &mut [u8], n: usize) -> usize
             return at;
         }
         let c = first_code(bit_buffer::window(held, left));
-        put(out, at, c);
+        bit_buffer::put(out, at, c);
         left -= c.width;
         at += c.count;
     }
@@ -315,6 +265,6 @@ pub fn put_text(s: &[u8], out: &mut [u8]) -> usize
     ensures { λ r. ⌜ Placed scheme (bits (now (s .entry))) (now (out .entry)) (now (out .exit)) 0 r ⌝ }
 {
     let place = read_words(s, out);
-    let b = last_bits(s, place);
+    let b = bit_buffer::last_bits(s, place);
     read_last(b.held, b.have, out, place.n)
 }

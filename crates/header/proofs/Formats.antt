@@ -4,7 +4,7 @@ use mathlib.Core.Path.{_≡_, refl, sym, ap, _∙_}
 use Prim.Native.Nat.{ℕ, zero, suc, _^_, _<_}
 use native.Mathlib.Omega.{arith}
 use Rattle.header.specs.declared.Format.{Format}
-use Rattle.header.specs.declared.Format.the-variants.{Open, PseudoBinary, FullAscii}
+use Rattle.header.specs.declared.Format.the-variants.{Open, PseudoBinary, Numeric, Shef, FullAscii}
 use Rattle.header.specs.declared.Header.{Header}
 use Rattle.header.specs.declared.WhichFormat.{WhichFormat}
 use Rattle.header.specs.declared.WhichFormat.the-variants.{Ours, Foreign}
@@ -14,12 +14,16 @@ use Rattle.header.specs.Formats.{formatNumber, FormatOfNumber, HasFormat
 formatFrom : ℕ → Format
 formatFrom zero = Open
 formatFrom (suc zero) = PseudoBinary
-formatFrom (suc (suc n)) = FullAscii
+formatFrom (suc (suc zero)) = Numeric
+formatFrom (suc (suc (suc zero))) = Shef
+formatFrom (suc (suc (suc (suc n)))) = FullAscii
 
 from-number : (format : Format) → formatFrom (formatNumber format) ≡ format
 unfolding formatFrom
 from-number Open = refl
 from-number PseudoBinary = refl
+from-number Numeric = refl
+from-number Shef = refl
 from-number FullAscii = refl
 
 pub one-number : (a b : Format) → formatNumber a ≡ formatNumber b → a ≡ b
@@ -28,6 +32,8 @@ one-number a b e = sym (from-number a) ∙ ap formatFrom e ∙ from-number b
 pub number-lt : (format : Format) → formatNumber format < 2 ^ 3
 number-lt Open = omega arith
 number-lt PseudoBinary = omega arith
+number-lt Numeric = omega arith
+number-lt Shef = omega arith
 number-lt FullAscii = omega arith
 
 pub one-format : {f : Header} {a b : Format} → HasFormat f a → HasFormat f b → a ≡ b

@@ -1,10 +1,11 @@
--- The formats and their numbers (001, 3.1, Table 2): type 10 is binary; extended type 000 is Open, 001 Compact Pseudo Binary, 100 Compact Full ASCII.
+-- The formats and their numbers (001, 3.1, Table 2): type 10 is binary; extended type 000 is Open, 001 Compact Pseudo Binary, 010 Compact
+-- Numeric ASCII, 011 Compact SHEF Alphanumeric ASCII, 100 Compact Full ASCII.
 -- Assumes nothing.
 use mathlib.Core.Bool.{false}
 use mathlib.Core.Path.{_≡_}
 use Prim.Native.Nat.{ℕ}
 use Rattle.header.specs.declared.Format.{Format}
-use Rattle.header.specs.declared.Format.the-variants.{Open, PseudoBinary, FullAscii}
+use Rattle.header.specs.declared.Format.the-variants.{Open, PseudoBinary, Numeric, Shef, FullAscii}
 use Rattle.header.specs.declared.Header.{Header}
 use Rattle.header.specs.declared.WhichFormat.{WhichFormat}
 use Rattle.header.specs.declared.WhichFormat.the-variants.{Ours, Foreign}
@@ -12,6 +13,8 @@ use Rattle.header.specs.declared.WhichFormat.the-variants.{Ours, Foreign
 abbrev pub formatNumber : Format → ℕ
 formatNumber Open = 0
 formatNumber PseudoBinary = 1
+formatNumber Numeric = 2
+formatNumber Shef = 3
 formatNumber FullAscii = 4
 
 -- the format of a number, or that there is none

@@ -11,6 +11,8 @@ ghost use Rattle.header.specs.Steps.Differences.{Multiple, differenceIn,
 pub enum Format {
     Open,
     PseudoBinary,
+    Numeric,
+    Shef,
     FullAscii,
 }
 
@@ -40,6 +42,10 @@ impl Header {
     pub const OPEN: u32 = 0;
 
     pub const PSEUDO_BINARY: u32 = 1;
+
+    pub const NUMERIC: u32 = 2;
+
+    pub const SHEF: u32 = 3;
 
     pub const FULL_ASCII: u32 = 4;
     // x^10 + x^9 + x^8 + x^6 + x^5 + x^3 + 1, of the check bits.
@@ -94,6 +100,8 @@ impl Header {
         match number {
             Header::OPEN => WhichFormat::Ours(Format::Open),
             Header::PSEUDO_BINARY => WhichFormat::Ours(Format::PseudoBinary),
+            Header::NUMERIC => WhichFormat::Ours(Format::Numeric),
+            Header::SHEF => WhichFormat::Ours(Format::Shef),
             Header::FULL_ASCII => WhichFormat::Ours(Format::FullAscii),
             _ => WhichFormat::Foreign,
         }
@@ -106,6 +114,8 @@ impl Header {
         match format {
             Format::Open => Header::OPEN,
             Format::PseudoBinary => Header::PSEUDO_BINARY,
+            Format::Numeric => Header::NUMERIC,
+            Format::Shef => Header::SHEF,
             Format::FullAscii => Header::FULL_ASCII,
         }
     }

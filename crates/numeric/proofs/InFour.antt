@@ -13,7 +13,7 @@ use Rattle.codes.specs.Chain.{Entry, codes}
 use Rattle.codes.specs.Coded.{lastOf}
 use Rattle.codes.specs.Consecutive.{codeFor, consecutive}
 use Rattle.codes.specs.LineEnds.{eachAfter, ended}
-use Rattle.codes.specs.Lookup.{same, found, saying}
+use Rattle.codes.specs.Lookup.{same, found, first, saying}
 use Rattle.codes.specs.Pack.{Binary, low, numbers, written}
 use Rattle.codes.proofs.BitsInBytes.{binary, length-written}
 use Rattle.codes.proofs.EachAfter.{each-append, each-every, each-next, each-end}
@@ -46,14 +46,14 @@ in-four-length base t =
 
 -- what goes for a text are base characters
 base-of-base : (text : List ℕ) → T (every isBase (baseOf text))
-unfolding baseOf own isBase translation itself specials sent table consecutive codeFor characters numbers saying same found every
+unfolding baseOf own isBase translation itself specials sent table consecutive codeFor characters numbers saying same found every first
 base-of-base text =
     codes-every isBase (eachAfter own 0 text)
     (each-every (λ (e : Entry). every isBase (e .code)) own
     (λ b c. saying-every (λ (e : Entry). every isBase (e .code)) translation tt (ended b c)) 0 text)
 
 evened-base : (n : ℕ) → T (every isBase (evened n))
-unfolding evened isBase table consecutive codeFor characters numbers saying same found every
+unfolding evened isBase table consecutive codeFor characters numbers saying same found every first
 evened-base n = pick (eqb (n % 2) 1)
   where
     pick : (b : Bool) → T (every isBase (cond b (32 ∷ []) []))
@@ -75,7 +75,7 @@ pub pad-length : (n : ℕ) → length (inFour (evened n)) ≡ 4 * (n % 2)
 pad-length n = in-four-length (evened n) (evened-base n) ∙ ap (λ (k : ℕ). 4 * k) (evened-length n)
 
 pub pad-odd : (n : ℕ) → n % 2 ≡ 1 → inFour (evened n) ≡ low 4 10
-unfolding inFour evened eachAfter table consecutive codeFor characters numbers saying same codes low bit
+unfolding inFour evened eachAfter table consecutive codeFor characters numbers saying same codes low bit first
 pad-odd n h = ap (λ (b : Bool). inFour (cond b (32 ∷ []) [])) (eq-eqb (n % 2) 1 h)
 
 pub pad-even : (n : ℕ) → n % 2 ≡ 0 → inFour (evened n) ≡ []

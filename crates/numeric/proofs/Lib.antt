@@ -1,2 +1,6 @@
+pub mod Clashes
+pub mod Data
 pub mod InFour
 pub mod Table
+pub mod Translation
+pub mod Writer

@@ -10,7 +10,7 @@ use lib.ListN.{length, getD}
 use Rattle.codes.specs.Chain.{Entry, codes}
 use Rattle.codes.specs.Coded.{alone, CodedBelow}
 use Rattle.codes.specs.LineEnds.{ended}
-use Rattle.codes.specs.Lookup.{same, found, saying}
+use Rattle.codes.specs.Lookup.{same, found, first, saying}
 use Rattle.codes.specs.Pack.{numbers}
 use Rattle.codes.specs.Steps.Summed.{sumAfter}
 use Rattle.bits.proofs.Said.{and-left, and-right}
@@ -41,7 +41,7 @@ unfolding own
 own-same before c e = ap (saying translation) (ended-same before c e)
 
 pub own-nothing : (before c : ℕ) → (eqb before 13 && eqb c 10) ≡ true → own before c ≡ []
-unfolding translation itself specials sent characters numbers ended saying same own
+unfolding translation itself specials sent characters numbers ended saying same own first
 own-nothing before c e =
     let both : T (eqb before 13 && eqb c 10) = subst⁻¹ T e tt in
     let nothing : own 13 10 ≡ [] = refl in
@@ -55,7 +55,7 @@ abbrev counted : ℕ → Bool
 counted c = eqb (codesFor 0 c) (cond (ofSigns c || eqb c 58) 2 1)
 
 all-counted : T (every (λ (c : ℕ). not (stands c) || counted c) (numbers 0 256))
-unfolding translation itself specials sent characters numbers ended saying same found own codes every
+unfolding translation itself specials sent characters numbers ended saying same found own codes every first
 all-counted = tt
 
 pub counts-some : (before c : ℕ) {signs two : Bool} → c < 256 → T (stands c) → (eqb before 13 && eqb c 10) ≡ false → signs ≡ ofSigns c
@@ -73,5 +73,5 @@ base-sum text = each-length own 0 text
 
 -- one a character or more
 pub least-codes : (text : List ℕ) → AllCoded text → length text ≤ length (baseOf text)
-unfolding translation itself specials sent characters numbers same saying codes every long own baseOf
+unfolding translation itself specials sent characters numbers same saying codes every long own baseOf first
 least-codes text h = omega (arith, least-each translation 1 tt (lit≤ tt) text (all-stand text h))

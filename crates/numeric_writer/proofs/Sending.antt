@@ -12,7 +12,7 @@ use Rattle.bits.specs.Word.{bit}
 use Rattle.codes.specs.Chain.{Entry, codes}
 use Rattle.codes.specs.Consecutive.{codeFor, consecutive}
 use Rattle.codes.specs.LineEnds.{eachAfter, ended}
-use Rattle.codes.specs.Lookup.{same, found, saying}
+use Rattle.codes.specs.Lookup.{same, found, first, saying}
 use Rattle.codes.specs.Pack.{low, numbers, written}
 use Rattle.codes.specs.Steps.Sending.{Sends, PutSoFar}
 use Rattle.codes.specs.declared.Held.{Held}
@@ -46,7 +46,7 @@ abbrev plain : ℕ → Bool
 plain c = stands c && leb 32 c
 
 all-go : T (every (λ (c : ℕ). not (plain c) || goes c (getD rows (c % 32) 0)) (numbers 0 256))
-unfolding bitsFor inFour own eachAfter translation itself specials sent table consecutive codeFor characters numbers ended found saying same codes low bit
+unfolding bitsFor inFour own eachAfter translation itself specials sent table consecutive codeFor characters numbers ended found saying same codes low bit first
     every
 all-go = tt
 
@@ -105,7 +105,7 @@ abbrev pair : ℕ → Bool
 pair c = same (bitsFor 0 c) (low 8 0xBB)
 
 all-pairs : T (every (λ (c : ℕ). not (stands c) || pair c) (numbers 0 32))
-unfolding bitsFor inFour own eachAfter translation itself specials sent table consecutive codeFor characters numbers ended found saying same codes low bit
+unfolding bitsFor inFour own eachAfter translation itself specials sent table consecutive codeFor characters numbers ended found saying same codes low bit first
     every
 all-pairs = tt
 

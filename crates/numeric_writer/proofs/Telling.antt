@@ -10,7 +10,7 @@ use lib.Dec.{leb, eqb}
 use borrow.Author.Tests.{ne-eqb}
 use Rattle.codes.specs.Chain.{codes}
 use Rattle.codes.specs.LineEnds.{ended}
-use Rattle.codes.specs.Lookup.{same, found, saying, meaning}
+use Rattle.codes.specs.Lookup.{same, found, first, saying, meaning}
 use Rattle.codes.specs.Pack.{numbers}
 use Rattle.codes.proofs.ByteTests.{same-below}
 use Rattle.codes.proofs.EveryElement.{every}
@@ -30,7 +30,7 @@ clashTest before signs c = (eqb before 43 || eqb before 45) && (signs || (eqb c 
 -- ---- a character of the tables
 
 stands-told : (c : ℕ) → c < 256 → tableTest (ofSigns c) c ≡ stands c
-unfolding translation itself specials sent characters numbers ended saying same found every
+unfolding translation itself specials sent characters numbers ended saying same found every first
 stands-told = same-below 256 (λ (c : ℕ). tableTest (ofSigns c) c) stands tt
 
 pub table-told : (c : ℕ) {signs : Bool} → c < 256 → signs ≡ ofSigns c → tableTest signs c ≡ stands c
@@ -42,20 +42,20 @@ abbrev clash : ℕ → ℕ → Bool
 clash before c = clashes before (codes (own before c))
 
 after-plus : (c : ℕ) → c < 256 → clashTest 43 (ofSigns c) c ≡ clash 43 c
-unfolding translation itself specials sent characters numbers ended saying meaning same found own codes clashes every
+unfolding translation itself specials sent characters numbers ended saying meaning same found own codes clashes every first
 after-plus = same-below 256 (λ (c : ℕ). clashTest 43 (ofSigns c) c) (clash 43) tt
 
 after-minus : (c : ℕ) → c < 256 → clashTest 45 (ofSigns c) c ≡ clash 45 c
-unfolding translation itself specials sent characters numbers ended saying meaning same found own codes clashes every
+unfolding translation itself specials sent characters numbers ended saying meaning same found own codes clashes every first
 after-minus = same-below 256 (λ (c : ℕ). clashTest 45 (ofSigns c) c) (clash 45) tt
 
 after-point : (c : ℕ) → c < 256 → clashTest 46 (ofSigns c) c ≡ clash 46 c
-unfolding translation itself specials sent characters numbers ended saying meaning same found own codes clashes every
+unfolding translation itself specials sent characters numbers ended saying meaning same found own codes clashes every first
 after-point = same-below 256 (λ (c : ℕ). clashTest 46 (ofSigns c) c) (clash 46) tt
 
 -- no other character begins a sequence
 after-other : (before : ℕ) (base : List ℕ) → eqb 43 before ≡ false → eqb 45 before ≡ false → eqb 46 before ≡ false → clashes before base ≡ false
-unfolding clashes specials sent meaning same found
+unfolding clashes specials sent meaning same found first
 after-other before [] p m d = refl
 after-other before (b ∷ base) p m d = rw (p, m, d)
 

@@ -16,7 +16,7 @@ use Rattle.codes.proofs.EveryElement.{every}
 use Rattle.codes.proofs.ReadingAgrees.{Agrees, agrees}
 use Rattle.codes.proofs.BitsInBytes.{gap-few}
 use Rattle.codes.proofs.WriterLaws as writing
-use Rattle.codes.proofs.WriterLaws.{spells, row-coded, WriterFacts, WriterLaws}
+use Rattle.codes.proofs.WriterLaws.{spells, said-coded, WriterFacts, WriterLaws}
 use Rattle.pseudo_binary.specs.Table.{Kind, values, isOf, coded, AllCoded, characterOf, indicator, most, indicators, six, tables, scheme}
 use Rattle.pseudo_binary.specs.Writer.{comesBack, kind, run, besides, oursAfter, ours, Alike}
 use Rattle.pseudo_binary.proofs.Table.{laws, sounds, all-bits}
@@ -119,7 +119,7 @@ writer = record {
   shortest = λ t h es r x says. shortest t es r says;
   nonempty = λ t some h. some;
   kept = λ es r x. refl;
-  coded = row-coded scheme coded all-spell 0 0;
+  coded = said-coded scheme coded all-spell;
   all-bits = all-bits;
   sounds = sounds;
   few = lit< tt;

@@ -1,14 +1,19 @@
 -- What reading rests on holds of Table 6: no code begins another, and none is a fill.
 -- Assumes nothing.
+use Prim.Native.Nat.{ℕ}
+use lib.Dec.{T}
 use Rattle.bits.specs.Word.{bit}
 use Rattle.codes.specs.Consecutive.{codeFor, consecutive}
 use Rattle.codes.specs.Pack.{low, numbers}
 use Rattle.codes.proofs.Beginning.{begun}
+use Rattle.codes.proofs.BitsInBytes.{binary}
 use Rattle.codes.proofs.EveryElement.{every}
 use Rattle.codes.proofs.Fill.{fills}
 use Rattle.codes.proofs.NonemptyText.{Speaks, heard, said, speaks}
 use Rattle.codes.proofs.ReadingAgrees.{Agrees, agrees}
 use Rattle.codes.proofs.SchemeLaws.{Laws, parted, apart, unfilled, tested}
+use Rattle.codes.proofs.SingleTable.{mute}
+use Rattle.codes.proofs.SizeBounds.{brief}
 use Rattle.numeric.specs.Table.{characters}
 use Rattle.shef.specs.Table.{table, scheme}
 
@@ -23,3 +28,16 @@ reading-agrees = agrees laws
 pub sounds : Speaks scheme
 unfolding table consecutive codeFor characters numbers every heard said
 sounds = speaks scheme tt (λ m. tt)
+
+pub mutes : T (every mute table)
+unfolding table consecutive codeFor characters numbers every mute
+mutes = tt
+
+pub all-bits : (m : ℕ) → T (every binary (scheme .table m))
+unfolding table consecutive codeFor characters numbers low bit every binary
+all-bits m = tt
+
+-- no entry says more characters than it has bits
+pub briefs : (m : ℕ) → T (every (brief 1) (scheme .table m))
+unfolding table consecutive codeFor characters numbers low bit every brief
+briefs m = tt

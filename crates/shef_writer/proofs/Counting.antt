@@ -9,7 +9,7 @@ use lib.ListN.{length}
 use Rattle.bits.specs.Word.{bit}
 use Rattle.codes.specs.Chain.{Entry, codes}
 use Rattle.codes.specs.Consecutive.{codeFor, consecutive}
-use Rattle.codes.specs.Lookup.{same, saying}
+use Rattle.codes.specs.Lookup.{first, same, saying}
 use Rattle.codes.specs.Pack.{low, numbers}
 use Rattle.codes.specs.Steps.Summed.{sumAfter}
 use Rattle.codes.proofs.EachAfter.{each-length}
@@ -45,5 +45,5 @@ unfolding ours
 bits-whole t = each-length own 0 t
 
 pub least-bits : (t : List ℕ) → AllCoded t → 3 * length t ≤ length (codes (ours t))
-unfolding table consecutive codeFor characters numbers low bit same saying codes every long ours own coded
+unfolding table consecutive codeFor characters numbers low bit same saying codes every long ours own coded first
 least-bits t h = least-each table 3 tt (lit≤ tt) t h

@@ -10,7 +10,7 @@ use Rattle.bits.proofs.Said.{and-left, and-right}
 use Rattle.codes.specs.Chain.{codes}
 use Rattle.codes.specs.Consecutive.{codeFor, consecutive}
 use Rattle.codes.specs.LineEnds.{ended}
-use Rattle.codes.specs.Lookup.{same, found, saying}
+use Rattle.codes.specs.Lookup.{same, found, first, saying}
 use Rattle.codes.specs.Pack.{Binary, low, value, numbers}
 use Rattle.codes.proofs.BitsInBytes.{binary}
 use Rattle.codes.proofs.ByteTests.{same-below, implied-below}
@@ -30,7 +30,7 @@ codedTest c =
     (eqb c 13 || eqb c 10) || ((eqb c 32 || (eqb c 35 || eqb c 61)) || ((leb 43 c && leb c 59) || (leb 65 c && leb c 90)))
 
 pub coded-told : (c : ℕ) → c < 256 → codedTest c ≡ coded c
-unfolding table consecutive codeFor characters numbers ended saying same found coded every
+unfolding table consecutive codeFor characters numbers ended saying same found coded every first
 coded-told = same-below 256 codedTest coded tt
 
 -- ---- the number that is its code
@@ -45,39 +45,39 @@ number-in a n f t c h k = sym (eqb→eq (number c) (f c) (every-at (λ (x : ℕ)
 -- a line end's, those of three characters, and of three ranges
 module _ (c : ℕ) where
   pub number-return : c ≡ 13 → 58 ≡ number c
-  unfolding table consecutive codeFor characters numbers low bit value ended saying same own codes
+  unfolding table consecutive codeFor characters numbers low bit value ended saying same own codes first
   number-return e = subst⁻¹ (λ (x : ℕ). 58 ≡ number x) e refl
 
   pub number-feed : c ≡ 10 → 58 ≡ number c
-  unfolding table consecutive codeFor characters numbers low bit value ended saying same own codes
+  unfolding table consecutive codeFor characters numbers low bit value ended saying same own codes first
   number-feed e = subst⁻¹ (λ (x : ℕ). 58 ≡ number x) e refl
 
   pub number-space : c ≡ 32 → 10 ≡ number c
-  unfolding table consecutive codeFor characters numbers low bit value ended saying same own codes
+  unfolding table consecutive codeFor characters numbers low bit value ended saying same own codes first
   number-space e = subst⁻¹ (λ (x : ℕ). 10 ≡ number x) e refl
 
   pub number-hash : c ≡ 35 → 59 ≡ number c
-  unfolding table consecutive codeFor characters numbers low bit value ended saying same own codes
+  unfolding table consecutive codeFor characters numbers low bit value ended saying same own codes first
   number-hash e = subst⁻¹ (λ (x : ℕ). 59 ≡ number x) e refl
 
   pub number-equals : c ≡ 61 → 60 ≡ number c
-  unfolding table consecutive codeFor characters numbers low bit value ended saying same own codes
+  unfolding table consecutive codeFor characters numbers low bit value ended saying same own codes first
   number-equals e = subst⁻¹ (λ (x : ℕ). 60 ≡ number x) e refl
 
   pub number-sign : 43 ≤ c → c < 48 → c - 32 ≡ number c
-  unfolding table consecutive codeFor characters numbers low bit value ended saying same own codes every
+  unfolding table consecutive codeFor characters numbers low bit value ended saying same own codes every first
   number-sign h k = number-in 43 5 (λ (x : ℕ). x - 32) tt c h k
 
   pub number-digit : 48 ≤ c → c < 58 → c - 48 ≡ number c
-  unfolding table consecutive codeFor characters numbers low bit value ended saying same own codes every
+  unfolding table consecutive codeFor characters numbers low bit value ended saying same own codes every first
   number-digit h k = number-in 48 10 (λ (x : ℕ). x - 48) tt c h k
 
   pub number-colon : 58 ≤ c → c < 60 → c + 3 ≡ number c
-  unfolding table consecutive codeFor characters numbers low bit value ended saying same own codes every
+  unfolding table consecutive codeFor characters numbers low bit value ended saying same own codes every first
   number-colon h k = number-in 58 2 (λ (x : ℕ). x + 3) tt c h k
 
   pub number-letter : 65 ≤ c → c < 91 → c - 33 ≡ number c
-  unfolding table consecutive codeFor characters numbers low bit value ended saying same own codes every
+  unfolding table consecutive codeFor characters numbers low bit value ended saying same own codes every first
   number-letter h k = number-in 65 26 (λ (x : ℕ). x - 33) tt c h k
 
 -- the others are letters
@@ -111,7 +111,7 @@ letter c h t return feed space hash equals middle =
 
 -- the code of a character that comes after another: none for LF right behind CR, and else what it has by itself
 pub own-none : (before c : ℕ) → (eqb before 13 && eqb c 10) ≡ true → codes (own before c) ≡ []
-unfolding table consecutive codeFor characters numbers ended saying same own codes
+unfolding table consecutive codeFor characters numbers ended saying same own codes first
 own-none before c e =
     let t : T (eqb before 13 && eqb c 10) = subst⁻¹ T e tt in
     subst⁻¹ (λ (b : ℕ). codes (own b c) ≡ []) (eqb→eq before 13 (and-left (eqb before 13) (eqb c 10) t))
@@ -129,7 +129,7 @@ abbrev wideTest : ℕ → Bool
 wideTest c = eqb (bitsFor 0 c) (5 + number c / 32) && eqb (bitsFor 0 c) (cond (sixTest c) 6 5)
 
 width-test : (c : ℕ) → c < 256 → T (coded c) → T (wideTest c)
-unfolding table consecutive codeFor characters numbers low bit value ended saying same found coded own codes every
+unfolding table consecutive codeFor characters numbers low bit value ended saying same found coded own codes every first
 width-test = implied-below 256 coded wideTest tt
 
 either : (b : Bool) → cond b 6 5 ≤ 6
@@ -153,14 +153,14 @@ module _ (c : ℕ) (small : c < 256) (t : T (coded c)) where
 -- ---- what it has in the table
 
 pub coded-low : (c : ℕ) → c < 256 → T (coded c) → c < 91
-unfolding table consecutive codeFor characters numbers ended saying same found coded every
+unfolding table consecutive codeFor characters numbers ended saying same found coded every first
 coded-low c h t = ltb→lt c 91 (implied-below 256 coded (λ (x : ℕ). ltb x 91) tt c h t)
 
 abbrev entryTest : ℕ → Bool
 entryTest c = eqb (entryOf c % 64) (number c) && not (leb 64 (entryOf c) && eqb c 10)
 
 entry-test : (c : ℕ) → c < 256 → T (coded c) → T (entryTest c)
-unfolding table consecutive codeFor characters numbers low bit value ended saying same found coded own codes every entryOf
+unfolding table consecutive codeFor characters numbers low bit value ended saying same found coded own codes every entryOf first
 entry-test = implied-below 256 coded entryTest tt
 
 and-no : (b : Bool) → (b && false) ≡ false

@@ -23,11 +23,26 @@ is-coded-requires c κs = search needs
 enum-told-3 : tie.Need-enum-told-3
 enum-told-3 c = search needs
 
+is-coded-requires-2 : tie.Need-is-coded-requires-2
+is-coded-requires-2 c κs = search needs
+
+enum-told-4 : tie.Need-enum-told-4
+enum-told-4 c = search needs
+
 shared-slice-read-is-coded-2 : tie.Need-shared-slice-read-is-coded-2
 shared-slice-read-is-coded-2 c = search needs
 
-is-coded-requires-2 : tie.Need-is-coded-requires-2
-is-coded-requires-2 c κs = search needs
+is-coded-requires-3 : tie.Need-is-coded-requires-3
+is-coded-requires-3 c κs = search needs
+
+enum-told-5 : tie.Need-enum-told-5
+enum-told-5 c = search needs
+
+shared-slice-read-is-coded-3 : tie.Need-shared-slice-read-is-coded-3
+shared-slice-read-is-coded-3 c = search needs
+
+is-coded-requires-4 : tie.Need-is-coded-requires-4
+is-coded-requires-4 c κs = search needs
 
 returns : tie.Need-returns
 returns c = search needs
@@ -39,8 +54,18 @@ returns-2 c =
 
 returns-3 : tie.Need-returns-3
 returns-3 c =
+    let a = c .before .before .before .before .args in
+    subst⁻¹ (λ (k : Format). c .is-coded2 .result ≡ coded k (take (a .i) (a .text .now)) (getD (a .text .now) (a .i) 0)) (c .before .enum-told3 .given .1) (c .is-coded2 .ensures)
+
+returns-4 : tie.Need-returns-4
+returns-4 c =
     let a = c .before .before .before .before .before .args in
-    subst⁻¹ (λ (k : Format). c .is-coded2 .result ≡ coded k (take (a .i) (a .text .now)) (getD (a .text .now) (a .i) 0)) (c .before .before .enum-told3 .given .1) (c .is-coded2 .ensures)
+    subst⁻¹ (λ (k : Format). c .is-coded3 .result ≡ coded k (take (a .i) (a .text .now)) (getD (a .text .now) (a .i) 0)) (c .before .before .enum-told4 .given .1) (c .is-coded3 .ensures)
+
+returns-5 : tie.Need-returns-5
+returns-5 c =
+    let a = c .before .before .before .before .before .args in
+    subst⁻¹ (λ (k : Format). c .is-coded4 .result ≡ coded k (take (a .i) (a .text .now)) (getD (a .text .now) (a .i) 0)) (c .before .before .enum-told5 .given .1) (c .is-coded4 .ensures)
 
 pub has-code-spec : {M : Type 1} → statement M
 has-code-spec =
@@ -51,8 +76,15 @@ has-code-spec =
     shared-slice-read-is-coded
     is-coded-requires
     enum-told-3
-    shared-slice-read-is-coded-2
     is-coded-requires-2
+    enum-told-4
+    shared-slice-read-is-coded-2
+    is-coded-requires-3
+    enum-told-5
+    shared-slice-read-is-coded-3
+    is-coded-requires-4
     returns
     returns-2
-    returns-3)
+    returns-3
+    returns-4
+    returns-5)

@@ -36,6 +36,18 @@ enum-told-3 c = search needs
 put-data-requires-2 : tie.Need-put-data-requires-2
 put-data-requires-2 c κs = asked (c .before .before .before .before .before) (c .before .enum-told3 .given .1)
 
+enum-told-4 : tie.Need-enum-told-4
+enum-told-4 c = search needs
+
+put-data-requires-3 : tie.Need-put-data-requires-3
+put-data-requires-3 c κs = asked (c .before .before .before .before .before) (c .before .enum-told4 .given .1)
+
+enum-told-5 : tie.Need-enum-told-5
+enum-told-5 c = search needs
+
+put-data-requires-4 : tie.Need-put-data-requires-4
+put-data-requires-4 c κs = asked (c .before .before .before .before .before) (c .before .enum-told5 .given .1)
+
 same-length : tie.Need-same-length
 same-length c = search needs
 
@@ -65,6 +77,26 @@ returns-3 c =
     subst⁻¹ (λ (k : Format). Fronted (dataOf k (a .text .now)) (a .out .now) (r .put-data2 .last .1 .0) (r .put-data2 .result)) (r .before .before .enum-told3 .given .1)
     (r .put-data2 .ensures)
 
+same-length-4 : tie.Need-same-length-4
+same-length-4 c = search needs
+
+returns-4 : tie.Need-returns-4
+returns-4 c =
+    let r = c .before .before in
+    let a = r .before .before .before .before .before .before .args in
+    subst⁻¹ (λ (k : Format). Fronted (dataOf k (a .text .now)) (a .out .now) (r .put-data3 .last .1 .0) (r .put-data3 .result)) (r .before .before .enum-told4 .given .1)
+    (r .put-data3 .ensures)
+
+same-length-5 : tie.Need-same-length-5
+same-length-5 c = search needs
+
+returns-5 : tie.Need-returns-5
+returns-5 c =
+    let r = c .before .before in
+    let a = r .before .before .before .before .before .before .args in
+    subst⁻¹ (λ (k : Format). Fronted (dataOf k (a .text .now)) (a .out .now) (r .put-data4 .last .1 .0) (r .put-data4 .result)) (r .before .before .enum-told5 .given .1)
+    (r .put-data4 .ensures)
+
 pub put-data-spec : {M : Type 1} → statement M
 put-data-spec =
     tie.close
@@ -75,9 +107,17 @@ put-data-spec =
     put-data-requires
     enum-told-3
     put-data-requires-2
+    enum-told-4
+    put-data-requires-3
+    enum-told-5
+    put-data-requires-4
     same-length
     returns
     same-length-2
     returns-2
     same-length-3
-    returns-3)
+    returns-3
+    same-length-4
+    returns-4
+    same-length-5
+    returns-5)

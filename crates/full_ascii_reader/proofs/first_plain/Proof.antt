@@ -16,13 +16,13 @@ cast-t7 : tie.Need-cast-t7
 cast-t7 c = search needs
 
 returns : tie.Need-returns
-returns c = (omega arith, refl, λ w e. takes-lower w (c .before .args .bits) e (omega arith))
+returns c = (omega arith, omega arith, refl, λ w e. takes-lower w (c .before .args .bits) e (omega arith))
 
 cast-t8 : tie.Need-cast-t8
 cast-t8 c = search needs
 
 returns-2 : tie.Need-returns-2
-returns-2 c = (omega arith, refl, λ w e. takes-upper w (c .before .args .bits) e (omega arith) (omega arith))
+returns-2 c = (omega arith, omega arith, refl, λ w e. takes-upper w (c .before .args .bits) e (omega arith) (omega arith))
 
 pub first-plain-spec : {M : Type 1} → statement M
 first-plain-spec = tie.close (tie.spec add-width add-t6 cast-t7 returns cast-t8 returns-2)

@@ -9,14 +9,15 @@ use Rattle.codes.specs.Chain.{Fill}
 use Rattle.codes.specs.Pack.{low}
 use Rattle.codes.proofs.ReadSoFar.{counting-none, counting-end, counting-stuck}
 use Rattle.codes.proofs.LowBits.{length-low}
-use Rattle.full_ascii_reader.specs.Steps.Passing.{CountedSoFar}
+use Rattle.codes.specs.Steps.Passed.{CountedSoFar}
+use Rattle.codes.proofs.TakenCodes.{counted-code, no-code}
 use Rattle.full_ascii.specs.Table.{scheme}
-use Rattle.full_ascii_reader.proofs.Steps.{counted-code, no-code}
+use Rattle.full_ascii.proofs.Table.{laws, mutes}
 use Rattle.full_ascii_reader.proofs.measure_last.Statement.{statement}
 use Rattle.full_ascii_reader.proofs.measure_last.Tie as tie
 
 abbrev Inv-loop : tie.InvT-loop
-Inv-loop held have left₀ n₀ left n = (left ≤ have) × (n + left ≤ have) × CountedSoFar (low have held) (low left held) n
+Inv-loop held have left₀ n₀ left n = (left ≤ have) × (n + left ≤ have) × CountedSoFar scheme (low have held) (low left held) n
 
 abbrev μ-loop : tie.MeasureT-loop
 μ-loop held have left₀ n₀ left n = left
@@ -51,7 +52,7 @@ returns-2 c =
     let rest = low (a .loop .left) held in
     counting-stuck (a .loop .inv .2) _
     (omega (arith, length-low (a .before .args .have) held, length-low (a .loop .left) held))
-    (no-code held (a .loop .left) (f .before .window .result) (f .first-code .result) (f .before .window .ensures) (f .first-code .ensures)
+    (no-code laws held (a .loop .left) (f .before .window .result) (f .first-code .result) (f .before .window .ensures) (f .first-code .ensures)
     (c .if2 .taken))
     (subst (λ (b : Bool). Says b (Fill 7 rest)) (f .before .before .if1 .left) (f .before .before .before .at-end .ensures))
 
@@ -68,7 +69,7 @@ loop-again c =
     let held = a .before .args .held in (
       omega (arith, f .first-code .ensures .short),
       omega (arith, f .first-code .ensures .short, f .first-code .ensures .few),
-      counted-code (low (a .before .args .have) held) held (a .loop .left) (f .before .window .result) (a .loop .n) (f .first-code .result)
+      counted-code mutes (low (a .before .args .have) held) held (a .loop .left) (f .before .window .result) (a .loop .n) (f .first-code .result)
           (a .loop .inv .2) (f .before .window .ensures) (f .first-code .ensures) (c .before .before .if2 .left) (omega arith),
     )
 

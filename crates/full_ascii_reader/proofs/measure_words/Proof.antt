@@ -5,15 +5,16 @@ use native.Mathlib.Omega.{arith}
 use lib.ListN.{length}
 use Rattle.bits.specs.Row.{bits}
 use Rattle.codes.proofs.ReadSoFar.{counting-none}
-use Rattle.full_ascii_reader.specs.Steps.Passing.{CountedSoFar, beyond}
+use Rattle.codes.specs.Steps.Passed.{CountedSoFar}
+use Rattle.codes.specs.Steps.Words.{beyond}
+use Rattle.codes.proofs.PassedWords.{counted-word}
 use Rattle.full_ascii.specs.Table.{scheme}
-use Rattle.full_ascii_reader.proofs.Words.{counted-word}
 use Rattle.full_ascii_reader.proofs.measure_words.Statement.{statement}
 use Rattle.full_ascii_reader.proofs.measure_words.Tie as tie
 
 abbrev Inv-loop : tie.InvT-loop
 Inv-loop s next₀ skip₀ n₀ next skip n =
-    (skip < 8) × (next * 8 + skip ≤ length s * 8) × (n ≤ next * 8 + skip) × CountedSoFar (bits s) (beyond s next skip) n
+    (skip < 8) × (next * 8 + skip ≤ length s * 8) × (n ≤ next * 8 + skip) × CountedSoFar scheme (bits s) (beyond s next skip) n
 
 abbrev μ-loop : tie.MeasureT-loop
 μ-loop s next₀ skip₀ n₀ next skip n = length s * 8 - (next * 8 + skip)

@@ -8,7 +8,7 @@ use Rattle.bits.specs.Row.{bits}
 use Rattle.codes.specs.Steps.Laid.{Readable}
 use Rattle.codes.specs.Pack.{low}
 use Rattle.codes.proofs.ReadSoFar.{laying-later, laying-last}
-use Rattle.full_ascii_reader.specs.Steps.Passing.{LaidSoFar}
+use Rattle.codes.specs.Steps.Passed.{LaidSoFar}
 use Rattle.full_ascii.specs.Table.{scheme}
 use Rattle.full_ascii.proofs.Table.{laws}
 use borrow.Author.Needs.{needs}
@@ -23,13 +23,13 @@ last-bits-requires c κs = search needs
 
 -- the codes that were passed leave the last bits, and their text is laid
 laying : (b : tie.After-last-bits)
-    → LaidSoFar (bits (b .before .before .before .before .before .before .before .args .s .now))
+    → LaidSoFar scheme (bits (b .before .before .before .before .before .before .before .args .s .now))
     (low (b .last-bits .result .have) (b .last-bits .result .held)) (b .before .before .before .before .before .before .before .args .out .now)
     (b .before .before .before .read-words .last .1 .0) 0 (b .before .before .before .read-words .result .n)
 laying b =
     let w = b .before .before .before in
     let e = w .before .before .before .before in
-    subst⁻¹ (λ (l : List ℕ). LaidSoFar (bits (e .args .s .now)) l (e .args .out .now) (w .read-words .last .1 .0) 0 (w .read-words .result .n))
+    subst⁻¹ (λ (l : List ℕ). LaidSoFar scheme (bits (e .args .s .now)) l (e .args .out .now) (w .read-words .last .1 .0) 0 (w .read-words .result .n))
     (b .last-bits .ensures .same) (w .read-words .ensures .2)
 
 read-last-requires : tie.Need-read-last-requires

@@ -11,17 +11,17 @@ use Rattle.codes.specs.Chain.{Fill}
 use Rattle.codes.specs.Steps.Laid.{laid}
 use Rattle.codes.specs.Pack.{low}
 use Rattle.codes.proofs.ReadSoFar.{laying-none, laying-length, laying-end, laying-later, laying-within}
-use Rattle.full_ascii_reader.specs.Steps.Passing.{LaidSoFar}
+use Rattle.codes.specs.Steps.Passed.{LaidSoFar}
+use Rattle.codes.specs.Steps.Taken.{charactersOf}
+use Rattle.codes.proofs.TakenCodes.{laying-code, code-there}
 use Rattle.full_ascii.specs.Table.{scheme}
-use Rattle.full_ascii_reader.specs.Steps.Taken.{charactersOf}
-use Rattle.full_ascii_reader.proofs.Laying.{laying-code, code-there}
-use Rattle.full_ascii.proofs.Table.{laws}
+use Rattle.full_ascii.proofs.Table.{laws, mutes}
 use Rattle.full_ascii_reader.proofs.read_last.Statement.{statement}
 use Rattle.full_ascii_reader.proofs.read_last.Tie as tie
 
 abbrev Inv-loop : tie.InvT-loop
 Inv-loop held have out₀ n left₀ at₀ out left at =
-    (left ≤ have) × (at ≤ length out₀) × LaidSoFar (low have held) (low left held) out₀ out n at
+    (left ≤ have) × (at ≤ length out₀) × LaidSoFar scheme (low have held) (low left held) out₀ out n at
 
 abbrev μ-loop : tie.MeasureT-loop
 μ-loop held have out₀ n left₀ at₀ out left at = left
@@ -57,13 +57,13 @@ there f =
     let e = a .before .before in
     let rest = low (a .loop .left) (e .args .held) in
     let room = length (e .args .out .now) - e .args .n in
-    code-there (e .args .held) (a .loop .left) (f .before .window .result) (f .first-code .result) (e .args .n + room - a .loop .at)
+    code-there laws (e .args .held) (a .loop .left) (f .before .window .result) (f .first-code .result) (e .args .n + room - a .loop .at)
     (f .before .window .ensures) (f .first-code .ensures)
     (laying-later (a .loop .inv .2) laws (e .pre .2))
     (subst (λ (b : Bool). Says b (Fill 7 rest)) (f .before .before .if1 .left) (f .before .before .before .at-end .ensures))
 
 step : (f : tie.After-first-code Inv-loop μ-loop)
-    → LaidSoFar (low (f .before .before .before .before .before .before .args .have) (f .before .before .before .before .before .before .args .held))
+    → LaidSoFar scheme (low (f .before .before .before .before .before .before .args .have) (f .before .before .before .before .before .before .args .held))
     (low (f .before .before .before .before .loop .left - f .first-code .result .width)
     (f .before .before .before .before .before .before .args .held))
     (f .before .before .before .before .before .before .args .out .now)
@@ -72,7 +72,7 @@ step : (f : tie.After-first-code Inv-loop μ-loop)
 step f =
     let a = f .before .before .before .before in
     let e = a .before .before in
-    laying-code (low (e .args .have) (e .args .held)) (e .args .out .now) (a .loop .out) (e .args .n) (a .loop .at) (e .args .held) (a .loop .left)
+    laying-code mutes (low (e .args .have) (e .args .held)) (e .args .out .now) (a .loop .out) (e .args .n) (a .loop .at) (e .args .held) (a .loop .left)
     (f .before .window .result) (f .first-code .result) (f .before .window .ensures) (f .first-code .ensures) (a .loop .inv .2) (there f)
     (a .loop .inv .1)
 
@@ -109,7 +109,7 @@ loop-again c =
     let e = a .before .before in (
       omega arith,
       room f,
-      subst⁻¹ (λ (l : List ℕ). LaidSoFar (low (e .args .have) (e .args .held)) (low (a .loop .left - f .first-code .result .width) (e .args .held))
+      subst⁻¹ (λ (l : List ℕ). LaidSoFar scheme (low (e .args .have) (e .args .held)) (low (a .loop .left - f .first-code .result .width) (e .args .held))
           (e .args .out .now) l (e .args .n) (a .loop .at + f .first-code .result .count)) (c .before .before .before .before .put .ensures) (step f),
     )
 

@@ -7,16 +7,17 @@ use lib.ListN.{length}
 use Rattle.bits.specs.Row.{bits}
 use Rattle.codes.specs.Steps.Laid.{Readable}
 use Rattle.codes.proofs.ReadSoFar.{laying-none, laying-length, laying-later, laying-within}
-use Rattle.full_ascii_reader.specs.Steps.Passing.{LaidSoFar, beyond}
+use Rattle.codes.specs.Steps.Passed.{LaidSoFar}
+use Rattle.codes.specs.Steps.Words.{beyond}
+use Rattle.codes.proofs.PassedWords.{laying-word, begun-word}
 use Rattle.full_ascii.specs.Table.{scheme}
-use Rattle.full_ascii_reader.proofs.Words.{laying-word, begun-word}
 use Rattle.full_ascii.proofs.Table.{laws}
 use Rattle.full_ascii_reader.proofs.read_words.Statement.{statement}
 use Rattle.full_ascii_reader.proofs.read_words.Tie as tie
 
 abbrev Inv-loop : tie.InvT-loop
 Inv-loop s out₀ next₀ skip₀ n₀ out next skip n =
-    (skip < 8) × (next * 8 + skip ≤ length s * 8) × (n ≤ length out₀) × LaidSoFar (bits s) (beyond s next skip) out₀ out 0 n
+    (skip < 8) × (next * 8 + skip ≤ length s * 8) × (n ≤ length out₀) × LaidSoFar scheme (bits s) (beyond s next skip) out₀ out 0 n
 
 abbrev μ-loop : tie.MeasureT-loop
 μ-loop s out₀ next₀ skip₀ n₀ out next skip n = length s * 8 - (next * 8 + skip)
@@ -57,7 +58,7 @@ put-word-requires c κs =
 
 -- the codes of the number passed: what is laid with them, and the room for it
 step : (f : tie.After-put-word Inv-loop μ-loop)
-    → LaidSoFar (bits (f .before .before .before .before .before .before .before .args .s .now))
+    → LaidSoFar scheme (bits (f .before .before .before .before .before .before .before .args .s .now))
     (beyond (f .before .before .before .before .before .before .before .args .s .now)
     (f .before .before .before .before .loop .next + (64 - f .put-word .result .left) / 8) ((64 - f .put-word .result .left) % 8))
     (f .before .before .before .before .before .before .before .args .out .now) (f .put-word .last .1 .1 .0) 0

@@ -4,14 +4,15 @@ use Prim.Native.Nat.{_+_, _≤_}
 use native.Mathlib.Omega.{arith}
 use Rattle.codes.specs.Pack.{low}
 use Rattle.codes.proofs.ReadSoFar.{counting-none}
-use Rattle.full_ascii_reader.specs.Steps.Passing.{CountedSoFar}
+use Rattle.codes.specs.Steps.Passed.{CountedSoFar}
+use Rattle.codes.proofs.TakenCodes.{counted-code}
 use Rattle.full_ascii.specs.Table.{scheme}
-use Rattle.full_ascii_reader.proofs.Steps.{counted-code}
+use Rattle.full_ascii.proofs.Table.{mutes}
 use Rattle.full_ascii_reader.proofs.skim_each.Statement.{statement}
 use Rattle.full_ascii_reader.proofs.skim_each.Tie as tie
 
 abbrev Inv-loop : tie.InvT-loop
-Inv-loop held have left₀ count₀ left count = (count + left ≤ have) × CountedSoFar (low have held) (low left held) count
+Inv-loop held have left₀ count₀ left count = (count + left ≤ have) × CountedSoFar scheme (low have held) (low left held) count
 
 abbrev μ-loop : tie.MeasureT-loop
 μ-loop held have left₀ count₀ left count = left
@@ -41,7 +42,7 @@ loop-again c =
     let held = a .before .args .held in
     let t = f .first-code .ensures in (
       omega (arith, t .short, t .long, t .few),
-      counted-code (low (a .before .args .have) held) held (a .loop .left) (f .before .window .result) (a .loop .count) (f .first-code .result)
+      counted-code mutes (low (a .before .args .have) held) held (a .loop .left) (f .before .window .result) (a .loop .count) (f .first-code .result)
           (a .loop .inv .1) (f .before .window .ensures) t (omega (arith, t .long)) (omega arith),
     )
 

@@ -6,18 +6,20 @@ use native.Mathlib.Omega.{arith}
 use Rattle.codes.specs.Steps.BitBuffer.{Window}
 use Rattle.codes.specs.Pack.{low}
 use Rattle.codes.proofs.ReadSoFar.{counting-none}
-use Rattle.full_ascii_reader.specs.Steps.Passing.{CountedSoFar}
-use Rattle.full_ascii.specs.Table.{scheme}
-use Rattle.full_ascii_reader.specs.Steps.Taken.{FirstCode}
-use Rattle.full_ascii_reader.proofs.Seven.{top-seven, seven-takes, top-on}
-use Rattle.full_ascii_reader.proofs.Steps.{counted-code}
+use Rattle.codes.proofs.EightBytes.{top-bits, top-on}
+use Rattle.codes.specs.Steps.Passed.{CountedSoFar}
+use Rattle.codes.specs.Steps.Taken.{FirstCode}
+use Rattle.codes.proofs.TakenCodes.{counted-code}
+use Rattle.full_ascii.specs.Table.{table, scheme}
+use Rattle.full_ascii.proofs.Table.{mutes}
+use Rattle.full_ascii_reader.proofs.Seven.{seven-takes}
 use Rattle.full_ascii_reader.proofs.skim_plain.Statement.{statement}
 use Rattle.full_ascii_reader.proofs.skim_plain.Tie as tie
 
 abbrev Inv-loop : tie.InvT-loop
 Inv-loop held have top₀ left₀ count₀ top left count =
     (left + 6 * count ≤ have) × (have ≤ left + 7 * count) × (count ≤ 8) × (top ≡ held * 2 ^ (64 - left) % 2 ^ 64)
-    × CountedSoFar (low have held) (low left held) count
+    × CountedSoFar scheme (low have held) (low left held) count
 
 abbrev μ-loop : tie.MeasureT-loop
 μ-loop held have top₀ left₀ count₀ top left count = 8 - count
@@ -34,28 +36,28 @@ loop-holds c = (omega arith, omega arith, omega arith, refl, counting-none schem
 first-plain-requires : tie.Need-first-plain-requires Inv-loop μ-loop
 first-plain-requires c κs =
     let a = c .before in
-    subst⁻¹ (λ (n : ℕ). n < 127) (top-seven (a .before .args .held) (a .loop .left) (a .loop .top) (omega arith) (omega arith) (a .loop .inv .3))
+    subst⁻¹ (λ (n : ℕ). n < 127) (top-bits (a .before .args .held) (a .loop .left) (a .loop .top) 7 (omega arith) (omega arith) (a .loop .inv .3))
     (a .before .pre .2 (a .loop .left - 7))
 
 -- the code is that of the window, and its bits are there
 taken : (f : tie.After-first-plain Inv-loop μ-loop)
-    → (w : ℕ) × Window (f .before .before .before .args .held) (f .before .before .loop .left) w × FirstCode w (f .first-plain .result)
+    → (w : ℕ) × Window (f .before .before .before .args .held) (f .before .before .loop .left) w × FirstCode table w (f .first-plain .result)
 taken f =
     let a = f .before .before in
     seven-takes (a .before .args .held) (a .loop .left) (a .loop .top) (f .first-plain .result) (omega arith) (omega arith) (a .loop .inv .3)
-    (f .first-plain .ensures .2)
+    (f .first-plain .ensures .3)
 
 shl-top-2 : tie.Need-shl-top-2 Inv-loop μ-loop
-shl-top-2 c = omega (arith, c .before .first-plain .ensures .0)
+shl-top-2 c = omega (arith, c .before .first-plain .ensures .1)
 
 sub-left : tie.Need-sub-left Inv-loop μ-loop
-sub-left c = omega (arith, c .before .before .first-plain .ensures .0)
+sub-left c = omega (arith, c .before .before .first-plain .ensures .1)
 
 add-count : tie.Need-add-count Inv-loop μ-loop
-add-count c = omega (arith, c .before .before .before .first-plain .ensures .1)
+add-count c = omega (arith, c .before .before .before .first-plain .ensures .2)
 
 loop-less : tie.Need-loop-less Inv-loop μ-loop
-loop-less c = omega (arith, c .before .before .before .first-plain .ensures .1)
+loop-less c = omega (arith, c .before .before .before .first-plain .ensures .2)
 
 loop-again : tie.Need-loop-again Inv-loop μ-loop
 loop-again c =
@@ -64,12 +66,12 @@ loop-again c =
     let held = a .before .args .held in
     let r = f .first-plain .result in
     let t = taken f in (
-      omega (arith, f .first-plain .ensures .0, f .first-plain .ensures .1, t .2 .short),
-      omega (arith, f .first-plain .ensures .0, f .first-plain .ensures .1),
-      omega (arith, f .first-plain .ensures .1),
-      top-on held (a .loop .left) (a .loop .top) (r .width) (omega (arith, f .first-plain .ensures .0)) (omega arith) (a .loop .inv .3),
-      counted-code (low (a .before .args .have) held) held (a .loop .left) (t .0) (a .loop .count) r (a .loop .inv .4) (t .1) (t .2)
-          (omega (arith, f .first-plain .ensures .0)) (omega arith),
+      omega (arith, f .first-plain .ensures .1, f .first-plain .ensures .2, f .first-plain .ensures .0),
+      omega (arith, f .first-plain .ensures .1, f .first-plain .ensures .2),
+      omega (arith, f .first-plain .ensures .2),
+      top-on held (a .loop .left) (a .loop .top) (r .width) (omega (arith, f .first-plain .ensures .1)) (omega arith) (a .loop .inv .3),
+      counted-code mutes (low (a .before .args .have) held) held (a .loop .left) (t .0) (a .loop .count) r (a .loop .inv .4) (t .1) (t .2)
+          (omega (arith, f .first-plain .ensures .1)) (omega arith),
     )
 
 returns : tie.Need-returns Inv-loop μ-loop

@@ -10,7 +10,7 @@ use Rattle.bits.specs.Word.{bit}
 use Rattle.codes.specs.Chain.{codes}
 use Rattle.codes.specs.Consecutive.{codeFor, consecutive}
 use Rattle.codes.specs.LineEnds.{ended}
-use Rattle.codes.specs.Lookup.{same, found, saying}
+use Rattle.codes.specs.Lookup.{same, found, first, saying}
 use Rattle.codes.specs.Pack.{low, value, numbers}
 use Rattle.codes.specs.Steps.Sending.{PutSoFar}
 use Rattle.codes.proofs.EachAfter.{each-end}
@@ -30,7 +30,7 @@ abbrev μ-loop : tie.MeasureT-loop
 μ-loop text out₀ table b₀ i₀ out b i = length text - i
 
 loop-holds : tie.Need-loop-holds Inv-loop μ-loop
-unfolding table consecutive codeFor characters numbers low bit value ended saying same found coded own codes entryOf entries
+unfolding table consecutive codeFor characters numbers low bit value ended first saying same found coded own codes entryOf entries
 loop-holds c =
     let e = c .before .before .before in
     let t = e .args .text .now in

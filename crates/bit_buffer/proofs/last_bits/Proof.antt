@@ -1,4 +1,4 @@
--- `full_ascii_reader::last_bits` meets its contract. The loop's invariant: the bits of the bytes that were taken, then those of the bytes that were not.
+-- `bit_buffer::last_bits` meets its contract. The loop's invariant: the bits of the bytes that were taken, then those of the bytes that were not.
 -- Assumes nothing.
 use mathlib.Core.Path.{_≡_, ap, _∙_}
 use mathlib.Core.List.{_++_}
@@ -8,9 +8,9 @@ use lib.Dec.{lit≤}
 use lib.ListN.{length, drop}
 use Rattle.bits.specs.Row.{bits}
 use Rattle.codes.specs.Pack.{low}
-use Rattle.full_ascii_reader.proofs.Words.{last-byte, last-held}
-use Rattle.full_ascii_reader.proofs.last_bits.Statement.{statement}
-use Rattle.full_ascii_reader.proofs.last_bits.Tie as tie
+use Rattle.codes.proofs.PassedWords.{last-byte, last-held}
+use Rattle.bit_buffer.proofs.last_bits.Statement.{statement}
+use Rattle.bit_buffer.proofs.last_bits.Tie as tie
 
 abbrev Inv-loop : tie.InvT-loop
 Inv-loop s place held₀ next₀ held next =

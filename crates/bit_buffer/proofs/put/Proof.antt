@@ -1,10 +1,10 @@
--- `full_ascii_reader::put` meets its contract. Assumes nothing.
+-- `bit_buffer::put` meets its contract. Assumes nothing.
 use native.Mathlib.Omega.{arith}
 use lib.ListN.{length-set}
-use Rattle.full_ascii_reader.proofs.Laying.{put-one, put-two}
+use Rattle.codes.proofs.TakenCodes.{put-one, put-two}
 use borrow.Author.Needs.{needs}
-use Rattle.full_ascii_reader.proofs.put.Statement.{statement}
-use Rattle.full_ascii_reader.proofs.put.Tie as tie
+use Rattle.bit_buffer.proofs.put.Statement.{statement}
+use Rattle.bit_buffer.proofs.put.Tie as tie
 
 slice-write-out : tie.Need-slice-write-out
 slice-write-out c = search needs

@@ -1,13 +1,12 @@
--- A code as the reader takes it out of the bits.
+-- A code as a reader takes it out of the bits. It holds of every table.
 -- Assumes nothing.
 use mathlib.Core.Path.{_≡_}
 use mathlib.Core.List.{List, [], _∷_}
 use Prim.Native.Nat.{ℕ, _≤_}
 use lib.ListN.{length, take}
 use Rattle.codes.specs.Chain.{Entry, In, Begins}
 use Rattle.codes.specs.Pack.{low}
-use Rattle.full_ascii.specs.Table.{table}
-use Rattle.full_ascii_reader.specs.declared.Code.{Code}
+use Rattle.codes.specs.declared.Code.{Code}
 
 -- the characters that a code says: the first, or both
 unfoldable pub charactersOf : Code → List ℕ
@@ -17,16 +16,15 @@ charactersOf r = take (r .count) (r .first ∷ r .second ∷ [])
 abbrev pub oneCharacter : ℕ → ℕ → Code
 oneCharacter width first = record { width = width; count = 1; first = first; second = 0 }
 
--- the entry of the table that begins the nine bits w: its width and the characters that it says, with 0 for a second that there is not
-pub record FirstCode (w : ℕ) (r : Code) : Type 0 where
+-- the entry of the table that begins the nine bits w: its width and the characters that it says
+pub record FirstCode (table : List Entry) (w : ℕ) (r : Code) : Type 0 where
   pub entry : Entry
   pub legal : In entry table
   pub begins : Begins (entry .code) (low 9 w)
   pub width : r .width ≡ length (entry .code)
   pub says : entry .says ≡ charactersOf r
   pub counts : length (entry .says) ≡ r .count
-  pub short : 6 ≤ r .width
+  pub short : 5 ≤ r .width
   pub long : r .width ≤ 9
   pub some : 1 ≤ r .count
   pub few : r .count ≤ 2
-  pub lone : r .count ≡ 1 → r .second ≡ 0

@@ -1,0 +1,116 @@
+-- Eight bytes of the data passed as one number: what is still to be read after them; and the last bytes. It holds of every scheme.
+-- Assumes nothing.
+use mathlib.Core.Path.{_≡_, sym, ap, ap₂, subst, subst₂, _∙_}
+use mathlib.Core.List.{List, _++_, append-assoc, append-nil}
+use Prim.Native.Nat.{ℕ, suc, _+_, _-_, _*_, _/_, _%_, _≤_, _<_}
+use native.Mathlib.Numerals.{add-one}
+use native.Mathlib.Omega.{arith}
+use lib.Dec.{T}
+use lib.ListN.{length, drop, getD, length-append, length-drop, drop-of-length-le}
+use lib.Seq.{drop-cons, drop-drop, drop-append-le}
+use Rattle.bits.specs.Row.{bits}
+use Rattle.codes.specs.Chain.{Scheme}
+use Rattle.codes.specs.Steps.Laid.{Readable}
+use Rattle.codes.specs.Pack.{low}
+use Rattle.codes.specs.Steps.EightBytes.{eightAt}
+use Rattle.codes.specs.Steps.Passed.{CountedSoFar, LaidSoFar}
+use Rattle.codes.specs.Steps.Measure.{Measures, countable, withFront, FrontFits}
+use Rattle.codes.specs.Steps.Words.{Begun, beyond, CountedTo, Last}
+use Rattle.codes.specs.declared.Measured.{Measured}
+use Rattle.codes.specs.declared.Measured.the-variants.{Malformed}
+use Rattle.codes.specs.declared.Place.{Place}
+use Rattle.codes.proofs.BitBuffer.{low-drop}
+use Rattle.codes.proofs.ReadSoFar.{counting-on, counting-front, counting-stuck, counting-whole, front-fits, laying-on, laying-front}
+use Rattle.codes.proofs.LowBits.{length-low}
+use Rattle.codes.proofs.BitsInBytes.{bits-cons, drop-bits, length-bits}
+use Rattle.codes.proofs.EightBytes.{eight-bits}
+use Rattle.codes.proofs.OneReading.{Halts}
+use Rattle.codes.proofs.EveryElement.{every}
+use Rattle.codes.proofs.SizeBounds.{brief}
+
+module _ (s : List ℕ) (next held : ℕ) (here : next + 8 ≤ length s) (bytes : (i : ℕ) → getD s i 0 < 256) (word : held ≡ eightAt s next) where
+  after : List ℕ
+  after = bits (drop (next + 8) s)
+
+  -- where the lowest `left` bits of the number are left
+  beyond-left : (left : ℕ) → left ≤ 64 → low left held ++ after ≡ beyond s (next + (64 - left) / 8) ((64 - left) % 8)
+  unfolding beyond after
+  beyond-left left h =
+      let k : ℕ = 64 - left in
+      ap (λ (l : List ℕ). l ++ after)
+      (ap (λ (n : ℕ). low n held) (let e : left ≡ 64 - k = omega arith in e) ∙ sym (low-drop held 64 k (omega arith)))
+      ∙ sym (drop-append-le k (low 64 held) after (omega (arith, length-low 64 held)))
+      ∙ ap (drop k) (ap (λ (v : ℕ). low 64 v ++ after) word ∙ eight-bits s next here bytes)
+      ∙ ap (λ (n : ℕ). drop n (bits (drop next s))) (let e : k ≡ k / 8 * 8 + k % 8 = omega arith in e)
+      ∙ sym (drop-drop (k % 8) (k / 8 * 8) (bits (drop next s)))
+      ∙ ap (drop (k % 8)) (drop-bits (k / 8) (drop next s) ∙ ap bits (drop-drop (k / 8) next s))
+
+  module _ (skip : ℕ) (some : skip < 8) where
+    -- and before
+    beyond-here : low (64 - skip) held ++ after ≡ beyond s next skip
+    beyond-here =
+        beyond-left (64 - skip) (omega arith)
+        ∙ ap₂ (beyond s) (let e : next + (64 - (64 - skip)) / 8 ≡ next = omega arith in e) (let e : (64 - (64 - skip)) % 8 ≡ skip = omega arith in e)
+
+    -- the codes of the number are passed
+    pub counted-word : {scheme : Scheme} (bs : List ℕ) (n left count : ℕ) → left ≤ 64 → CountedSoFar scheme bs (beyond s next skip) n
+        → CountedSoFar scheme (low (64 - skip) held) (low left held) count
+        → CountedSoFar scheme bs (beyond s (next + (64 - left) / 8) ((64 - left) % 8)) (n + count)
+    counted-word {scheme} bs n left count h c d =
+        counting-on c (subst₂ (λ (a b : List ℕ). CountedSoFar scheme a b count) beyond-here (beyond-left left h) (counting-front d after))
+
+    -- and no code comes next, whatever follows the number
+    pub stuck-word : {scheme : Scheme} {at : ℕ} (n left count : ℕ) → at ≡ next * 8 + (64 - left) → left ≤ 64 → scheme .unused < left → CountedSoFar scheme (bits s) (beyond s next skip) n
+        → CountedSoFar scheme (low (64 - skip) held) (low left held) count → ((more : List ℕ) → Halts scheme 0 (low left held ++ more))
+        → Measures scheme (bits s) (Malformed at)
+    unfolding after
+    stuck-word {scheme} {at} n left count e h k c d halts =
+        let size : length (low left held ++ after) ≡ left + (length s - (next + 8)) * 8 =
+        length-append (low left held) after
+        ∙ ap₂ (λ (a b : ℕ). a + b) (length-low left held)
+        (length-bits (drop (next + 8) s) ∙ ap (λ (a : ℕ). a * 8) (length-drop (next + 8) s)) in
+        counting-stuck
+        (counting-on c (subst (λ (a : List ℕ). CountedSoFar scheme a (low left held ++ after) count) beyond-here (counting-front d after)))
+        at (omega (arith, size, length-bits s)) (halts after)
+        (λ f. let no′ : ⊥ = omega (arith, f .few, size) in no′)
+
+    pub laying-word : {scheme : Scheme} (bs entry out exit : List ℕ) (n left count : ℕ) → left ≤ 64 → n ≤ length entry
+        → LaidSoFar scheme bs (beyond s next skip) entry out 0 n → LaidSoFar scheme (low (64 - skip) held) (low left held) out exit n (n + count)
+        → LaidSoFar scheme bs (beyond s (next + (64 - left) / 8) ((64 - left) % 8)) entry exit 0 (n + count)
+    laying-word {scheme} bs entry out exit n left count h room y z =
+        laying-on y room (subst₂ (λ (a b : List ℕ). LaidSoFar scheme a b out exit n (n + count)) beyond-here (beyond-left left h) (laying-front z after))
+
+    pub begun-word : {scheme : Scheme} (room : ℕ) → Readable scheme (beyond s next skip) room → Begun scheme held (64 - skip) room
+    begun-word {scheme} room f = (after, subst (λ (l : List ℕ). Readable scheme l room) (sym beyond-here) f)
+
+-- the next byte at the lower end of the last bits
+pub last-byte : (s : List ℕ) (held more have i : ℕ) → i < length s → low (have + 8) more ≡ low have held ++ low 8 (getD s i 0)
+    → low (have + 8) more ++ bits (drop (i + 1) s) ≡ low have held ++ bits (drop i s)
+last-byte s held more have i h e =
+    ap₂ (λ (l : List ℕ) (n : ℕ). l ++ bits (drop n s)) e (add-one i)
+    ∙ append-assoc (low have held) (low 8 (getD s i 0)) (bits (drop (suc i) s))
+    ∙ ap (λ (l : List ℕ). low have held ++ l)
+    (sym (bits-cons (getD s i 0) (drop (suc i) s)) ∙ ap bits (sym (drop-cons s i 0 h)))
+
+-- the bits of all the last bytes, without the first `skip`
+pub last-held : (s : List ℕ) (held next skip end have : ℕ) → length s ≤ end → low ((end - next) * 8) held ++ bits (drop end s) ≡ bits (drop next s)
+    → have + skip ≡ (end - next) * 8 → low have held ≡ beyond s next skip
+unfolding beyond bits
+last-held s held next skip end have h e size =
+    ap (λ (n : ℕ). low n held) (let x : have ≡ (end - next) * 8 - skip = omega arith in x)
+    ∙ sym (low-drop held ((end - next) * 8) skip (omega arith))
+    ∙ ap (drop skip) (sym (ap (λ (l : List ℕ). low ((end - next) * 8) held ++ bits l) (drop-of-length-le s h) ∙ append-nil (low ((end - next) * 8) held)) ∙ e)
+
+-- what the last bits come to, told of the whole
+module _ {scheme : Scheme} (s : List ℕ) (place : Place) (held have n at : ℕ) (counted : CountedTo scheme s place) (last : Last s place held have)
+    (said : n ≡ place .n) (size : at + have ≡ length s * 8) (m : Measured) (comes : Measures scheme (low have held) m) where
+  pub last-fits : ((k : ℕ) → T (every (brief 1) (scheme .table k))) → length s < countable → FrontFits n at m
+  last-fits briefs h =
+      let near : (place .next ≤ length s) × (place .skip ≤ (length s - place .next) * 8) = (counted .0 .within, counted .0 .skips) in
+      front-fits scheme briefs (low have held) n at m comes (omega (arith, near, counted .1, last .size, length-low have held))
+      (omega (arith, length-low have held))
+
+  pub last-whole : Measures scheme (bits s) (withFront n at m)
+  last-whole =
+      counting-whole (subst₂ (CountedSoFar scheme (bits s)) (sym (last .same)) (sym said) (counted .2)) at
+      (omega (arith, length-low have held, length-bits s)) m comes

@@ -1,0 +1,344 @@
+-- What our writer builds is a building of what its text comes back as, and there is no other. Texts that can be read have codes, and are never empty.
+-- Assumes nothing.
+use mathlib.Core.Path.{_≡_, refl, sym, ap, ap₂, subst, subst⁻¹, _∙_}
+use mathlib.Core.Bool.{Bool, true, false, not, cond, _&&_}
+use mathlib.Core.Logic.{inl, inr, ⊎-elim}
+use mathlib.Core.List.{List, [], _∷_, _++_, append-nil, List·Memᴰ}
+use Prim.Native.Nat.{ℕ, _+_, _-_, _*_, _/_, _%_, _≤_, _<_, zero-le}
+use native.Mathlib.Nat.{le-of-eq}
+use native.Mathlib.Omega.{arith}
+use lib.Dec.{T, T-not, eqb, eqb→eq, lit<}
+use lib.ListN.{length, length-append, take, getD}
+use borrow.Author.Tests.{eqb-false}
+use Rattle.bits.specs.Row.{bits, Bytes}
+use Rattle.codes.specs.Chain as chain
+use Rattle.codes.specs.Chain.{Entry, In, Row, codes, texts, Malformed}
+use Rattle.codes.specs.Coded.{lastOf, alone, CodedBelow}
+use Rattle.codes.specs.Consecutive.{codeFor, consecutive}
+use Rattle.codes.specs.LineEnds.{LF, CR, eachAfter, ended, lineEnds}
+use Rattle.codes.specs.Lookup.{same, found, first, saying, meaning}
+use Rattle.codes.specs.Pack.{low, numbers, gap, written}
+use Rattle.bits.proofs.Said.{and-left, and-right}
+use Rattle.codes.proofs.BitsInBytes.{row-binary, length-written, written-built, built-closes, built-length, length-bits}
+use Rattle.codes.proofs.CodedBehind.{coded-after, after-coded}
+use Rattle.codes.proofs.CodedTexts.{coded-none, coded-append, coded-every}
+use Rattle.codes.proofs.DataLaws.{DataLaws}
+use Rattle.codes.proofs.EveryElement.{every, every-at}
+use Rattle.codes.proofs.LineTables.{ended-some, line-pieces, line-whole, lines-kept}
+use Rattle.codes.proofs.Lookup.{unlike, meant}
+use Rattle.codes.proofs.OneBuilding.{same-data}
+use Rattle.codes.proofs.OneReading.{one-place}
+use Rattle.codes.proofs.PassedEntries.{codes-append, texts-append}
+use Rattle.codes.proofs.Pieces.{AllIn, row-all, all-row, all-append, Piece}
+use Rattle.codes.proofs.Pieces as pieces
+use Rattle.numeric.specs.Table.{characters, table, scheme}
+use Rattle.numeric.specs.Translation.{sent, itself, specials, translation, Apart, AllApart, Translates, translated}
+use Rattle.numeric.specs.Data.{Built}
+use Rattle.numeric.specs.Steps.Text.{spelled, textOf}
+use Rattle.numeric.specs.Writer.{own, baseOf, clashes, codedBehind, coded, AllCoded, evened, sentFor, ours, comesBack}
+use Rattle.numeric.proofs.Table as four-bits
+use Rattle.numeric.proofs.Translation.{mutes, translation-of, translated-back, itself-in}
+use Rattle.numeric.proofs.Clashes.{lines, distinct, ends, coded-apart, apart-coded, start-clear}
+use Rattle.numeric.proofs.Data.{character-in, text-built, one-built, never-malformed}
+
+-- Base characters in four bits each
+
+abbrev itsOwn : ℕ → ℕ → List ℕ
+itsOwn before c = c ∷ []
+
+unfoldable fours : Entry → Bool
+fours e = eqb (length (e .code)) 4 && eqb (length (e .says)) 1
+
+all-fours : T (every fours table)
+unfolding table consecutive codeFor characters numbers low every fours
+all-fours = tt
+
+distinct-texts : T (unlike (λ e. e .says) table)
+unfolding table consecutive codeFor characters numbers every unlike same
+distinct-texts = tt
+
+own-piece : (u : List ℕ) → T (eqb (length u) 1) → Piece itsOwn u
+own-piece [] t = absurd t
+own-piece (c ∷ []) t = inl (c, refl, λ b. refl)
+own-piece (c ∷ d ∷ u) t = absurd (let no : ⊥ = omega (arith, eqb→eq (length (c ∷ d ∷ u)) 1 t) in no)
+
+own-pieces : (e : Entry) → In e table → Piece itsOwn (e .says)
+unfolding fours
+own-pieces e h = own-piece (e .says) (and-right (eqb (length (e .code)) 4) (eqb (length (e .says)) 1) (every-at fours table all-fours e h))
+
+-- four bits for each character that is said
+four-each : (es : List Entry) → AllIn table es → length (codes es) ≡ 4 * length (texts es)
+unfolding codes texts fours
+four-each [] h = refl
+four-each (e ∷ es) h =
+    let t = every-at fours table all-fours e (h .0) in
+    let f = eqb→eq (length (e .code)) 4 (and-left (eqb (length (e .code)) 4) (eqb (length (e .says)) 1) t) in
+    let o = eqb→eq (length (e .says)) 1 (and-right (eqb (length (e .code)) 4) (eqb (length (e .says)) 1) t) in
+    omega (arith, length-append (e .code) (codes es), length-append (e .says) (texts es), f, o, four-each es (h .1))
+
+abbrev base-known : ℕ → Bool
+base-known c = found (saying table (c ∷ []))
+
+unfoldable spelt : Entry → Bool
+spelt e = every base-known (e .code)
+
+all-spelt : T (every spelt translation)
+unfolding translation specials sent itself table consecutive codeFor characters numbers every spelt found saying first same
+all-spelt = tt
+
+-- what is sent consists of base characters
+sent-known : (es : List Entry) → AllIn translation es → CodedBelow (alone base-known) (codes es) (length (codes es))
+unfolding codes spelt
+sent-known [] h = coded-none base-known
+sent-known (e ∷ es) h =
+    coded-append base-known (e .code) (codes es) (coded-every base-known (e .code) (every-at spelt translation all-spelt e (h .0))) (sent-known es (h .1))
+
+abbrev inFours : List ℕ → List Entry
+inFours = eachAfter (λ before c. saying table (c ∷ [])) 0
+
+each-own : (base : List ℕ) (b : ℕ) → eachAfter itsOwn b base ≡ base
+unfolding eachAfter
+each-own [] b = refl
+each-own (c ∷ base) b = ap (λ (l : List ℕ). c ∷ l) (each-own base c)
+
+fours-says : (base : List ℕ) → CodedBelow (alone base-known) base (length base) → texts (inFours base) ≡ base
+fours-says base h =
+    pieces.pieces-says itsOwn table own-pieces distinct-texts (λ b c. inr (refl, inl (c, refl, λ b. refl))) base h 0 ∙ each-own base 0
+
+fours-in : (base : List ℕ) → AllIn table (inFours base)
+fours-in base = pieces.pieces-in itsOwn table own-pieces distinct-texts (λ b c. inr (refl, inl (c, refl, λ b. refl))) base 0
+
+-- two base characters, eight bits, to a byte of data
+two-each : (base carried : List ℕ) → chain.Built scheme base carried → length base ≡ 2 * length carried
+two-each base carried b =
+    omega (arith, length-bits carried, ap length (b .bits), length-append (codes (b .entries)) (b .fill), b .ends .few,
+      four-each (b .entries) (row-all table 0 0 0 (b .entries) (b .row)), ap length (b .says))
+
+-- Base characters sent for a text
+
+unfoldable padding : ℕ → List Entry
+padding n = cond (eqb (n % 2) 1) (itself 32 ∷ []) []
+
+-- no sequence of Table 5 ends in a space
+unfoldable spaced : Entry → Bool
+spaced e = eqb (getD (e .code) 1 0) 32
+
+unspaced : T (every (λ (e : Entry). not (spaced e)) specials)
+unfolding specials sent every spaced
+unspaced = tt
+
+space-in : List·Memᴰ 32 characters
+unfolding characters numbers
+space-in = character-in characters 10 (lit< tt)
+
+space-apart : (c : ℕ) → meaning specials (c ∷ 32 ∷ []) ≡ []
+unfolding spaced
+space-apart c =
+    ⊎-elim (λ n. n)
+    (λ o. absurd (T-not (spaced (o .0)) (every-at (λ (e : Entry). not (spaced e)) specials unspaced (o .0) (o .1)) (subst⁻¹ space (o .2) tt)))
+    (meant specials (c ∷ 32 ∷ []))
+  where
+    space : List ℕ → Type 0
+    space u = T (eqb (getD u 1 0) 32)
+
+module _ (n : ℕ) where
+  padding-in : AllIn translation (padding n)
+  unfolding padding
+  padding-in = pick (eqb (n % 2) 1)
+    where
+      pick : (odd : Bool) → AllIn translation (cond odd (itself 32 ∷ []) [])
+      pick true = (itself-in 32 space-in, tt)
+      pick false = tt
+
+  padding-says : texts (padding n) ≡ evened n
+  unfolding padding evened texts itself sent
+  padding-says = pick (eqb (n % 2) 1)
+    where
+      pick : (odd : Bool) → texts (cond odd (itself 32 ∷ []) []) ≡ cond odd (32 ∷ []) []
+      pick true = refl
+      pick false = refl
+
+  padding-codes : codes (padding n) ≡ evened n
+  unfolding padding evened codes itself sent
+  padding-codes = pick (eqb (n % 2) 1)
+    where
+      pick : (odd : Bool) → codes (cond odd (itself 32 ∷ []) []) ≡ cond odd (32 ∷ []) []
+      pick true = refl
+      pick false = refl
+
+  padding-ready : (c : ℕ) → Apart (c ∷ []) (codes (padding n))
+  unfolding padding codes itself sent
+  padding-ready c = pick (eqb (n % 2) 1)
+    where
+      pick : (odd : Bool) → Apart (c ∷ []) (codes (cond odd (itself 32 ∷ []) []))
+      pick true = space-apart c
+      pick false = tt
+
+  padding-apart : AllApart (padding n)
+  unfolding padding codes itself sent
+  padding-apart = pick (eqb (n % 2) 1)
+    where
+      pick : (odd : Bool) → AllApart (cond odd (itself 32 ∷ []) [])
+      pick true = (tt, tt)
+      pick false = tt
+
+  -- it makes the number even
+  evened-even : (n + length (evened n)) % 2 ≡ 0
+  unfolding evened
+  evened-even = pick (eqb (n % 2) 1) refl
+    where
+      pick : (odd : Bool) → eqb (n % 2) 1 ≡ odd → (n + length {A = ℕ} (cond odd (32 ∷ []) [])) % 2 ≡ 0
+      pick true x = let o : n % 2 ≡ 1 = eqb→eq (n % 2) 1 (subst⁻¹ T x tt) in omega (arith, o)
+      pick false x = omega (arith, eqb-false (n % 2) 1 x)
+
+  -- where it is even already there is nothing
+  evened-none : n % 2 ≡ 0 → evened n ≡ []
+  unfolding evened
+  evened-none x = ap (λ (k : ℕ). cond (eqb k 1) (32 ∷ []) []) x
+
+own-in : (t : List ℕ) → AllIn translation (eachAfter own 0 t)
+unfolding own
+own-in t = pieces.pieces-in ended translation (line-pieces translation lines) distinct (line-whole translation lines ends) t 0
+
+own-says : (t : List ℕ) → AllCoded t → texts (eachAfter own 0 t) ≡ lineEnds t
+unfolding own codedBehind lineEnds
+own-says t h =
+    pieces.pieces-says ended translation (line-pieces translation lines) distinct (line-whole translation lines ends) t known 0
+  where
+    known : (i : ℕ) → i < length t → T (found (saying translation (ended 0 (getD t i 0))))
+    known i l =
+        let before = lastOf (take i t) in
+        let c = getD t i 0 in
+        and-left (found (saying translation (ended 0 c))) (not (clashes before (codes (saying translation (ended before c))))) (h i l)
+
+-- what our writer sends for a text that has codes
+ours-translates : (t : List ℕ) → AllCoded t → Translates (sentFor t) (comesBack t)
+unfolding sentFor comesBack baseOf
+ours-translates t h =
+    let pad = padding (length (codes (eachAfter own 0 t))) in
+    record {
+      entries = eachAfter own 0 t ++ pad;
+      row = all-row translation mutes 0 (eachAfter own 0 t ++ pad) (all-append translation (eachAfter own 0 t) pad (own-in t) (padding-in (length (codes (eachAfter own 0 t)))));
+      apart = coded-apart pad (padding-ready (length (codes (eachAfter own 0 t)))) (padding-apart (length (codes (eachAfter own 0 t)))) t 0 (coded-after codedBehind t h);
+      says = texts-append (eachAfter own 0 t) pad ∙ ap₂ (λ (x y : List ℕ). x ++ y) (own-says t h) (padding-says (length (codes (eachAfter own 0 t))));
+      is = codes-append (eachAfter own 0 t) pad ∙ ap (λ (l : List ℕ). codes (eachAfter own 0 t) ++ l) (padding-codes (length (codes (eachAfter own 0 t))));
+    }
+
+-- and nothing else can be sent for it
+one-sending : (base text : List ℕ) → Translates base text → base ≡ baseOf text
+unfolding baseOf own
+one-sending base text t =
+    sym (t .is)
+    ∙ ap codes (sym (pieces.pieces-back ended translation (line-pieces translation lines) distinct (t .entries) (row-all translation 0 0 0 (t .entries) (t .row)) 0))
+    ∙ ap (λ (u : List ℕ). codes (eachAfter (λ b c. saying translation (ended b c)) 0 u)) (t .says)
+
+-- Our data
+
+sent-even : (t : List ℕ) → length (sentFor t) % 2 ≡ 0
+unfolding sentFor
+sent-even t = omega (arith, length-append (baseOf t) (evened (length (baseOf t))), evened-even (length (baseOf t)))
+
+ours-says : (t : List ℕ) → AllCoded t → texts (ours t) ≡ sentFor t
+unfolding ours
+ours-says t h =
+    let s = ours-translates t h in
+    fours-says (sentFor t)
+    (subst (λ (u : List ℕ). CodedBelow (alone base-known) u (length u)) (s .is) (sent-known (s .entries) (row-all translation 0 0 0 (s .entries) (s .row))))
+
+ours-size : (t : List ℕ) → AllCoded t → length (codes (ours t)) ≡ 4 * length (sentFor t)
+unfolding ours
+ours-size t h = four-each (ours t) (fours-in (sentFor t)) ∙ ap (λ (u : List ℕ). 4 * length u) (ours-says t h)
+
+ours-row : (t : List ℕ) → Row scheme 0 (ours t) 0
+unfolding ours
+ours-row t = all-row table four-bits.mutes 0 (ours t) (fours-in (sentFor t))
+
+even-closes : (n k : ℕ) → n ≡ 4 * k → k % 2 ≡ 0 → gap n ≤ 0
+unfolding gap
+even-closes n k x y =
+    let eights : n ≡ 8 * (k / 2) = omega arith in
+    let none : n % 8 ≡ 0 = omega (arith, eights) in
+    subst⁻¹ (λ (r : ℕ). (8 - r) % 8 ≤ 0) none zero-le
+
+ours-built : (t : List ℕ) → AllCoded t → Built (comesBack t) (written (ours t))
+ours-built t h =
+    record {
+      base = sentFor t;
+      translates = ours-translates t h;
+      codes = subst (λ (u : List ℕ). chain.Built scheme u (written (ours t))) (ours-says t h)
+        (written-built (ours t) (even-closes (length (codes (ours t))) (length (sentFor t)) (ours-size t h) (sent-even t)) (ours-row t)
+          (row-binary scheme four-bits.all-bits 0 0 (ours t) (ours-row t)));
+    }
+
+-- all data that carries what a text comes back as has the same base characters, so as many bytes
+same-base : (t carried : List ℕ) → AllCoded t → (b : Built (comesBack t) carried) → b .base ≡ sentFor t
+same-base t carried h b =
+    one-sending (b .base) (comesBack t) (b .translates) ∙ sym (one-sending (sentFor t) (comesBack t) (ours-translates t h))
+
+no-fewer-bytes : (t carried : List ℕ) → AllCoded t → Built (comesBack t) carried → length (written (ours t)) ≤ length carried
+no-fewer-bytes t carried h b =
+    omega (arith, length-written (ours t), ours-size t h, two-each (b .base) carried (b .codes), ap length (same-base t carried h b))
+
+-- so there are no two buildings of a text
+pub one-building : (text a b : List ℕ) → Bytes a → Bytes b → Built text a → Built text b → a ≡ b
+one-building text a b h k p q =
+    let c = p .codes in
+    let d = q .codes in
+    let base = one-sending (p .base) text (p .translates) ∙ sym (one-sending (q .base) text (q .translates)) in
+    same-data (lit< tt) a b c d
+    (pieces.one-row itsOwn table own-pieces distinct-texts (c .entries) (d .entries) (row-all table 0 0 0 (c .entries) (c .row)) (row-all table 0 0 0 (d .entries) (d .row))
+      (c .says ∙ base ∙ sym (d .says)))
+    h k
+
+-- Texts that are carried
+
+kept : (t carried : List ℕ) → Built t carried → comesBack t ≡ t
+unfolding comesBack
+kept t carried b =
+    let s = b .translates in
+    let ended-so : lineEnds t ≡ t =
+    subst (λ (u : List ℕ). lineEnds u ≡ u) (s .says) (lines-kept translation lines (s .entries) (row-all translation 0 0 0 (s .entries) (s .row))) in
+    let even : length (baseOf t) % 2 ≡ 0 = omega (arith, two-each (b .base) carried (b .codes), ap length (one-sending (b .base) t s)) in
+    ap₂ (λ (x y : List ℕ). x ++ y) ended-so (evened-none (length (baseOf t)) even) ∙ append-nil t
+
+back-coded : (t carried : List ℕ) → Built (comesBack t) carried → AllCoded t
+unfolding comesBack lineEnds own
+back-coded t carried b =
+    let s = b .translates in
+    let f = pieces.pieces-front ended translation (line-pieces translation lines) distinct (line-whole translation lines ends) t (s .entries)
+      (row-all translation 0 0 0 (s .entries) (s .row)) 0 (evened (length (baseOf t))) (s .says) in
+    after-coded codedBehind t
+    (apart-coded (f .others) t 0 (f .coded) (subst AllApart (f .is) (s .apart)) (start-clear (codes (eachAfter own 0 t ++ f .others))))
+
+built-coded : (t carried : List ℕ) → Built t carried → AllCoded t
+built-coded t carried b = back-coded t carried (subst⁻¹ (λ (u : List ℕ). Built u carried) (kept t carried b) b)
+
+built-some : (t carried : List ℕ) → 0 < length carried → Built t carried → 0 < length t
+unfolding baseOf eachAfter codes
+built-some [] carried some b =
+    absurd (let no : ⊥ = omega (arith, some, two-each (b .base) carried (b .codes), ap length (one-sending (b .base) [] (b .translates))) in no)
+built-some (c ∷ t) carried some b = omega arith
+
+built-none : (t : List ℕ) → Built t [] → t ≡ []
+unfolding textOf translated spelled
+built-none t b = one-built t [] [] b (text-built [])
+
+given-some : (t : List ℕ) → 0 < length t → AllCoded t → 0 < length (comesBack t)
+unfolding comesBack
+given-some t some h = omega (arith, ended-some t some, length-append (lineEnds t) (evened (length (baseOf t))))
+
+pub data-laws : DataLaws Built (Malformed scheme) coded comesBack (λ t. written (ours t))
+data-laws = record {
+  one-carried = one-built;
+  one-malformed = λ i j carried p q. one-place four-bits.laws p q;
+  never-malformed = λ t carried i p q. never-malformed carried i q;
+  either = λ carried. inl (textOf carried, text-built carried);
+  carried-coded = built-coded;
+  carried-kept = kept;
+  back-coded = back-coded;
+  made-carries = ours-built;
+  no-fewer = no-fewer-bytes;
+  carried-some = built-some;
+  carried-none = built-none;
+  given-some = given-some;
+}

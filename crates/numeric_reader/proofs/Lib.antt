@@ -1,0 +1,5 @@
+pub mod EntryLaws
+pub mod Pairs
+pub mod Passing
+pub mod Putting
+pub mod Reading

@@ -1,0 +1,192 @@
+// Compact Numeric ASCII (001, 4.3), read: how long the text of its data is, and the text. All data has one.
+
+ghost use mathlib.Core.List.{[], _∷_};
+ghost use mathlib.Core.Path.{_≡_};
+ghost use Prim.Native.Nat.{_+_, _/_, _≤_, _<_};
+ghost use lib.Bits.{bitAnd};
+ghost use lib.ListN.{length};
+ghost use Rattle.codes.specs.Steps.Laid.{laid, Fronted};
+ghost use Rattle.codes.specs.Steps.Measure.{countable};
+ghost use Rattle.numeric.specs.Steps.Text.{textOf};
+ghost use Rattle.numeric_reader.specs.Steps.Reached.{Passes, Fits, Puts};
+ghost use Rattle.numeric_reader.specs.Steps.Signs.{paired, sign, entries, Entry, firstOf, secondOf};
+
+mod entries;
+
+// The table, copied: each lookup in a constant would copy it.
+fn table() -> [u32; 256]
+    ensures { λ r. ⌜ r ≡ entries ⌝ }
+{
+    entries::ENTRIES
+}
+
+// How many characters fewer than two a pair says.
+fn fewer(one: u32, other: u32) -> usize
+    ensures { λ r. ⌜ r + length (paired one other) ≡ 2 ⌝ }
+{
+    if one < 4 {
+        return 1;
+    }
+    if other < 4 {
+        return 1;
+    }
+    0
+}
+
+// Two codes passed: how many characters fewer they say, and the sign of the last character, with an 8.
+struct Passed {
+    pub fewer: usize,
+    pub before: u32,
+}
+
+// The codes of a byte, behind the sign of the character before them, where there is a pair.
+fn pass_pair(before: u32, entry: u32) -> Passed
+    requires { ⌜ (before / 8 ≡ 1) × Entry entry × (bitAnd before entry ≡ 0 → ⊥) ⌝ }
+    ensures { λ r. ⌜ Passes before entry r ⌝ }
+{
+    let first = entry % 8;
+    let second = entry / 256 % 8;
+    if before & first == 0 {
+        return Passed {
+            fewer: fewer(first, second),
+            before: 8,
+        };
+    }
+    Passed {
+        fewer: fewer(before % 8, first),
+        before: second + 8,
+    }
+}
+
+// The length of the text: two characters for each byte, less what pairs save.
+fn measure_by(s: &[u8], table: &[u32; 256]) -> usize
+    requires { ⌜ (length (now s) < countable) × (now table ≡ entries) ⌝ }
+    ensures { λ r. ⌜ r ≡ length (textOf (now (s .entry))) ⌝ }
+{
+    let mut saved: usize = 0;
+    let mut before: u32 = 8;
+    let mut i: usize = 0;
+    while i < s.len() {
+        let entry = table[s[i] as usize];
+        if before & entry == 0 {
+            before = entry / 256 % 256;
+        } else {
+            let p = pass_pair(before, entry);
+            saved += p.fewer;
+            before = p.before;
+        }
+        i += 1;
+    }
+    s.len() * 2 - saved
+}
+
+// The length of the text.
+pub fn measure(s: &[u8]) -> usize
+    requires { ⌜ length (now s) < countable ⌝ }
+    ensures { λ r. ⌜ r ≡ length (textOf (now (s .entry))) ⌝ }
+{
+    let table = table();
+    measure_by(s, &table)
+}
+
+// How far the text is put: the place after it, and the sign of its last character, with an 8.
+struct Place {
+    pub n: usize,
+    pub before: u32,
+}
+
+// What a pair says whose first sign is not that of +: one character.
+fn one_character(one: u32, other: u32) -> u8
+    requires { ⌜ one < 4 ⌝ }
+    ensures { λ r. ⌜ r ∷ [] ≡ paired one other ⌝ }
+{
+    if 2 <= one {
+        return b':';
+    }
+    if other < 4 {
+        return b'E';
+    }
+    b'='
+}
+
+// What a pair says, from place n on; the place after it.
+fn put_pair(out: &mut [u8], n: usize, one: u32, other: u32) -> usize
+    requires { ⌜ n + length (paired one other) ≤ length (now out) ⌝ }
+    ensures { λ r. ⌜ r ≡ n + length (paired one other) ⌝ }
+    ensures { λ r. ⌜ now (out .exit) ≡ laid (now (out .entry)) n (paired one other) ⌝ }
+{
+    if one < 4 {
+        out[n] = one_character(one, other);
+        return n + 1;
+    }
+    if other < 4 {
+        out[n] = b'#';
+        return n + 1;
+    }
+    out[n] = b'\r';
+    out[n + 1] = b'\n';
+    n + 2
+}
+
+// A character with its sign, behind the sign of the one before it, which stands at n - 1: what a pair says is put over that.
+fn put_character(out: &mut [u8], n: usize, before: u32, own: u32, character: u8) -> Place
+    requires { ⌜ (own ≡ sign character) × Fits (character ∷ []) (now out) before n ⌝ }
+    ensures { λ r. ⌜ Puts (character ∷ []) (now (out .entry)) (now (out .exit)) before n r ⌝ }
+{
+    if before & own == 0 {
+        out[n] = character;
+        return Place {
+            n: n + 1,
+            before: own + 8,
+        };
+    }
+    Place {
+        n: put_pair(out, n - 1, before % 8, own),
+        before: 8,
+    }
+}
+
+// The codes of a byte, behind the sign of the character before them.
+fn put_byte(out: &mut [u8], n: usize, before: u32, entry: u32) -> Place
+    requires { ⌜ Entry entry × Fits (firstOf entry ∷ secondOf entry ∷ []) (now out) before n ⌝ }
+    ensures { λ r. ⌜ Puts (firstOf entry ∷ secondOf entry ∷ []) (now (out .entry)) (now (out .exit)) before n r ⌝ }
+{
+    let first = (entry / 65536 % 256) as u8;
+    let second = (entry / 16777216) as u8;
+    if before & entry == 0 {
+        out[n] = first;
+        out[n + 1] = second;
+        return Place {
+            n: n + 2,
+            before: entry / 256 % 256,
+        };
+    }
+    let middle = put_character(out, n, before, entry % 8, first);
+    put_character(out, middle.n, middle.before, entry / 256 % 8, second)
+}
+
+// The text of the data, at the front of the buffer; its length.
+fn put_by(s: &[u8], table: &[u32; 256], out: &mut [u8]) -> usize
+    requires { ⌜ (length (textOf (now s)) ≤ length (now out)) × (now table ≡ entries) ⌝ }
+    ensures { λ r. ⌜ Fronted (textOf (now (s .entry))) (now (out .entry)) (now (out .exit)) r ⌝ }
+{
+    let mut n: usize = 0;
+    let mut before: u32 = 8;
+    let mut i: usize = 0;
+    while i < s.len() {
+        let place = put_byte(out, n, before, table[s[i] as usize]);
+        n = place.n;
+        before = place.before;
+        i += 1;
+    }
+    n
+}
+
+// The text of the data, at the front of the buffer; its length.
+pub fn put_text(s: &[u8], out: &mut [u8]) -> usize
+    requires { ⌜ (length (now s) < countable) × (length (textOf (now s)) ≤ length (now out)) ⌝ }
+    ensures { λ r. ⌜ Fronted (textOf (now (s .entry))) (now (out .entry)) (now (out .exit)) r ⌝ }
+{
+    let table = table();
+    put_by(s, &table, out)
+}
