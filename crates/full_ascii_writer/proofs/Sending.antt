@@ -29,7 +29,7 @@ sent bits width = record { bits = bits; width = width; count = 1 }
 sends-own : (c number long : ℕ) {bits width : ℕ} → own c .code ≡ low long number → number < 2 ^ long → long ≤ 9 → bits ≡ number → width ≡ long
     → OwnOf c (sent bits width)
 sends-own c number long e f k x y =
-    subst₂ (λ (bits width : ℕ). OwnOf c (sent bits width)) (sym x) (sym y) (record { code = e; fits = f; long = k; count = refl })
+    subst₂ (λ (bits width : ℕ). OwnOf c (sent bits width)) (sym x) (sym y) (record { same = e; fits = f; long = k; count = refl })
 
 -- that of a control character
 sends-nine : (c d number : ℕ) {bits width : ℕ} → own d .code ≡ low 9 number → number < 512 → c ≡ d → bits ≡ number → width ≡ 9 → OwnOf c (sent bits width)
@@ -82,7 +82,7 @@ unfolding six seven low bit
 plain-short c r t h o = short (kind c t)
   where
     wide : length (own c .code) ≡ r .width
-    wide = ap length (o .code) ∙ length-low (r .width) (r .bits)
+    wide = ap length (o .same) ∙ length-low (r .width) (r .bits)
 
     short : Kind c → r .width ≤ 7
     short (tab e) = omega (arith, e)
@@ -148,7 +148,7 @@ ours-own c (d ∷ t) h = pick (eqb c CR && eqb d LF) refl
 
 own-codes : (c : ℕ) (t : List ℕ) (r : Sent) → (LineEnd (c ∷ t) → ⊥) → OwnOf c r → codes (ours (c ∷ t)) ≡ low (r .width) (r .bits) ++ codes (ours t)
 unfolding codes
-own-codes c t r h o = ap codes (ours-own c t h) ∙ ap (λ (l : List ℕ). l ++ codes (ours t)) (o .code)
+own-codes c t r h o = ap codes (ours-own c t h) ∙ ap (λ (l : List ℕ). l ++ codes (ours t)) (o .same)
 
 module _ (t : List ℕ) (i : ℕ) (r : Sent) (h : i < length t) (o : OwnOf (getD t i 0) r) where
   pub first-own : (LineEnd (drop i t) → ⊥) → FirstCodesOf t i 9 r

@@ -3,7 +3,7 @@
 use mathlib.Core.Path.{_≡_, refl, sym, ap, ap₂, subst, subst⁻¹, subst₂, _∙_}
 use mathlib.Core.Bool.{true, false, _&&_}
 use mathlib.Core.Logic.{by-cases}
-use mathlib.Core.List.{List, [], _∷_}
+use mathlib.Core.List.{List}
 use Prim.Native.Nat.{ℕ, _+_, _/_, _%_, _^_, _≤_, _<_}
 use native.Mathlib.Decide.{ℕ-discrete}
 use native.Mathlib.Omega.{arith}
@@ -12,12 +12,10 @@ use lib.Dec.{T, eqb, lit≤, lit<}
 use lib.ListN.{length, take, getD}
 use Rattle.codes.specs.Chain.{codes}
 use Rattle.codes.specs.Coded.{lastOf}
-use Rattle.codes.specs.LineEnds.{eachAfter}
-use Rattle.codes.specs.Pack.{Binary, low, value}
+use Rattle.codes.specs.Pack.{low, value}
 use Rattle.codes.specs.Steps.Sending.{Joinable, FourJoined}
 use Rattle.codes.specs.declared.Sent.{Sent}
-use Rattle.codes.proofs.BitsInBytes.{binary-append}
-use Rattle.codes.proofs.EachAfter.{each-codes, each-next}
+use Rattle.codes.proofs.EachAfter.{each-next}
 use Rattle.codes.proofs.FirstOfText.{four-own}
 use Rattle.codes.proofs.LowBits.{low-value, value-lt}
 use Rattle.shef.specs.Writer.{coded, AllCoded, own, ours}
@@ -54,18 +52,6 @@ code-joinable entry r o = record {
 sends-entry : (before c entry : ℕ) (r : Sent) → c < 256 → T (coded c) → entry ≡ entryOf c → 64 ≤ entry → CodeOf entry r → OwnOf before c r
 sends-entry before c entry r h t e k o =
     sends-own before c entry r h t (entry-own c h t before (subst (λ (n : ℕ). 64 ≤ n) e k)) (ap (λ (n : ℕ). n % 64) e ∙ entry-number c h t) o
-
--- our codes are bits, and those of the rest of a text
-each-binary : (before : ℕ) (t : List ℕ) → Binary (codes (eachAfter own before t))
-unfolding eachAfter codes
-each-binary before [] = tt
-each-binary before (c ∷ t) =
-    subst Binary (sym (each-codes own before c t))
-    (binary-append (codes (own before c)) (codes (eachAfter own c t)) (own-binary before c) (each-binary c t))
-
-pub ours-binary : (t : List ℕ) → Binary (codes (ours t))
-unfolding ours
-ours-binary t = each-binary 0 t
 
 pub codes-whole : (t : List ℕ) → codes (ours t) ≡ codesFrom t 0
 unfolding ours lastOf

@@ -21,7 +21,7 @@ returns-2 : tie.Need-returns-2
 returns-2 c =
     let o = c .before .own-code in
     let l = c .before .before in
-    let wide = ap length (o .ensures .code) ∙ length-low (o .result .width) (o .result .bits) in
+    let wide = ap length (o .ensures .same) ∙ length-low (o .result .width) (o .result .bits) in
     (omega (arith, bits-some (l .before .args .before) (l .before .args .c) (l .if1 .left), wide), omega (arith, o .ensures .long))
 
 pub bits-for-spec : {M : Type 1} → statement M

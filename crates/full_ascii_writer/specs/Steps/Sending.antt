@@ -1,25 +1,21 @@
 -- Codes as the writer sends them, and how many bits they have.
 -- Assumes nothing.
-use mathlib.Core.Path.{_≡_}
 use mathlib.Core.Bool.{cond, _&&_}
 use mathlib.Core.List.{List}
-use Prim.Native.Nat.{ℕ, _+_, _^_, _≤_, _<_}
+use Prim.Native.Nat.{ℕ, _+_, _≤_}
 use lib.Dec.{eqb}
 use lib.ListN.{length, drop, getD}
 use Rattle.codes.specs.Chain.{codes}
-use Rattle.codes.specs.Pack.{low, written}
+use Rattle.codes.specs.Pack.{written}
 use Rattle.codes.specs.Steps.Laid.{Fronted}
-use Rattle.codes.specs.Steps.Sending.{FirstOf}
+use Rattle.codes.specs.Steps.Sending.{OneOf, FirstOf}
 use Rattle.codes.specs.declared.Sent.{Sent}
 use Rattle.full_ascii.specs.Table.{LF, CR}
 use Rattle.full_ascii.specs.Writer.{own, ours}
 
 -- the character's own code: its number and its width
-pub record OwnOf (c : ℕ) (r : Sent) : Type 0 where
-  pub code : own c .code ≡ low (r .width) (r .bits)
-  pub fits : r .bits < 2 ^ r .width
-  pub long : r .width ≤ 9
-  pub count : r .count ≡ 1
+abbrev pub OwnOf : ℕ → Sent → Type 0
+OwnOf c = OneOf (own c .code) 9
 
 -- our codes of the text from place i on
 abbrev pub codesFrom : List ℕ → ℕ → List ℕ

@@ -18,8 +18,9 @@ use Rattle.codes.proofs.PutSoFar.{put-none, put-length, first-ready, first-sent
 use Rattle.numeric.specs.Table.{characters}
 use Rattle.shef.specs.Table.{table}
 use Rattle.shef.specs.Writer.{coded, own, ours}
+use Rattle.shef.proofs.Writer.{writer-laws}
 use Rattle.shef_writer.specs.Steps.Sending.{codesFrom, entryOf, entries}
-use Rattle.shef_writer.proofs.Sending.{ours-binary, codes-whole}
+use Rattle.shef_writer.proofs.Sending.{codes-whole}
 use Rattle.shef_writer.proofs.put_data.Statement.{statement}
 use Rattle.shef_writer.proofs.put_data.Tie as tie
 
@@ -35,7 +36,7 @@ loop-holds c =
     let e = c .before .before .before in
     let t = e .args .text .now in
     let out = e .args .out .now in
-    (refl, omega arith, subst (PutSoFar (ours t) out out _) (codes-whole t) (put-none (ours t) out (ours-binary t) (e .pre .1)))
+    (refl, omega arith, subst (PutSoFar (ours t) out out _) (codes-whole t) (put-none (ours t) out (writer-laws .ours-binary t (e .pre .0)) (e .pre .1)))
 
 next-codes-requires : tie.Need-next-codes-requires Inv-loop μ-loop
 next-codes-requires c κs = (c .before .loop .inv .0, c .before .before .before .before .before .pre .0, c .loop-test .taken)
@@ -46,7 +47,7 @@ send-requires c κs =
     let a = f .before .before in
     let e = a .before .before .before .before in
     let t = e .args .text .now in
-    first-ready (ours t) (e .args .out .now) (ours-binary (e .args .text .now)) (e .pre .1) (a .loop .out) (a .loop .b) (codesFrom t) (length t) (a .loop .i) 24
+    first-ready (ours t) (e .args .out .now) (writer-laws .ours-binary (e .args .text .now) (e .pre .0)) (e .pre .1) (a .loop .out) (a .loop .b) (codesFrom t) (length t) (a .loop .i) 24
     (f .next-codes .result) (lit≤ tt) (f .next-codes .ensures) (a .loop .inv .2)
 
 add-i : tie.Need-add-i Inv-loop μ-loop
@@ -68,7 +69,7 @@ loop-again c =
     let t = e .args .text .now in (
       a .loop .inv .0,
       f .next-codes .ensures .within,
-      first-sent (ours t) (e .args .out .now) (ours-binary (e .args .text .now)) (e .pre .1) (a .loop .out) (a .loop .b) (codesFrom t) (length t) (a .loop .i) 24
+      first-sent (ours t) (e .args .out .now) (writer-laws .ours-binary (e .args .text .now) (e .pre .0)) (e .pre .1) (a .loop .out) (a .loop .b) (codesFrom t) (length t) (a .loop .i) 24
           (f .next-codes .result) (lit≤ tt) (f .next-codes .ensures) (a .loop .inv .2) (s .send .last .0) (s .send .result) (s .send .ensures),
     )
 
@@ -88,7 +89,7 @@ flush-requires c κs =
     let a = l .before in
     let e = a .before .before .before .before in (
       omega (arith, a .loop .inv .2 .few),
-      put-flush-room (ours (e .args .text .now)) (e .args .out .now) (ours-binary (e .args .text .now)) (e .pre .1) (a .loop .out) (a .loop .b) (all-sent l),
+      put-flush-room (ours (e .args .text .now)) (e .args .out .now) (writer-laws .ours-binary (e .args .text .now) (e .pre .0)) (e .pre .1) (a .loop .out) (a .loop .b) (all-sent l),
     )
 
 same-length : tie.Need-same-length Inv-loop μ-loop
@@ -98,7 +99,7 @@ same-length c =
     let a = l .before in
     let e = a .before .before .before .before in
     z .flush .kept .0
-    ∙ put-length (ours (e .args .text .now)) (e .args .out .now) (ours-binary (e .args .text .now)) (e .pre .1) (a .loop .out) (a .loop .b) [] (all-sent l)
+    ∙ put-length (ours (e .args .text .now)) (e .args .out .now) (writer-laws .ours-binary (e .args .text .now) (e .pre .0)) (e .pre .1) (a .loop .out) (a .loop .b) [] (all-sent l)
 
 returns : tie.Need-returns Inv-loop μ-loop
 returns c =
@@ -106,7 +107,7 @@ returns c =
     let l = z .before .before in
     let a = l .before in
     let e = a .before .before .before .before in
-    put-flushed (ours (e .args .text .now)) (e .args .out .now) (ours-binary (e .args .text .now)) (e .pre .1) (a .loop .out) (a .loop .b) (all-sent l) (z .flush .last .0)
+    put-flushed (ours (e .args .text .now)) (e .args .out .now) (writer-laws .ours-binary (e .args .text .now) (e .pre .0)) (e .pre .1) (a .loop .out) (a .loop .b) (all-sent l) (z .flush .last .0)
     (z .flush .result) (z .flush .ensures)
 
 pub put-data-spec : {M : Type 1} → statement M
