@@ -35,6 +35,7 @@ pub mod PutSoFar
 pub mod ReadSoFar
 pub mod ReadingAgrees
 pub mod SchemeLaws
+pub mod SentOnce
 pub mod SingleTable
 pub mod SizeBounds
 pub mod TableSearch
