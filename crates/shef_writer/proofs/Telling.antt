@@ -1,8 +1,8 @@
 -- Which characters have codes, and which, as the code tells it: computed tests over all characters.
 -- Assumes nothing.
 use mathlib.Core.Path.{_≡_, refl, sym, ap, subst⁻¹, _∙_}
-use mathlib.Core.Bool.{Bool, true, false, cond, not, _&&_, _||_, Bool·beq}
-use mathlib.Core.List.{List, [], _∷_, _++_}
+use mathlib.Core.Bool.{Bool, true, false, cond, not, _&&_, _||_}
+use mathlib.Core.List.{[]}
 use Prim.Native.Nat.{ℕ, _+_, _-_, _/_, _%_, _≤_, _<_}
 use lib.Dec.{T, leb, eqb, eqb→eq, ltb, ltb→lt, leb→le, le→leb, lit≤}
 use Rattle.bits.specs.Word.{bit}

@@ -1,6 +1,6 @@
 -- `shef_writer::next_codes` meets its contract. Assumes nothing.
-<<<<<<< HEAD
-use Prim.Native.Nat.{ℕ}
+use Prim.Native.Nat.{ℕ, _+_}
+use native.Mathlib.Omega.{arith}
 use borrow.Author.Needs.{needs}
 use lib.Dec.{lit≤}
 use Rattle.codes.specs.Chain.{codes}
@@ -8,13 +8,7 @@ use Rattle.codes.proofs.EachAfter.{each-next}
 use Rattle.codes.proofs.FirstOfText.{one-wider, first-own}
 use Rattle.shef.specs.Writer.{own}
 use Rattle.shef_writer.specs.Steps.Sending.{codesFrom}
-=======
-use Prim.Native.Nat.{_+_}
-use native.Mathlib.Omega.{arith}
-use borrow.Author.Needs.{needs}
-use lib.Dec.{lit≤}
-use Rattle.shef_writer.proofs.Sending.{code-joinable, first-own, four-entries}
->>>>>>> 20aafe9af99ed51ba88036f1b9dbbabb8e213e5f
+use Rattle.shef_writer.proofs.Sending.{code-joinable, four-entries}
 use Rattle.shef_writer.proofs.next_codes.Statement.{statement}
 use Rattle.shef_writer.proofs.next_codes.Tie as tie
 
@@ -98,9 +92,9 @@ returns c =
     let first = second .before .before in
     let known = first .before .before .before in
     let e = known .before in
-    four-entries (e .args .text .now) (e .args .i) (first .entry .result) (second .entry2 .result) (third .entry3 .result) (fourth .entry4 .result)
-    (n .code-of .result) (o .code-of2 .result) (p .code-of3 .result) (q .code-of4 .result) (c .four-joined .result) (e .pre .1)
-    (λ k. omega (arith, known .shared-slice-known .given k)) (omega arith) (first .entry .ensures) (second .entry2 .ensures) (third .entry3 .ensures)
+    four-entries (e .args .text .now) (e .args .i) (e .pre .1) (λ k. omega (arith, known .shared-slice-known .given k)) (first .entry .result)
+    (second .entry2 .result) (third .entry3 .result) (fourth .entry4 .result) (n .code-of .result) (o .code-of2 .result) (p .code-of3 .result)
+    (q .code-of4 .result) (c .four-joined .result) (omega arith) (first .entry .ensures) (second .entry2 .ensures) (third .entry3 .ensures)
     (fourth .entry4 .ensures) (test .if2 .taken) (n .code-of .ensures) (o .code-of2 .ensures) (p .code-of3 .ensures) (q .code-of4 .ensures)
     (c .four-joined .ensures)
 
@@ -117,18 +111,11 @@ own-code-requires c κs =
 
 returns-2 : tie.Need-returns-2
 returns-2 c =
-<<<<<<< HEAD
-    let b = c .before .before .before in
-    let e = b .before .before in
-    let t = e .args .text .now in
-    first-own t (λ (x y : ℕ). codes (own x y)) (codesFrom t) (each-next own t) 24 (e .args .i) (b .before-at .result) (c .own-code .result) (e .pre .1)
-    (b .before-at .ensures) (one-wider (lit≤ tt) (c .own-code .ensures))
-=======
     let b = c .before .before in
     let e = b .before .before .before in
-    first-own (e .args .text .now) (e .args .i) 24 (b .before-at .result) (c .own-code .result) (e .pre .2) (lit≤ tt) (b .before-at .ensures)
-    (c .own-code .ensures)
->>>>>>> 20aafe9af99ed51ba88036f1b9dbbabb8e213e5f
+    let t = e .args .text .now in
+    first-own t (λ (x y : ℕ). codes (own x y)) (codesFrom t) (each-next own t) 24 (e .args .i) (b .before-at .result) (c .own-code .result) (e .pre .2)
+    (b .before-at .ensures) (one-wider (lit≤ tt) (c .own-code .ensures))
 
 pub next-codes-spec : {M : Type 1} → statement M
 next-codes-spec =

@@ -8,27 +8,18 @@ use lib.Dec.{lit≤}
 use lib.ListN.{length}
 use Rattle.bits.specs.Word.{bit}
 use Rattle.codes.specs.Chain.{codes}
-<<<<<<< HEAD
-=======
 use Rattle.codes.specs.Consecutive.{codeFor, consecutive}
 use Rattle.codes.specs.LineEnds.{ended}
 use Rattle.codes.specs.Lookup.{same, found, first, saying}
 use Rattle.codes.specs.Pack.{low, value, numbers}
->>>>>>> 20aafe9af99ed51ba88036f1b9dbbabb8e213e5f
 use Rattle.codes.specs.Steps.Sending.{PutSoFar}
 use Rattle.codes.proofs.EachAfter.{each-end}
 use Rattle.codes.proofs.PutSoFar.{put-none, put-length, first-ready, first-sent, put-flush-room, put-flushed}
-<<<<<<< HEAD
-use Rattle.shef.specs.Writer.{own, ours}
-use Rattle.shef_writer.specs.Steps.Sending.{codesFrom}
-use Rattle.shef_writer.proofs.Sending.{ours-binary, codes-whole}
-=======
 use Rattle.numeric.specs.Table.{characters}
 use Rattle.shef.specs.Table.{table}
 use Rattle.shef.specs.Writer.{coded, own, ours}
 use Rattle.shef_writer.specs.Steps.Sending.{codesFrom, entryOf, entries}
-use Rattle.shef_writer.proofs.Sending.{ours-binary, codes-whole, codes-end}
->>>>>>> 20aafe9af99ed51ba88036f1b9dbbabb8e213e5f
+use Rattle.shef_writer.proofs.Sending.{ours-binary, codes-whole}
 use Rattle.shef_writer.proofs.put_data.Statement.{statement}
 use Rattle.shef_writer.proofs.put_data.Tie as tie
 
@@ -89,11 +80,7 @@ all-sent l =
     let a = l .before in
     let e = a .before .before .before .before in
     subst (PutSoFar (ours (e .args .text .now)) (e .args .out .now) (a .loop .out) (a .loop .b))
-<<<<<<< HEAD
-    (each-end own (e .args .text .now) (a .loop .i) (l .loop-test .left)) (a .loop .inv .1)
-=======
-    (codes-end (e .args .text .now) (a .loop .i) (l .loop-test .left)) (a .loop .inv .2)
->>>>>>> 20aafe9af99ed51ba88036f1b9dbbabb8e213e5f
+    (each-end own (e .args .text .now) (a .loop .i) (l .loop-test .left)) (a .loop .inv .2)
 
 flush-requires : tie.Need-flush-requires Inv-loop μ-loop
 flush-requires c κs =

@@ -1,26 +1,16 @@
 -- Codes as the writer sends them, and how many bits they have.
 -- Assumes nothing.
-<<<<<<< HEAD
-use mathlib.Core.List.{List}
-use Prim.Native.Nat.{ℕ}
-use lib.ListN.{length, take, drop}
-use Rattle.codes.specs.Chain.{codes}
-use Rattle.codes.specs.Coded.{lastOf}
-use Rattle.codes.specs.LineEnds.{eachAfter}
-use Rattle.codes.specs.Steps.Sending.{OneOf, FirstOf}
-=======
 use mathlib.Core.Path.{_≡_}
 use mathlib.Core.Bool.{cond}
 use mathlib.Core.List.{List, map}
-use Prim.Native.Nat.{ℕ, _+_, _/_, _%_, _^_, _≤_, _<_}
+use Prim.Native.Nat.{ℕ, _+_, _/_, _%_}
 use lib.Dec.{eqb}
 use lib.ListN.{length, take, drop}
 use Rattle.codes.specs.Chain.{codes}
 use Rattle.codes.specs.Coded.{lastOf}
 use Rattle.codes.specs.LineEnds.{LF, eachAfter}
-use Rattle.codes.specs.Pack.{low, value, numbers}
-use Rattle.codes.specs.Steps.Sending.{FirstOf}
->>>>>>> 20aafe9af99ed51ba88036f1b9dbbabb8e213e5f
+use Rattle.codes.specs.Pack.{value, numbers}
+use Rattle.codes.specs.Steps.Sending.{OneOf, FirstOf}
 use Rattle.codes.specs.declared.Sent.{Sent}
 use Rattle.shef.specs.Writer.{coded, own}
 
