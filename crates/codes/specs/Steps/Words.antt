@@ -6,7 +6,7 @@ use Prim.Native.Nat.{ℕ, _+_, _-_, _*_, _≤_, _<_}
 use lib.ListN.{length, drop}
 use Rattle.bits.specs.Row.{bits}
 use Rattle.codes.specs.Chain.{Scheme}
-use Rattle.codes.specs.Pack.{low}
+use Rattle.codes.specs.Pack.{low, value}
 use Rattle.codes.specs.Steps.Laid.{Readable}
 use Rattle.codes.specs.Steps.Passed.{CountedSoFar, LaidSoFar}
 use Rattle.codes.specs.declared.Place.{Place}
@@ -46,7 +46,9 @@ abbrev pub LaidTo : Scheme → List ℕ → List ℕ → List ℕ → Place → 
 LaidTo scheme s entry exit place =
     NearEnd s place × (place .n ≤ length entry) × LaidSoFar scheme (bits s) (beyond s (place .next) (place .skip)) entry exit 0 (place .n)
 
--- the lowest `have` bits of `held` are what is still to be read
-pub record Last (s : List ℕ) (place : Place) (held have : ℕ) : Type 0 where
+-- the last bytes as a number, whose lowest `have` bits are what is still to be read; and the place behind them
+pub record Last (s : List ℕ) (place : Place) (held have end : ℕ) : Type 0 where
+  pub whole : held ≡ value (bits (drop (place .next) s))
   pub same : low have held ≡ beyond s (place .next) (place .skip)
   pub size : have + place .skip ≡ (length s - place .next) * 8
+  pub behind : end ≡ length s
