@@ -17,17 +17,19 @@ use Rattle.codes.specs.Pack.{low, value}
 use Rattle.codes.specs.Steps.EightBytes.{eightAt}
 use Rattle.codes.specs.Steps.Passed.{CountedSoFar, LaidSoFar}
 use Rattle.codes.specs.Steps.Measure.{Measures, countable, withFront, FrontFits}
-use Rattle.codes.specs.Steps.Words.{Begun, beyond, CountedTo, Last}
+use Rattle.codes.specs.Steps.Words.{SkimsInto, Begun, beyond, LaidWords, CountedTo, Last}
 use Rattle.codes.specs.declared.Measured.{Measured}
 use Rattle.codes.specs.declared.Measured.the-variants.{Malformed}
 use Rattle.codes.specs.declared.Place.{Place}
+use Rattle.codes.specs.declared.Skimmed.{Skimmed}
 use Rattle.codes.proofs.BitBuffer.{low-drop}
-use Rattle.codes.proofs.ReadSoFar.{counting-on, counting-front, counting-stuck, counting-whole, front-fits, laying-on, laying-front}
+use Rattle.codes.proofs.ReadSoFar.{counting-on, counting-front, counting-stuck, counting-whole, front-fits, laying-on, laying-front, laying-length, laying-later, laying-within}
 use Rattle.codes.proofs.LowBits.{length-low, value-low}
 use Rattle.codes.proofs.BitsInBytes.{drop-bits, length-bits}
 use Rattle.codes.proofs.EightBytes.{eight-bits}
 use Rattle.codes.proofs.OneReading.{Halts}
 use Rattle.codes.proofs.EveryElement.{every}
+use Rattle.codes.proofs.SchemeLaws.{Laws}
 use Rattle.codes.proofs.SizeBounds.{brief}
 
 module _ (s : List ℕ) (next held : ℕ) (here : next + 8 ≤ length s) (bytes : (i : ℕ) → getD s i 0 < 256) (word : held ≡ eightAt s next) where
@@ -76,14 +78,33 @@ module _ (s : List ℕ) (next held : ℕ) (here : next + 8 ≤ length s) (bytes 
         at (omega (arith, size, length-bits s)) (halts after)
         (λ f. let no′ : ⊥ = omega (arith, f .few, size) in no′)
 
-    pub laying-word : {scheme : Scheme} (bs entry out exit : List ℕ) (n left count : ℕ) → left ≤ 64 → n ≤ length entry
-        → LaidSoFar scheme bs (beyond s next skip) entry out 0 n → LaidSoFar scheme (low (64 - skip) held) (low left held) out exit n (n + count)
-        → LaidSoFar scheme bs (beyond s (next + (64 - left) / 8) ((64 - left) % 8)) entry exit 0 (n + count)
-    laying-word {scheme} bs entry out exit n left count h room y z =
-        laying-on y room (subst₂ (λ (a b : List ℕ). LaidSoFar scheme a b out exit n (n + count)) beyond-here (beyond-left left h) (laying-front z after))
+  -- where there is room for the whole text: for what the number's codes say there is, and then they are passed
+  module _ {scheme : Scheme} {entry out : List ℕ} {skip n : ℕ} (laws : Laws scheme) (f : Readable scheme (bits s) (length entry))
+      (y : LaidWords scheme s entry out next skip n) where
+    pub words-begun : (n ≤ length out) × Begun scheme held (64 - skip) (length out - n)
+    words-begun =
+        let same : length out ≡ length entry = laying-length (y .laid) (y .room) in (
+          omega (arith, same, y .room),
+          (
+            after,
+            subst₂ (Readable scheme) (sym (beyond-here skip (y .short))) (let e : 0 + length entry - n ≡ length out - n = omega (arith, same) in e)
+                (laying-later (y .laid) laws f),
+          ),
+        )
 
-    pub begun-word : {scheme : Scheme} (room : ℕ) → Readable scheme (beyond s next skip) room → Begun scheme held (64 - skip) room
-    begun-word {scheme} room f = (after, subst (λ (l : List ℕ). Readable scheme l room) (sym beyond-here) f)
+    pub words-on : {exit : List ℕ} (r : Skimmed) → SkimsInto scheme held (64 - skip) out exit n r
+        → LaidWords scheme s entry exit (next + (64 - r .left) / 8) ((64 - r .left) % 8) (n + r .count)
+    words-on {exit} r z =
+        let on : LaidSoFar scheme (bits s) (beyond s (next + (64 - r .left) / 8) ((64 - r .left) % 8)) entry exit 0 (n + r .count) =
+        laying-on (y .laid) (y .room)
+        (subst₂ (λ (a b : List ℕ). LaidSoFar scheme a b out exit n (n + r .count)) (beyond-here skip (y .short))
+        (beyond-left (r .left) (omega (arith, z .0 .last))) (laying-front (z .1) after)) in
+        record {
+          short = omega arith;
+          within = omega (arith, z .0 .last);
+          room = omega (arith, laying-within on laws f);
+          laid = on;
+        }
 
 -- a byte more at the lower end of the last bits: no more than these
 pub last-small : (held byte k : ℕ) → held < 2 ^ k → byte < 256 → held * 256 + byte < 2 ^ (k + 8)

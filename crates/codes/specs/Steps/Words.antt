@@ -29,6 +29,13 @@ Begun scheme held have room = (rest : List ℕ) × Readable scheme (low have hel
 unfoldable pub beyond : List ℕ → ℕ → ℕ → List ℕ
 beyond s next skip = drop skip (bits (drop next s))
 
+-- the reading has come to bit `skip` of byte `next`, and what was said stands at the front of the buffer, up to place n
+pub record LaidWords (scheme : Scheme) (s entry out : List ℕ) (next skip n : ℕ) : Type 0 where
+  pub short : skip < 8
+  pub within : next * 8 + skip ≤ length s * 8
+  pub room : n ≤ length entry
+  pub laid : LaidSoFar scheme (bits s) (beyond s next skip) entry out 0 n
+
 -- fewer than eight bytes are still to be read
 pub record NearEnd (s : List ℕ) (place : Place) : Type 0 where
   pub within : place .next ≤ length s
