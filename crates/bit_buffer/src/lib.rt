@@ -90,12 +90,12 @@ pub fn push(held: u64, bits: u64, width: u64) -> u64
 // The last bits in a buffer: those of fewer than eight bytes.
 pub fn last_bits(s: &[u8], place: Place) -> Buffer
     requires { ⌜ NearEnd (now s) place ⌝ }
-    ensures { λ r. ⌜ Last (now (s .entry)) place (r .held) (r .have) ⌝ }
+    ensures { λ r. ⌜ Last (now (s .entry)) place (r .held) (r .have) (r .next) ⌝ }
 {
     let mut held: u64 = 0;
     let mut next = place.next;
     while next < s.len() {
-        held = push(held, s[next] as u64, 8);
+        held = held * 256 + wide(s[next]);
         next += 1;
     }
     Buffer {

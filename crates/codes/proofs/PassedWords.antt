@@ -1,31 +1,35 @@
 -- Eight bytes of the data passed as one number: what is still to be read after them; and the last bytes. It holds of every scheme.
 -- Assumes nothing.
-use mathlib.Core.Path.{_≡_, sym, ap, ap₂, subst, subst₂, _∙_}
-use mathlib.Core.List.{List, _++_, append-assoc, append-nil}
-use Prim.Native.Nat.{ℕ, suc, _+_, _-_, _*_, _/_, _%_, _≤_, _<_}
-use native.Mathlib.Numerals.{add-one}
+use mathlib.Core.Path.{_≡_, sym, ap, ap₂, subst, subst₂, subst⁻¹, _∙_}
+use mathlib.Core.List.{List, _++_, append-nil}
+use Prim.Native.Nat.{ℕ, _+_, _-_, _*_, _/_, _%_, _^_, _≤_, _<_}
+use native.Mathlib.Nat.{mod-eq-of-lt, lt-of-lt-of-le}
 use native.Mathlib.Omega.{arith}
 use lib.Dec.{T}
 use lib.ListN.{length, drop, getD, length-append, length-drop, drop-of-length-le}
-use lib.Seq.{drop-cons, drop-drop, drop-append-le}
+use lib.Arith.{digits-lt}
+use lib.Pow.{pow-add, pow-mono}
+use lib.Seq.{drop-drop, drop-append-le}
 use Rattle.bits.specs.Row.{bits}
 use Rattle.codes.specs.Chain.{Scheme}
 use Rattle.codes.specs.Steps.Laid.{Readable}
-use Rattle.codes.specs.Pack.{low}
+use Rattle.codes.specs.Pack.{low, value}
 use Rattle.codes.specs.Steps.EightBytes.{eightAt}
 use Rattle.codes.specs.Steps.Passed.{CountedSoFar, LaidSoFar}
 use Rattle.codes.specs.Steps.Measure.{Measures, countable, withFront, FrontFits}
-use Rattle.codes.specs.Steps.Words.{Begun, beyond, CountedTo, Last}
+use Rattle.codes.specs.Steps.Words.{SkimsInto, Begun, beyond, LaidWords, CountedTo, Last}
 use Rattle.codes.specs.declared.Measured.{Measured}
 use Rattle.codes.specs.declared.Measured.the-variants.{Malformed}
 use Rattle.codes.specs.declared.Place.{Place}
+use Rattle.codes.specs.declared.Skimmed.{Skimmed}
 use Rattle.codes.proofs.BitBuffer.{low-drop}
-use Rattle.codes.proofs.ReadSoFar.{counting-on, counting-front, counting-stuck, counting-whole, front-fits, laying-on, laying-front}
-use Rattle.codes.proofs.LowBits.{length-low}
-use Rattle.codes.proofs.BitsInBytes.{bits-cons, drop-bits, length-bits}
+use Rattle.codes.proofs.ReadSoFar.{counting-on, counting-front, counting-stuck, counting-whole, front-fits, laying-on, laying-front, laying-length, laying-later, laying-within}
+use Rattle.codes.proofs.LowBits.{length-low, value-low}
+use Rattle.codes.proofs.BitsInBytes.{drop-bits, length-bits}
 use Rattle.codes.proofs.EightBytes.{eight-bits}
 use Rattle.codes.proofs.OneReading.{Halts}
 use Rattle.codes.proofs.EveryElement.{every}
+use Rattle.codes.proofs.SchemeLaws.{Laws}
 use Rattle.codes.proofs.SizeBounds.{brief}
 
 module _ (s : List ℕ) (next held : ℕ) (here : next + 8 ≤ length s) (bytes : (i : ℕ) → getD s i 0 < 256) (word : held ≡ eightAt s next) where
@@ -74,23 +78,40 @@ module _ (s : List ℕ) (next held : ℕ) (here : next + 8 ≤ length s) (bytes 
         at (omega (arith, size, length-bits s)) (halts after)
         (λ f. let no′ : ⊥ = omega (arith, f .few, size) in no′)
 
-    pub laying-word : {scheme : Scheme} (bs entry out exit : List ℕ) (n left count : ℕ) → left ≤ 64 → n ≤ length entry
-        → LaidSoFar scheme bs (beyond s next skip) entry out 0 n → LaidSoFar scheme (low (64 - skip) held) (low left held) out exit n (n + count)
-        → LaidSoFar scheme bs (beyond s (next + (64 - left) / 8) ((64 - left) % 8)) entry exit 0 (n + count)
-    laying-word {scheme} bs entry out exit n left count h room y z =
-        laying-on y room (subst₂ (λ (a b : List ℕ). LaidSoFar scheme a b out exit n (n + count)) beyond-here (beyond-left left h) (laying-front z after))
+  -- where there is room for the whole text: for what the number's codes say there is, and then they are passed
+  module _ {scheme : Scheme} {entry out : List ℕ} {skip n : ℕ} (laws : Laws scheme) (f : Readable scheme (bits s) (length entry))
+      (y : LaidWords scheme s entry out next skip n) where
+    pub words-begun : (n ≤ length out) × Begun scheme held (64 - skip) (length out - n)
+    words-begun =
+        let same : length out ≡ length entry = laying-length (y .laid) (y .room) in (
+          omega (arith, same, y .room),
+          (
+            after,
+            subst₂ (Readable scheme) (sym (beyond-here skip (y .short))) (let e : 0 + length entry - n ≡ length out - n = omega (arith, same) in e)
+                (laying-later (y .laid) laws f),
+          ),
+        )
 
-    pub begun-word : {scheme : Scheme} (room : ℕ) → Readable scheme (beyond s next skip) room → Begun scheme held (64 - skip) room
-    begun-word {scheme} room f = (after, subst (λ (l : List ℕ). Readable scheme l room) (sym beyond-here) f)
+    pub words-on : {exit : List ℕ} (r : Skimmed) → SkimsInto scheme held (64 - skip) out exit n r
+        → LaidWords scheme s entry exit (next + (64 - r .left) / 8) ((64 - r .left) % 8) (n + r .count)
+    words-on {exit} r z =
+        let on : LaidSoFar scheme (bits s) (beyond s (next + (64 - r .left) / 8) ((64 - r .left) % 8)) entry exit 0 (n + r .count) =
+        laying-on (y .laid) (y .room)
+        (subst₂ (λ (a b : List ℕ). LaidSoFar scheme a b out exit n (n + r .count)) (beyond-here skip (y .short))
+        (beyond-left (r .left) (omega (arith, z .0 .last))) (laying-front (z .1) after)) in
+        record {
+          short = omega arith;
+          within = omega (arith, z .0 .last);
+          room = omega (arith, laying-within on laws f);
+          laid = on;
+        }
 
--- the next byte at the lower end of the last bits
-pub last-byte : (s : List ℕ) (held more have i : ℕ) → i < length s → low (have + 8) more ≡ low have held ++ low 8 (getD s i 0)
-    → low (have + 8) more ++ bits (drop (i + 1) s) ≡ low have held ++ bits (drop i s)
-last-byte s held more have i h e =
-    ap₂ (λ (l : List ℕ) (n : ℕ). l ++ bits (drop n s)) e (add-one i)
-    ∙ append-assoc (low have held) (low 8 (getD s i 0)) (bits (drop (suc i) s))
-    ∙ ap (λ (l : List ℕ). low have held ++ l)
-    (sym (bits-cons (getD s i 0) (drop (suc i) s)) ∙ ap bits (sym (drop-cons s i 0 h)))
+-- a byte more at the lower end of the last bits: no more than these
+pub last-small : (held byte k : ℕ) → held < 2 ^ k → byte < 256 → held * 256 + byte < 2 ^ (k + 8)
+last-small held byte k h b = subst⁻¹ (λ (n : ℕ). held * 256 + byte < n) (pow-add 2 k 8) (digits-lt h b)
+
+pub last-fits-word : (held byte k : ℕ) → k ≤ 56 → held < 2 ^ k → byte < 256 → held * 256 + byte < 2 ^ 64
+last-fits-word held byte k small h b = lt-of-lt-of-le (last-small held byte k h b) (pow-mono (let e : k + 8 ≤ 64 = omega arith in e))
 
 -- the bits of all the last bytes, without the first `skip`
 pub last-held : (s : List ℕ) (held next skip end have : ℕ) → length s ≤ end → low ((end - next) * 8) held ++ bits (drop end s) ≡ bits (drop next s)
@@ -101,8 +122,22 @@ last-held s held next skip end have h e size =
     ∙ sym (low-drop held ((end - next) * 8) skip (omega arith))
     ∙ ap (drop skip) (sym (ap (λ (l : List ℕ). low ((end - next) * 8) held ++ bits l) (drop-of-length-le s h) ∙ append-nil (low ((end - next) * 8) held)) ∙ e)
 
+-- they are that number
+pub last-value : (s : List ℕ) (held next end : ℕ) → length s ≤ end → held < 2 ^ ((end - next) * 8)
+    → low ((end - next) * 8) held ++ bits (drop end s) ≡ bits (drop next s) → held ≡ value (bits (drop next s))
+unfolding bits
+last-value s held next end h small e =
+    sym (value-low ((end - next) * 8) held ∙ mod-eq-of-lt small)
+    ∙ ap value
+    (sym (ap (λ (l : List ℕ). low ((end - next) * 8) held ++ bits l) (drop-of-length-le s h) ∙ append-nil (low ((end - next) * 8) held)) ∙ e)
+
+-- and so there is one answer
+pub last-one : {s : List ℕ} {place : Place} {held have end held′ have′ end′ : ℕ} → Last s place held have end → Last s place held′ have′ end′
+    → (held ≡ held′) × (have ≡ have′) × (end ≡ end′)
+last-one a b = (a .whole ∙ sym (b .whole), omega (arith, a .size, b .size), a .behind ∙ sym (b .behind))
+
 -- what the last bits come to, told of the whole
-module _ {scheme : Scheme} (s : List ℕ) (place : Place) (held have n at : ℕ) (counted : CountedTo scheme s place) (last : Last s place held have)
+module _ {scheme : Scheme} (s : List ℕ) (place : Place) (held have end n at : ℕ) (counted : CountedTo scheme s place) (last : Last s place held have end)
     (said : n ≡ place .n) (size : at + have ≡ length s * 8) (m : Measured) (comes : Measures scheme (low have held) m) where
   pub last-fits : ((k : ℕ) → T (every (brief 1) (scheme .table k))) → length s < countable → FrontFits n at m
   last-fits briefs h =

@@ -7,8 +7,9 @@ use mathlib.Core.Option.{Option, none, some}
 use mathlib.Core.List.{List, [], _∷_, _++_, append-assoc, append-nil}
 use Prim.Native.Nat.{ℕ, zero, suc, _+_, _-_, _*_, _/_, _%_, _^_, _≤_, _<_, zero-le}
 use native.Mathlib.Decide.{ℕ-discrete, decLe, decLt}
-use native.Mathlib.Nat.{mod-lt, mod-eq-of-lt}
+use native.Mathlib.Nat.{mod-lt, mod-eq-of-lt, add-zero}
 use native.Mathlib.Omega.{arith}
+use lib.Bits.{bitAnd, and-zero-r, and-mask}
 use lib.Dec.{T, eqb, eqb→eq, lit≤}
 use lib.ListN.{length, take, getD, set, replicate, length-append}
 use lib.Pow.{pow-pos}
@@ -208,20 +209,19 @@ module _ (held left top : ℕ) (h : 9 ≤ left) (k : left ≤ 64) (e : top ≡ h
       subst (λ (n : ℕ). n < 63) (v .2) (readable-word held left (v .0) (v .1) more h f)
 
 -- a word shifted by five, and by one more where b is 1
-pub times-one : (x b : ℕ) → b < 2 → x * b ≤ x
-times-one x b h =
-    by-cases (ℕ-discrete b 0) (λ e. subst⁻¹ (λ (n : ℕ). x * n ≤ x) e (omega arith))
-    (λ e. subst⁻¹ (λ (n : ℕ). x * n ≤ x) (let one : b ≡ 1 = omega arith in one) (omega arith))
-
-pub shift-five : (top b : ℕ) → b < 2 → (top * 2 ^ 5 % 2 ^ 64 + top * 2 ^ 5 % 2 ^ 64 * b) % 2 ^ 64 ≡ top * 2 ^ (5 + b) % 2 ^ 64
+pub shift-five : (top b : ℕ) → b < 2
+    → (top * 2 ^ 5 % 2 ^ 64 + bitAnd (top * 2 ^ 5 % 2 ^ 64) (b * 18446744073709551615)) % 2 ^ 64 ≡ top * 2 ^ (5 + b) % 2 ^ 64
 shift-five top b h =
     let five : ℕ = top * 2 ^ 5 % 2 ^ 64 in
-    let small : five < 2 ^ 64 = mod-lt (top * 2 ^ 5) (pow-pos 64) in
+    let same : five % 2 ^ 64 ≡ five = mod-eq-of-lt (mod-lt (top * 2 ^ 5) (pow-pos 64)) in
+    let masked : (n : ℕ) → ℕ = λ n. (five + bitAnd five (n * 18446744073709551615)) % 2 ^ 64 in
     by-cases (ℕ-discrete b 0)
-    (λ e. subst⁻¹ (λ (n : ℕ). (five + five * n) % 2 ^ 64 ≡ top * 2 ^ (5 + n) % 2 ^ 64) e
-    (ap (λ (n : ℕ). n % 2 ^ 64) (let x : five + five * 0 ≡ five = omega arith in x) ∙ mod-eq-of-lt small))
-    (λ e. subst⁻¹ (λ (n : ℕ). (five + five * n) % 2 ^ 64 ≡ top * 2 ^ (5 + n) % 2 ^ 64) (let one : b ≡ 1 = omega arith in one)
-    (ap (λ (n : ℕ). n % 2 ^ 64) (let x : five + five * 1 ≡ five * 2 = omega arith in x) ∙ shifted-on top 5 1 (lit≤ tt)))
+    (λ e. subst⁻¹ (λ (n : ℕ). masked n ≡ top * 2 ^ (5 + n) % 2 ^ 64) e
+    (ap (λ (n : ℕ). (five + n) % 2 ^ 64) (and-zero-r five)
+    ∙ ap (λ (n : ℕ). n % 2 ^ 64) (add-zero five) ∙ same))
+    (λ e. subst⁻¹ (λ (n : ℕ). masked n ≡ top * 2 ^ (5 + n) % 2 ^ 64) (let one : b ≡ 1 = omega arith in one)
+    (ap (λ (n : ℕ). (five + n) % 2 ^ 64) (and-mask five 64 ∙ same)
+    ∙ ap (λ (n : ℕ). n % 2 ^ 64) (let x : five + five ≡ five * 2 = omega arith in x) ∙ shifted-on top 5 1 (lit≤ tt)))
 
 -- the word after a code, as the next turn has it
 pub six-on : {next : ℕ} (held left top six width : ℕ) → next ≡ top * 2 ^ (5 + six / 32) % 2 ^ 64 → width ≡ 5 + six / 32 → width ≤ left → left ≤ 64

@@ -37,7 +37,7 @@ fn shifted(top: u64, six: u64) -> u64
     ensures { λ r. ⌜ r ≡ top * 2 ^ (5 + six / 32) % 2 ^ 64 ⌝ }
 {
     let five = top << 5;
-    std::num::wrapping_add_u64(five, five * (six / 32))
+    std::num::wrapping_add_u64(five, five & (six / 32 * 0xffff_ffff_ffff_ffff))
 }
 
 // How many characters the code says that begins six bits.

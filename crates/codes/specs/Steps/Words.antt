@@ -6,7 +6,7 @@ use Prim.Native.Nat.{ℕ, _+_, _-_, _*_, _≤_, _<_}
 use lib.ListN.{length, drop}
 use Rattle.bits.specs.Row.{bits}
 use Rattle.codes.specs.Chain.{Scheme}
-use Rattle.codes.specs.Pack.{low}
+use Rattle.codes.specs.Pack.{low, value}
 use Rattle.codes.specs.Steps.Laid.{Readable}
 use Rattle.codes.specs.Steps.Passed.{CountedSoFar, LaidSoFar}
 use Rattle.codes.specs.declared.Place.{Place}
@@ -29,6 +29,13 @@ Begun scheme held have room = (rest : List ℕ) × Readable scheme (low have hel
 unfoldable pub beyond : List ℕ → ℕ → ℕ → List ℕ
 beyond s next skip = drop skip (bits (drop next s))
 
+-- the reading has come to bit `skip` of byte `next`, and what was said stands at the front of the buffer, up to place n
+pub record LaidWords (scheme : Scheme) (s entry out : List ℕ) (next skip n : ℕ) : Type 0 where
+  pub short : skip < 8
+  pub within : next * 8 + skip ≤ length s * 8
+  pub room : n ≤ length entry
+  pub laid : LaidSoFar scheme (bits s) (beyond s next skip) entry out 0 n
+
 -- fewer than eight bytes are still to be read
 pub record NearEnd (s : List ℕ) (place : Place) : Type 0 where
   pub within : place .next ≤ length s
@@ -46,7 +53,9 @@ abbrev pub LaidTo : Scheme → List ℕ → List ℕ → List ℕ → Place → 
 LaidTo scheme s entry exit place =
     NearEnd s place × (place .n ≤ length entry) × LaidSoFar scheme (bits s) (beyond s (place .next) (place .skip)) entry exit 0 (place .n)
 
--- the lowest `have` bits of `held` are what is still to be read
-pub record Last (s : List ℕ) (place : Place) (held have : ℕ) : Type 0 where
+-- the last bytes as a number, whose lowest `have` bits are what is still to be read; and the place behind them
+pub record Last (s : List ℕ) (place : Place) (held have end : ℕ) : Type 0 where
+  pub whole : held ≡ value (bits (drop (place .next) s))
   pub same : low have held ≡ beyond s (place .next) (place .skip)
   pub size : have + place .skip ≡ (length s - place .next) * 8
+  pub behind : end ≡ length s

@@ -30,7 +30,7 @@ with-front-requires c κs =
     let b = c .before in
     let p = b .before in
     let e = p .before .before in
-    last-fits (e .args .s .now) (p .measure-words .result) (b .last-bits .result .held) (b .last-bits .result .have) _ _ (p .measure-words .ensures)
+    last-fits (e .args .s .now) (p .measure-words .result) (b .last-bits .result .held) (b .last-bits .result .have) _ _ _ (p .measure-words .ensures)
     (b .last-bits .ensures) (omega arith) (omega (arith, b .last-bits .ensures .size)) (c .measure-last .result) (c .measure-last .ensures) briefs (e .pre)
 
 returns : tie.Need-returns
@@ -40,7 +40,7 @@ returns c =
     let p = b .before in
     let s = p .before .before .args .s .now in
     subst⁻¹ (Measures scheme (bits s)) (c .with-front .ensures)
-    (last-whole s (p .measure-words .result) (b .last-bits .result .held) (b .last-bits .result .have) _ _ (p .measure-words .ensures)
+    (last-whole s (p .measure-words .result) (b .last-bits .result .held) (b .last-bits .result .have) _ _ _ (p .measure-words .ensures)
     (b .last-bits .ensures) (omega arith) (omega (arith, b .last-bits .ensures .size)) (m .measure-last .result) (m .measure-last .ensures))
 
 pub measure-spec : {M : Type 1} → statement M

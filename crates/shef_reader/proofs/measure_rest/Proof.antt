@@ -26,7 +26,7 @@ with-front-requires : tie.Need-with-front-requires
 with-front-requires c κs =
     let b = c .before in
     let e = b .before .before in
-    last-fits (e .args .s .now) (e .args .place) (b .last-bits .result .held) (b .last-bits .result .have) _ _ (e .pre .1) (b .last-bits .ensures)
+    last-fits (e .args .s .now) (e .args .place) (b .last-bits .result .held) (b .last-bits .result .have) _ _ _ (e .pre .1) (b .last-bits .ensures)
     (omega arith) (omega (arith, b .last-bits .ensures .size)) (c .measure-last .result) (c .measure-last .ensures) briefs (e .pre .0)
 
 returns : tie.Need-returns
@@ -35,7 +35,7 @@ returns c =
     let b = m .before in
     let e = b .before .before in
     subst⁻¹ (Measures scheme (bits (e .args .s .now))) (c .with-front .ensures)
-    (last-whole (e .args .s .now) (e .args .place) (b .last-bits .result .held) (b .last-bits .result .have) _ _ (e .pre .1) (b .last-bits .ensures)
+    (last-whole (e .args .s .now) (e .args .place) (b .last-bits .result .held) (b .last-bits .result .have) _ _ _ (e .pre .1) (b .last-bits .ensures)
     (omega arith) (omega (arith, b .last-bits .ensures .size)) (m .measure-last .result) (m .measure-last .ensures))
 
 pub measure-rest-spec : {M : Type 1} → statement M

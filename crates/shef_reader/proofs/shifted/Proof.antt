@@ -1,14 +1,14 @@
 -- `shef_reader::shifted` meets its contract. Assumes nothing.
 use mathlib.Core.Path.{_∙_}
-use Prim.Native.Nat.{_*_, _/_, _%_, _^_}
+use Prim.Native.Nat.{_/_}
 use native.Mathlib.Omega.{arith}
-use Rattle.shef_reader.proofs.Six.{times-one, shift-five}
+use Rattle.shef_reader.proofs.Six.{shift-five}
 use borrow.Author.Needs.{needs}
 use Rattle.shef_reader.proofs.shifted.Statement.{statement}
 use Rattle.shef_reader.proofs.shifted.Tie as tie
 
 mul-wrapping-add-u64 : tie.Need-mul-wrapping-add-u64
-mul-wrapping-add-u64 c = record { fits = omega (arith, times-one (c .args .top * 2 ^ 5 % 2 ^ 64) (c .args .six / 32) (omega arith)) }
+mul-wrapping-add-u64 c = search needs
 
 wrapping-add-u64-requires : tie.Need-wrapping-add-u64-requires
 wrapping-add-u64-requires c κs = search needs
