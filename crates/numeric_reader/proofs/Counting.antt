@@ -8,17 +8,17 @@ use Prim.Native.Nat.{ℕ, _+_, _-_, _*_, _/_, _%_, _≤_, _<_}
 use native.Mathlib.Decide.{ℕ-discrete, decLt}
 use native.Mathlib.Omega.{arith}
 use lib.Bits.{bitAnd, and-zero-l}
-use lib.Dec.{T, eqb, ltb}
+use lib.Dec.{T, eqb}
 use lib.ListN.{length, getD, drop}
-use borrow.Author.Tests.{eq-eqb, ne-eqb, eqb-true, eqb-false, not-true, not-false}
+use borrow.Author.Tests.{eq-eqb, ne-eqb}
 use Rattle.codes.specs.Pack.{numbers}
 use Rattle.codes.proofs.EveryElement.{every, every-at}
 use Rattle.codes.proofs.NumberRanges.{numbers-in}
 use Rattle.numeric.specs.Steps.Text.{character, spelled, textOf}
 use Rattle.numeric.specs.Table.{characters}
 use Rattle.numeric_reader.specs.Steps.Reached.{Reached, CountsByte, Counts}
-use Rattle.numeric_reader.specs.Steps.Signs.{signIf, sign, paired, upper, lower, meets, saves, one, signAfter}
-use Rattle.numeric_reader.proofs.Pairs.{pairs-some, pair-few, pair-number, pair-line}
+use Rattle.numeric_reader.specs.Steps.Signs.{signIf, sign, paired, meet, upper, lower, meets, saves, one, signAfter}
+use Rattle.numeric_reader.proofs.Pairs.{pairs-some, pair-few, pair-number, pair-line, meet-not, meet-so, one-small}
 use Rattle.numeric_reader.proofs.Reading.{alone, pair, spelled-byte, reached-none}
 
 -- ---- the tests of bytes
@@ -40,28 +40,18 @@ joining b = eqb b 189 || (eqb b 219 || (eqb b 221 || eqb b 238))
 
 module _ (b : ℕ) (byte : b < 256) where
   pub joins-told : (eqb b 189 || (eqb b 219 || (eqb b 221 || eqb b 238))) ≡ saves b
-  unfolding joining agree every numbers saves meets sign signIf character characters paired
+  unfolding joining agree every numbers saves meet sign signIf character characters paired
   joins-told =
       agreed (joining b) (saves b)
       (every-at (λ k. agree (joining k) (saves k)) (numbers 0 256) tt b (numbers-in 0 256 b (omega arith) (omega arith)))
 
   pub pair-told : (saves b || eqb b 187) ≡ meets b
-  unfolding agree every numbers saves meets sign signIf character characters paired
+  unfolding agree every numbers saves meet sign signIf character characters paired
   pair-told =
       agreed (saves b || eqb b 187) (meets b)
       (every-at (λ k. agree (saves k || eqb k 187) (meets k)) (numbers 0 256) tt b (numbers-in 0 256 b (omega arith) (omega arith)))
 
 -- ---- what they mean
-
-meets-not : (b : ℕ) → meets b ≡ false → bitAnd (sign (upper b)) (sign (lower b)) ≡ 0
-unfolding meets
-meets-not b e =
-    eqb-true (bitAnd (sign (upper b)) (sign (lower b))) 0 (not-false (eqb (bitAnd (sign (upper b)) (sign (lower b))) 0) e)
-
-meets-so : (b : ℕ) → meets b ≡ true → bitAnd (sign (upper b)) (sign (lower b)) ≡ 0 → ⊥
-unfolding meets
-meets-so b e =
-    eqb-false (bitAnd (sign (upper b)) (sign (lower b))) 0 (not-true (eqb (bitAnd (sign (upper b)) (sign (lower b))) 0) e)
 
 pairs-two : (p q : ℕ) → length (paired p q) ≤ 2
 pairs-two p q = by-cases (decLt p 4) (λ h. omega (arith, pair-few p q h))
@@ -90,14 +80,9 @@ after-none : (b : ℕ) → meets b ≡ false → signAfter b ≡ sign (lower b)
 unfolding signAfter
 after-none b e = ap (λ t. cond t 0 (sign (lower b))) e
 
-pub one-small : (t : Bool) → one t ≤ 1
-unfolding one
-one-small true = omega arith
-one-small false = omega arith
-
 -- a digit begins no pair
 digit-first : (b : ℕ) → b < 16 → meets b ≡ false
-unfolding agree every numbers meets sign signIf character characters
+unfolding agree every numbers meet sign signIf character characters
 digit-first b h =
     agreed (meets b) false
     (every-at (λ k. agree (meets k) false) (numbers 0 16) tt b (numbers-in 0 16 b (omega arith) (omega arith)))
@@ -117,7 +102,7 @@ module _ (a b x : ℕ) (byte : b < 256) (across : x ≡ a % 16 * 16 + b / 16) wh
   first-alone true e f r = alone (upper b) r (ap (λ (k : ℕ). bitAnd k (sign (upper b))) (after-pair a e) ∙ and-zero-l (sign (upper b)))
   first-alone false e f r =
       alone (upper b) r
-      (ap (λ (k : ℕ). bitAnd k (sign (upper b))) (after-none a e) ∙ ap₂ (λ (c d : ℕ). bitAnd (sign c) (sign d)) (sym x-upper) (sym x-lower) ∙ meets-not x f)
+      (ap (λ (k : ℕ). bitAnd k (sign (upper b))) (after-none a e) ∙ ap₂ (λ (c d : ℕ). bitAnd (sign c) (sign d)) (sym x-upper) (sym x-lower) ∙ meet-not (upper x) (lower x) f)
 
   -- it is the second of a pair
   first-second : {text rest : List ℕ} {n : ℕ} (m : ℕ) → meets a ≡ false → meets x ≡ true → m + one (saves x) ≡ n + 1
@@ -126,7 +111,7 @@ module _ (a b x : ℕ) (byte : b < 256) (across : x ≡ a % 16 * 16 + b / 16) wh
       let told : paired (signAfter a) (sign (upper b)) ≡ paired (sign (upper x)) (sign (lower x)) =
       ap₂ paired (after-none a e ∙ ap sign (sym x-upper)) (ap sign (sym x-lower)) in
       pair (upper b) r
-      (λ g. meets-so x f (ap₂ bitAnd (ap sign x-upper ∙ sym (after-none a e)) (ap sign x-lower) ∙ g))
+      (λ g. meet-so (upper x) (lower x) f (ap₂ bitAnd (ap sign x-upper ∙ sym (after-none a e)) (ap sign x-lower) ∙ g))
       (omega (arith, saves-so x f, ap length told))
 
   pub counted-byte : not (meets x && (meets a || meets b)) ≡ true → CountsByte a b (one (saves x) + one (saves b))
@@ -141,10 +126,10 @@ module _ (a b x : ℕ) (byte : b < 256) (across : x ≡ a % 16 * 16 + b / 16) wh
           (alone (lower b) (first-second (m - 1) f e (omega (arith, saves-none b g)) r) (and-zero-l (sign (lower b))))
       pick false u true e f g h = λ text rest n m size r.
           subst (λ (k : ℕ). Reached text rest k m) (sym (after-pair b g))
-          (pair (lower b) (first-alone u f e r) (meets-so b g) (omega (arith, saves-none x e, saves-so b g)))
+          (pair (lower b) (first-alone u f e r) (meet-so (upper b) (lower b) g) (omega (arith, saves-none x e, saves-so b g)))
       pick false u false e f g h = λ text rest n m size r.
           subst₂ (Reached text rest) (sym (after-none b g)) (let y : n + 1 + 1 ≡ m = omega (arith, saves-none x e, saves-none b g) in y)
-          (alone (lower b) (first-alone u f e r) (meets-not b g))
+          (alone (lower b) (first-alone u f e r) (meet-not (upper b) (lower b) g))
 
   -- as the numbers and tests come
   pub counted-told : {p q : ℕ} {t u v : Bool} → p ≡ one (saves x) → q ≡ one (saves b) → t ≡ meets x → u ≡ meets a → v ≡ meets b
@@ -184,7 +169,7 @@ counts-more s from i saved more h k few counts byte text n m size r =
 -- the first byte
 pub counts-first : (s : List ℕ) {saved m : ℕ} → 0 < length s → getD s 0 0 < 256 → saved ≡ one (saves (getD s 0 0)) → m + saved ≡ 2
     → Reached (textOf s) (spelled (drop 1 s)) (signAfter (getD s 0 0)) m
-unfolding textOf signAfter meets sign signIf character characters numbers
+unfolding textOf signAfter meet sign signIf character characters numbers
 counts-first s {saved} {m} h byte e size =
     first-byte (getD s 0 0) byte (textOf s) (spelled (drop 1 s)) 0 m (omega arith)
     (subst (λ (l : List ℕ). Reached (textOf s) l 0 0) (spelled-byte s 0 h) (reached-none (spelled s)))

@@ -78,7 +78,7 @@ fn measure_by(s: &[u8], table: &[u32; 256]) -> usize
         }
         i += 1;
     }
-    s.len() * 2 - saved
+    i * 2 - saved
 }
 
 // The length of the text, byte by byte.

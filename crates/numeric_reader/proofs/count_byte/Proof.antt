@@ -4,7 +4,8 @@ use Prim.Native.Nat.{_+_, _*_, _/_, _%_}
 use native.Mathlib.Omega.{arith}
 use borrow.Author.Needs.{needs}
 use Rattle.numeric_reader.specs.Steps.Signs.{saves}
-use Rattle.numeric_reader.proofs.Counting.{one-small, counted-told}
+use Rattle.numeric_reader.proofs.Counting.{counted-told}
+use Rattle.numeric_reader.proofs.Pairs.{one-small}
 use Rattle.numeric_reader.proofs.count_byte.Statement.{statement}
 use Rattle.numeric_reader.proofs.count_byte.Tie as tie
 

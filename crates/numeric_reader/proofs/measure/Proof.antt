@@ -1,7 +1,7 @@
 -- `numeric_reader::measure` meets its contract. The loop's invariant: the codes of the bytes before i are passed, and `saved` is what their text is shorter
 -- by than two characters a byte. Assumes nothing.
 use mathlib.Core.List.{List}
-use mathlib.Core.Path.{_≡_, ap, subst}
+use mathlib.Core.Path.{ap, subst}
 use Prim.Native.Nat.{ℕ, _-_, _*_, _≤_}
 use native.Mathlib.Omega.{arith}
 use lib.ListN.{length, getD, drop, drop-of-length-le}
@@ -9,7 +9,8 @@ use borrow.Author.Tests.{not-false}
 use Rattle.numeric.specs.Steps.Text.{spelled, textOf}
 use Rattle.numeric_reader.specs.Steps.Reached.{Reached}
 use Rattle.numeric_reader.specs.Steps.Signs.{saves, signAfter}
-use Rattle.numeric_reader.proofs.Counting.{one-small, counts-first}
+use Rattle.numeric_reader.proofs.Counting.{counts-first}
+use Rattle.numeric_reader.proofs.Pairs.{one-small}
 use Rattle.numeric_reader.proofs.Reading.{reached-none, reached-end}
 use Rattle.numeric_reader.proofs.measure.Statement.{statement}
 use Rattle.numeric_reader.proofs.measure.Tie as tie
