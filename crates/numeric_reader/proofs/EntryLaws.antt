@@ -1,22 +1,20 @@
 -- The entries of bytes: their parts, and what the tests of them say.
 -- Assumes nothing.
-use mathlib.Core.Bool.{Bool, true, false, cond}
-use mathlib.Core.List.{List, [], _∷_, _++_, map}
-use mathlib.Core.Logic.{by-cases}
-use mathlib.Core.Path.{_≡_, refl, sym, ap, ap₂, subst, _∙_}
-use Prim.Native.Nat.{ℕ, zero, suc, _+_, _-_, _*_, _/_, _%_, _^_, _≤_, _<_}
-use native.Mathlib.Decide.{ℕ-discrete}
+use mathlib.Core.Bool.{Bool, true, false}
+use mathlib.Core.List.{List, _∷_, map}
+use mathlib.Core.Path.{_≡_, sym, ap, ap₂, _∙_}
+use Prim.Native.Nat.{ℕ, zero, suc, _+_, _*_, _/_, _%_, _^_, _<_}
 use native.Mathlib.Omega.{arith}
 use lib.Bits.{bitAnd, and-block, and-mask, and-comm}
 use lib.Dec.{eqb, ltb, ltb→lt}
 use lib.ListN.{length, getD, drop}
-use borrow.Author.Tests.{eq-eqb, ne-eqb}
 use Rattle.codes.specs.Pack.{numbers}
 use Rattle.codes.proofs.EveryElement.{every, every-at}
 use Rattle.codes.proofs.NumberRanges.{numbers-in}
 use Rattle.numeric.specs.Steps.Text.{character, spelled}
 use Rattle.numeric.specs.Table.{characters}
-use Rattle.numeric_reader.specs.Steps.Signs.{signIf, sign, clash, entryFor, entryOf, entries, firstOf, secondOf, Entry}
+use Rattle.numeric_reader.specs.Steps.Signs.{signIf, sign, meet, one, entryFor, entryOf, entries, firstOf, secondOf, Entry}
+use Rattle.numeric_reader.proofs.Pairs.{meet-not, meet-so, one-small, one-none, one-some}
 use Rattle.numeric_reader.proofs.Reading.{spelled-byte}
 
 -- a sign is below 8
@@ -30,23 +28,6 @@ sign-small c = small (eqb 43 c) (eqb 45 c) (eqb 46 c)
     small false false true = omega arith
     small false false false = omega arith
 
-clash-small : (c d : ℕ) → clash c d < 2
-unfolding clash
-clash-small c d = small (eqb (bitAnd (sign c) (sign d)) 0)
-  where
-    small : (t : Bool) → cond t 0 1 < 2
-    small true = omega arith
-    small false = omega arith
-
-pub clash-none : (c d : ℕ) → clash c d ≡ 0 → bitAnd (sign c) (sign d) ≡ 0
-unfolding clash
-clash-none c d e = by-cases (ℕ-discrete (bitAnd (sign c) (sign d)) 0) (λ f. f)
-    (λ f. absurd (let no′ : ⊥ = omega (arith, e, ap {B = ℕ} (λ t. cond t 0 1) (ne-eqb (bitAnd (sign c) (sign d)) 0 f)) in no′))
-
-pub clash-some : (c d : ℕ) → clash c d ≡ 1 → bitAnd (sign c) (sign d) ≡ 0 → ⊥
-unfolding clash
-clash-some c d e f = omega (arith, e, ap {B = ℕ} (λ t. cond t 0 1) (eq-eqb (bitAnd (sign c) (sign d)) 0 f))
-
 -- the parts of an entry
 module _ (entry : ℕ) (is : Entry entry) where
   pub entry-first : entry % 8 ≡ sign (firstOf entry)
@@ -56,26 +37,26 @@ module _ (entry : ℕ) (is : Entry entry) where
   pub entry-second : entry / 256 % 8 ≡ sign (secondOf entry)
   unfolding entryFor
   entry-second =
-      omega (arith, is, sign-small (firstOf entry), clash-small (firstOf entry) (secondOf entry), sign-small (secondOf entry))
+      omega (arith, is, sign-small (firstOf entry), one-small (meet (firstOf entry) (secondOf entry)), sign-small (secondOf entry))
 
   pub entry-held : entry / 256 % 256 / 8 ≡ 1
   unfolding entryFor
   entry-held =
-      omega (arith, is, sign-small (firstOf entry), clash-small (firstOf entry) (secondOf entry), sign-small (secondOf entry))
+      omega (arith, is, sign-small (firstOf entry), one-small (meet (firstOf entry) (secondOf entry)), sign-small (secondOf entry))
 
-  pub entry-clash : entry / 8 % 2 ≡ clash (firstOf entry) (secondOf entry)
+  pub entry-meet : entry / 8 % 2 ≡ one (meet (firstOf entry) (secondOf entry))
   unfolding entryFor
-  entry-clash = omega (arith, is, sign-small (firstOf entry), clash-small (firstOf entry) (secondOf entry))
+  entry-meet = omega (arith, is, sign-small (firstOf entry), one-small (meet (firstOf entry) (secondOf entry)))
 
 -- the entry of two characters is one, and has them
 module _ {entry : ℕ} (c d : ℕ) (small : c < 256) (e : entry ≡ entryFor c d) where
   pub entry-character : firstOf entry ≡ c
   unfolding entryFor
-  entry-character = omega (arith, sign-small c, clash-small c d, sign-small d)
+  entry-character = omega (arith, sign-small c, one-small (meet c d), sign-small d)
 
   pub entry-other : secondOf entry ≡ d
   unfolding entryFor
-  entry-other = omega (arith, sign-small c, clash-small c d, sign-small d)
+  entry-other = omega (arith, sign-small c, one-small (meet c d), sign-small d)
 
   pub entry-is : Entry entry
   entry-is = e ∙ ap₂ entryFor (sym entry-character) (sym entry-other)
@@ -103,13 +84,22 @@ module _ (before : ℕ) (held : before / 8 ≡ 1) where
       apart-before = ap (bitAnd (before % 8)) (sym (entry-first entry is)) ∙ (let e : bitAnd (before % 8) (entry % 8) ≡ 0 = omega (arith, common-entry entry) in e)
 
       pub apart-within : bitAnd (sign (firstOf entry)) (sign (secondOf entry)) ≡ 0
-      apart-within = clash-none (firstOf entry) (secondOf entry) (omega (arith, common-entry entry, entry-clash entry is))
+      apart-within = meet-not (firstOf entry) (secondOf entry)
+          (one-none (meet (firstOf entry) (secondOf entry)) (omega (arith, common-entry entry, entry-meet entry is)))
 
     -- the first makes no pair with the one before it, and so makes one with the second
     pub pair-within : (bitAnd before entry ≡ 0 → ⊥) → bitAnd before (entry % 8) ≡ 0 → bitAnd (sign (firstOf entry)) (sign (secondOf entry)) ≡ 0 → ⊥
     pair-within some none =
-        clash-some (firstOf entry) (secondOf entry)
-        (omega (arith, common-entry entry, common (entry % 8) (omega arith), entry-clash entry is, clash-small (firstOf entry) (secondOf entry), some))
+        meet-so (firstOf entry) (secondOf entry)
+        (one-some (meet (firstOf entry) (secondOf entry))
+        (omega (
+          arith,
+          common-entry entry,
+          common (entry % 8) (omega arith),
+          entry-meet entry is,
+          one-small (meet (firstOf entry) (secondOf entry)),
+          some,
+        )))
 
 -- ---- the table
 

@@ -1,3 +1,4 @@
+pub mod Counting
 pub mod EntryLaws
 pub mod Pairs
 pub mod Passing

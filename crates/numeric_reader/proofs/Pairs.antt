@@ -11,14 +11,14 @@ use native.Mathlib.Omega.{arith}
 use lib.Bits.{bitAnd}
 use lib.Dec.{eqb, ltb}
 use lib.ListN.{length, set, length-append}
-use borrow.Author.Tests.{ne-eqb, lt-ltb, le-ltb}
+use borrow.Author.Tests.{ne-eqb, lt-ltb, le-ltb, eqb-true, eqb-false, not-true, not-false}
 use Rattle.codes.specs.Chain.{Entry, texts}
 use Rattle.codes.specs.LineEnds.{LF, CR}
 use Rattle.codes.specs.Lookup.{same, found, first, meaning}
 use Rattle.codes.specs.Steps.Laid.{laid}
 use Rattle.codes.proofs.LaidRows.{set-laid, set-laid-two}
 use Rattle.numeric.specs.Translation.{sent, specials, translated}
-use Rattle.numeric_reader.specs.Steps.Signs.{signIf, sign, paired}
+use Rattle.numeric_reader.specs.Steps.Signs.{signIf, sign, paired, meet, one}
 
 -- a character is one of the three that make pairs, or none of them
 data Sort : Bool → Bool → Bool → Type 0 where
@@ -159,3 +159,28 @@ module _ (one other : ℕ) where
     ap (λ (l : List ℕ). n + length l) (sym e),
     set-laid-two d n v w (omega (arith, ap length e)) ∙ ap (laid d n) (sym e),
   )
+
+-- ---- whether two characters are a pair, as an answer and as a number
+
+pub meet-not : (c d : ℕ) → meet c d ≡ false → bitAnd (sign c) (sign d) ≡ 0
+unfolding meet
+meet-not c d e = eqb-true (bitAnd (sign c) (sign d)) 0 (not-false (eqb (bitAnd (sign c) (sign d)) 0) e)
+
+pub meet-so : (c d : ℕ) → meet c d ≡ true → bitAnd (sign c) (sign d) ≡ 0 → ⊥
+unfolding meet
+meet-so c d e = eqb-false (bitAnd (sign c) (sign d)) 0 (not-true (eqb (bitAnd (sign c) (sign d)) 0) e)
+
+pub one-small : (t : Bool) → one t ≤ 1
+unfolding one
+one-small true = omega arith
+one-small false = omega arith
+
+pub one-none : (t : Bool) → one t ≡ 0 → t ≡ false
+unfolding one
+one-none true e = absurd (let no′ : ⊥ = omega arith in no′)
+one-none false e = refl
+
+pub one-some : (t : Bool) → one t ≡ 1 → t ≡ true
+unfolding one
+one-some true e = refl
+one-some false e = absurd (let no′ : ⊥ = omega arith in no′)

@@ -1,8 +1,8 @@
 -- What codes say, put into a buffer that has room for it.
 -- Assumes nothing.
-use mathlib.Core.List.{List, [], _∷_, _++_}
+use mathlib.Core.List.{List, [], _∷_}
 use mathlib.Core.Path.{_≡_, refl, sym, ap, subst, subst₂, _∙_}
-use Prim.Native.Nat.{ℕ, suc, _+_, _-_, _/_, _%_, _≤_, _<_}
+use Prim.Native.Nat.{ℕ, _+_, _-_, _/_, _%_, _≤_, _<_}
 use native.Mathlib.Omega.{arith}
 use lib.Bits.{bitAnd}
 use lib.ListN.{length, set}
@@ -11,7 +11,6 @@ use Rattle.numeric_reader.specs.Steps.Reached.{Reached, Put, Fits, Puts}
 use Rattle.numeric_reader.specs.declared.Place.{Place}
 use Rattle.numeric_reader.specs.Steps.Signs.{sign, paired, firstOf, secondOf, Entry}
 use Rattle.numeric_reader.proofs.EntryLaws.{sign-small, entry-second, entry-held, common, apart-before, apart-within}
-use Rattle.numeric_reader.proofs.Pairs.{pairs-some}
 use Rattle.numeric_reader.proofs.Reading.{alone, pair, reached-within, put-alone, put-some, put-pair, put-length}
 
 -- as far as a reading comes there is room

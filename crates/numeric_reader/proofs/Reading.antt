@@ -1,25 +1,23 @@
 -- A character more read: it stands by itself, or it makes a pair with the one before it.
 -- Assumes nothing.
-use mathlib.Core.Bool.{Bool, true, false, cond}
+use mathlib.Core.Bool.{cond}
 use mathlib.Core.List.{List, [], _∷_, _++_, append-assoc}
 use mathlib.Core.Logic.{by-cases}
 use mathlib.Core.Path.{_≡_, refl, sym, ap, ap₂, subst, _∙_}
-use Prim.Native.Nat.{ℕ, zero, suc, _+_, _-_, _/_, _%_, _≤_, _<_}
+use Prim.Native.Nat.{ℕ, suc, _+_, _/_, _%_, _≤_, _<_}
 use native.Mathlib.Decide.{ℕ-discrete}
-use native.Mathlib.Nat.{suc-add, add-zero}
 use native.Mathlib.Numerals.{add-one}
 use native.Mathlib.Omega.{arith}
 use lib.Bits.{bitAnd, and-zero-l}
 use lib.ListN.{length, getD, take, drop, set, length-append, length-drop}
 use lib.Seq.{set-at, take-at, drop-append-add, drop-drop, drop-cons, append-snoc}
 use borrow.Author.Tests.{eq-eqb, ne-eqb}
-use Rattle.codes.specs.LineEnds.{LF, CR}
 use Rattle.codes.specs.Steps.Laid.{laid, Fronted}
 use Rattle.numeric.specs.Steps.Text.{character, spelled}
 use Rattle.numeric.specs.Translation.{translated}
 use Rattle.numeric_reader.specs.Steps.Reached.{Reached, Put}
 use Rattle.numeric_reader.specs.Steps.Signs.{signIf, sign, paired}
-use Rattle.numeric_reader.proofs.Pairs.{translated-two, ends, pairs-length, pairs-some}
+use Rattle.numeric_reader.proofs.Pairs.{translated-two, ends, pairs-length}
 
 -- a character that makes no pair with the next is itself
 translated-alone : (a b : ℕ) (base : List ℕ) → bitAnd (sign a) (sign b) ≡ 0 → translated (a ∷ b ∷ base) ≡ a ∷ translated (b ∷ base)

@@ -1,15 +1,16 @@
 // Compact Numeric ASCII (001, 4.3), read: how long the text of its data is, and the text. All data has one.
 
+ghost use mathlib.Core.Bool.{true};
 ghost use mathlib.Core.List.{[], _∷_};
 ghost use mathlib.Core.Path.{_≡_};
-ghost use Prim.Native.Nat.{_+_, _/_, _≤_, _<_};
+ghost use Prim.Native.Nat.{_+_, _-_, _*_, _/_, _≤_, _<_};
 ghost use lib.Bits.{bitAnd};
 ghost use lib.ListN.{length};
 ghost use Rattle.codes.specs.Steps.Laid.{laid, Fronted};
 ghost use Rattle.codes.specs.Steps.Measure.{countable};
 ghost use Rattle.numeric.specs.Steps.Text.{textOf};
-ghost use Rattle.numeric_reader.specs.Steps.Reached.{Passes, Fits, Puts};
-ghost use Rattle.numeric_reader.specs.Steps.Signs.{paired, sign, entries, Entry, firstOf, secondOf};
+ghost use Rattle.numeric_reader.specs.Steps.Reached.{Passes, CountsByte, Counts, Fits, Puts};
+ghost use Rattle.numeric_reader.specs.Steps.Signs.{paired, sign, meets, saves, one, entries, Entry, firstOf, secondOf};
 
 mod entries;
 
@@ -77,7 +78,83 @@ fn measure_by(s: &[u8], table: &[u32; 256]) -> usize
         }
         i += 1;
     }
-    s.len() * 2 - saved
+    i * 2 - saved
+}
+
+// The length of the text, byte by byte.
+fn measure_each(s: &[u8]) -> usize
+    requires { ⌜ length (now s) < countable ⌝ }
+    ensures { λ r. ⌜ r ≡ length (textOf (now (s .entry))) ⌝ }
+{
+    let table = table();
+    measure_by(s, &table)
+}
+
+// Whether two codes, in one byte, are a pair that says one character.
+fn joins(b: u8) -> bool
+    ensures { λ r. ⌜ r ≡ saves b ⌝ }
+{
+    (b == 0xbd) | ((b == 0xdb) | ((b == 0xdd) | (b == 0xee)))
+}
+
+// Whether they are a pair.
+fn is_pair(b: u8) -> bool
+    ensures { λ r. ⌜ r ≡ meets b ⌝ }
+{
+    joins(b) | (b == 0xbb)
+}
+
+// How many characters fewer than two a byte's codes say.
+fn saved_by(b: u8) -> u8
+    ensures { λ r. ⌜ r ≡ one (saves b) ⌝ }
+{
+    if joins(b) { 1 } else { 0 }
+}
+
+// Bytes counted: how many characters fewer than two for each they say; and whether there are no three codes in a row of which the first two would be a
+// pair and the last two as well. Of such three it depends on what comes before them which two are one.
+struct Counted {
+    pub saved: u8,
+    pub apart: bool,
+}
+
+// A byte, by itself and with the one before it: without a branch, so that a loop over bytes is done for many at once.
+fn count_byte(before: u8, b: u8) -> Counted
+    ensures { λ r. ⌜ (r .saved ≤ 2) × (r .apart ≡ true → CountsByte before b (r .saved)) ⌝ }
+{
+    let across = before % 16 * 16 + b / 16;
+    Counted {
+        saved: saved_by(across) + saved_by(b),
+        apart: !(is_pair(across) & (is_pair(before) | is_pair(b))),
+    }
+}
+
+// The bytes from one place up to another.
+fn count_block(s: &[u8], from: usize, to: usize) -> Counted
+    requires { ⌜ (1 ≤ from) × (from ≤ to) × (to ≤ length (now s)) × (to ≤ from + 112) ⌝ }
+    ensures { λ r. ⌜ (r .saved ≤ (to - from) * 2) × (r .apart ≡ true → Counts (now (s .entry)) from to (r .saved)) ⌝ }
+{
+    let mut saved: u8 = 0;
+    let mut apart = true;
+    let mut i = from;
+    while i < to {
+        let byte = count_byte(s[i - 1], s[i]);
+        saved += byte.saved;
+        apart = apart & byte.apart;
+        i += 1;
+    }
+    Counted { saved, apart }
+}
+
+// Where the next bytes end that are counted together: what 112 save is less than 2^8, and numbers of 8 bits are added 16 at once.
+fn block_end(from: usize, length: usize) -> usize
+    requires { ⌜ from < length ⌝ }
+    ensures { λ r. ⌜ (from < r) × (r ≤ length) × (r ≤ from + 112) ⌝ }
+{
+    if length - from < 112 {
+        return length;
+    }
+    from + 112
 }
 
 // The length of the text.
@@ -85,8 +162,21 @@ pub fn measure(s: &[u8]) -> usize
     requires { ⌜ length (now s) < countable ⌝ }
     ensures { λ r. ⌜ r ≡ length (textOf (now (s .entry))) ⌝ }
 {
-    let table = table();
-    measure_by(s, &table)
+    if s.len() == 0 {
+        return 0;
+    }
+    let mut saved = saved_by(s[0]) as usize;
+    let mut i: usize = 1;
+    while i < s.len() {
+        let to = block_end(i, s.len());
+        let block = count_block(s, i, to);
+        if !block.apart {
+            return measure_each(s);
+        }
+        saved += block.saved as usize;
+        i = to;
+    }
+    s.len() * 2 - saved
 }
 
 // How far the text is put: the place after it, and the sign of its last character, with an 8.

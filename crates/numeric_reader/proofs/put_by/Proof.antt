@@ -1,11 +1,11 @@
 -- `numeric_reader::put_by` meets its contract. The loop's invariant: the text of the codes of the bytes before i is put. Assumes nothing.
-use mathlib.Core.List.{List, [], _∷_}
+use mathlib.Core.List.{List, _∷_}
 use mathlib.Core.Path.{_≡_, ap, subst, subst⁻¹}
 use Prim.Native.Nat.{ℕ, _+_, _-_, _/_, _%_, _≤_}
 use native.Mathlib.Omega.{arith}
 use lib.ListN.{length, getD, drop, drop-of-length-le}
 use Rattle.numeric.specs.Steps.Text.{spelled, textOf}
-use Rattle.numeric_reader.specs.Steps.Reached.{Put, Fits}
+use Rattle.numeric_reader.specs.Steps.Reached.{Put}
 use Rattle.numeric_reader.specs.Steps.Signs.{firstOf, secondOf, Entry}
 use Rattle.numeric_reader.proofs.EntryLaws.{looked-entry, spelled-entry}
 use Rattle.numeric_reader.proofs.Reading.{put-none, put-end, put-length, reached-within}

@@ -2,10 +2,11 @@
 -- Assumes nothing.
 use mathlib.Core.List.{List, _∷_, _++_}
 use mathlib.Core.Path.{_≡_}
-use Prim.Native.Nat.{ℕ, _+_, _/_, _%_, _≤_}
-use lib.ListN.{length, drop}
+use Prim.Native.Nat.{ℕ, _+_, _-_, _*_, _/_, _%_, _≤_}
+use lib.ListN.{length, getD, drop}
+use Rattle.numeric.specs.Steps.Text.{spelled}
 use Rattle.numeric.specs.Translation.{translated}
-use Rattle.numeric_reader.specs.Steps.Signs.{sign, firstOf, secondOf}
+use Rattle.numeric_reader.specs.Steps.Signs.{sign, upper, lower, signAfter, firstOf, secondOf}
 use Rattle.numeric_reader.specs.declared.Passed.{Passed}
 use Rattle.numeric_reader.specs.declared.Place.{Place}
 
@@ -29,6 +30,18 @@ pub record Passes (before entry : ℕ) (r : Passed) : Type 0 where
   pub held : r .before / 8 ≡ 1
   pub on : (text rest : List ℕ) (n m : ℕ) → m + r .fewer ≡ n + 2 → Reached text (firstOf entry ∷ secondOf entry ∷ rest) (before % 8) n
       → Reached text rest (r .before % 8) m
+
+-- a byte is passed behind another
+abbrev pub CountsByte : ℕ → ℕ → ℕ → Type 0
+CountsByte before b saved =
+    (text rest : List ℕ) (n m : ℕ) → m + saved ≡ n + 2 → Reached text (upper b ∷ lower b ∷ rest) (signAfter before) n
+    → Reached text rest (signAfter b) m
+
+-- the bytes from one place up to another are
+abbrev pub Counts : List ℕ → ℕ → ℕ → ℕ → Type 0
+Counts s from to saved =
+    (text : List ℕ) (n m : ℕ) → m + saved ≡ n + (to - from) * 2 → Reached text (spelled (drop from s)) (signAfter (getD s (from - 1) 0)) n
+    → Reached text (spelled (drop to s)) (signAfter (getD s (to - 1) 0)) m
 
 -- there is room for what these characters say
 pub record Fits (these out : List ℕ) (before n : ℕ) : Type 0 where

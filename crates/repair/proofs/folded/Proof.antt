@@ -2,7 +2,7 @@
 -- Assumes nothing.
 use mathlib.Core.Path.{refl}
 use Rattle.repair.specs.Steps.Repair.{foldedOf, raised, up, first, second}
-use Rattle.bits.proofs.Rows.{row, last}
+use Rattle.repair.proofs.Rows.{row, last}
 use Rattle.repair.proofs.folded.Statement.{statement}
 use Rattle.repair.proofs.folded.Tie as tie
 

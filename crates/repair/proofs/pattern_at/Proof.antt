@@ -8,7 +8,7 @@ use Prim.Native.Nat.{ℕ, _+_}
 use borrow.Author.Tests.{ne-eqb}
 use lib.Dec.{eqb}
 use Rattle.repair.specs.Steps.Repair.{patterns, patternIn, patternAt}
-use Rattle.bits.proofs.Rows.{row}
+use Rattle.repair.proofs.Rows.{row}
 use Rattle.repair.proofs.pattern_at.Statement.{statement}
 use Rattle.repair.proofs.pattern_at.Tie as tie
 

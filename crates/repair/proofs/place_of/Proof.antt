@@ -2,7 +2,7 @@
 -- Assumes nothing.
 use mathlib.Core.Path.{refl}
 use Rattle.repair.specs.Steps.Repair.{placeOf, powerBetween, up, second, nowhere}
-use Rattle.bits.proofs.Rows.{row, last}
+use Rattle.repair.proofs.Rows.{row, last}
 use Rattle.repair.proofs.place_of.Statement.{statement}
 use Rattle.repair.proofs.place_of.Tie as tie
 

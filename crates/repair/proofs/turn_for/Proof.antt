@@ -1,7 +1,7 @@
 -- `repair::turn_for` meets its contract: each row of the table is computed.
 -- Assumes nothing.
 use Rattle.repair.specs.Steps.Repair.{turnFor, powerBetween, up, first, nowhere}
-use Rattle.bits.proofs.Rows.{row-tested, last}
+use Rattle.repair.proofs.Rows.{row-tested, last}
 use Rattle.repair.proofs.turn_for.Statement.{statement}
 use Rattle.repair.proofs.turn_for.Tie as tie
 
