@@ -102,7 +102,9 @@ module _ (a b x : ℕ) (byte : b < 256) (across : x ≡ a % 16 * 16 + b / 16) wh
   first-alone true e f r = alone (upper b) r (ap (λ (k : ℕ). bitAnd k (sign (upper b))) (after-pair a e) ∙ and-zero-l (sign (upper b)))
   first-alone false e f r =
       alone (upper b) r
-      (ap (λ (k : ℕ). bitAnd k (sign (upper b))) (after-none a e) ∙ ap₂ (λ (c d : ℕ). bitAnd (sign c) (sign d)) (sym x-upper) (sym x-lower) ∙ meet-not (upper x) (lower x) f)
+      (ap (λ (k : ℕ). bitAnd k (sign (upper b))) (after-none a e)
+      ∙ ap₂ (λ (c d : ℕ). bitAnd (sign c) (sign d)) (sym x-upper) (sym x-lower)
+      ∙ meet-not (upper x) (lower x) f)
 
   -- it is the second of a pair
   first-second : {text rest : List ℕ} {n : ℕ} (m : ℕ) → meets a ≡ false → meets x ≡ true → m + one (saves x) ≡ n + 1

@@ -69,26 +69,6 @@ pub translated-two : (a b : ℕ) (base : List ℕ)
 unfolding translated meaning specials same looked sign sent first
 translated-two a b base = joined (sort a) (sort b) (translated base) (a ∷ translated (b ∷ base))
 
-sign-e : sign 69 ≡ 0
-unfolding sign signIf
-sign-e = refl
-
-sign-equals : sign 61 ≡ 0
-unfolding sign signIf
-sign-equals = refl
-
-sign-colon : sign 58 ≡ 0
-unfolding sign signIf
-sign-colon = refl
-
-sign-number : sign 35 ≡ 0
-unfolding sign signIf
-sign-number = refl
-
-sign-feed : sign LF ≡ 0
-unfolding sign signIf
-sign-feed = refl
-
 -- what a pair says ends with a character that has no sign
 pub record Ends (says : List ℕ) : Type 0 where
   pub front : List ℕ
@@ -97,21 +77,23 @@ pub record Ends (says : List ℕ) : Type 0 where
   pub plain : sign end ≡ 0
 
 pub ends : (one other : ℕ) → Ends (paired one other)
-unfolding paired
+unfolding paired sign signIf
 ends one other = pick (ltb one 4) (ltb one 2) (ltb other 4)
   where
     pick : (p q r : Bool) → Ends (cond p (cond q (cond r (69 ∷ []) (61 ∷ [])) (58 ∷ [])) (cond r (35 ∷ []) (CR ∷ LF ∷ [])))
-    pick true true true = record { front = []; end = 69; is = refl; plain = sign-e }
-    pick true true false = record { front = []; end = 61; is = refl; plain = sign-equals }
-    pick true false true = record { front = []; end = 58; is = refl; plain = sign-colon }
-    pick true false false = record { front = []; end = 58; is = refl; plain = sign-colon }
-    pick false true true = record { front = []; end = 35; is = refl; plain = sign-number }
-    pick false true false = record { front = CR ∷ []; end = LF; is = refl; plain = sign-feed }
-    pick false false true = record { front = []; end = 35; is = refl; plain = sign-number }
-    pick false false false = record { front = CR ∷ []; end = LF; is = refl; plain = sign-feed }
+    pick true true true = record { front = []; end = 69; is = refl; plain = refl }
+    pick true true false = record { front = []; end = 61; is = refl; plain = refl }
+    pick true false true = record { front = []; end = 58; is = refl; plain = refl }
+    pick true false false = record { front = []; end = 58; is = refl; plain = refl }
+    pick false true true = record { front = []; end = 35; is = refl; plain = refl }
+    pick false true false = record { front = CR ∷ []; end = LF; is = refl; plain = refl }
+    pick false false true = record { front = []; end = 35; is = refl; plain = refl }
+    pick false false false = record { front = CR ∷ []; end = LF; is = refl; plain = refl }
 
 pub pairs-length : (one other : ℕ) → length (paired one other) ≡ suc (length (ends one other .front))
-pairs-length one other = ap length (ends one other .is) ∙ length-append (ends one other .front) (ends one other .end ∷ []) ∙ add-one (length (ends one other .front))
+pairs-length one other =
+    let c = ends one other in
+    ap length (c .is) ∙ length-append (c .front) (c .end ∷ []) ∙ add-one (length (c .front))
 
 pub pairs-some : (one other : ℕ) → 1 ≤ length (paired one other)
 pairs-some one other = omega (arith, pairs-length one other)

@@ -14,7 +14,8 @@ use Rattle.numeric_reader.proofs.EntryLaws.{sign-small, entry-second, e
 use Rattle.numeric_reader.proofs.Reading.{alone, pair, reached-within, put-alone, put-some, put-pair, put-length}
 
 -- as far as a reading comes there is room
-room-within : {these out : List ℕ} {before n : ℕ} (f : Fits these out before n) {rest : List ℕ} {after m : ℕ} → Reached (f .text) rest after m → m ≤ length out
+room-within : {these out : List ℕ} {before n : ℕ} (f : Fits these out before n) {rest : List ℕ} {after m : ℕ} → Reached (f .text) rest after m
+    → m ≤ length out
 room-within f r = omega (arith, reached-within r, f .room, put-length (f .put) (omega (arith, reached-within (f .put .reached), f .room)))
 
 module _ (before own character n : ℕ) (out : List ℕ) (signs : own ≡ sign character) (f : Fits (character ∷ []) out before n) where

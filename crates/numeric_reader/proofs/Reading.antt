@@ -25,7 +25,8 @@ translated-alone a b base e =
     translated-two a b base
     ∙ ap (λ t. cond t (a ∷ translated (b ∷ base)) (paired (sign a) (sign b) ++ translated base)) (eq-eqb (bitAnd (sign a) (sign b)) 0 e)
 
-translated-pair : (a b : ℕ) (base : List ℕ) → (bitAnd (sign a) (sign b) ≡ 0 → ⊥) → translated (a ∷ b ∷ base) ≡ paired (sign a) (sign b) ++ translated base
+translated-pair : (a b : ℕ) (base : List ℕ) → (bitAnd (sign a) (sign b) ≡ 0 → ⊥)
+    → translated (a ∷ b ∷ base) ≡ paired (sign a) (sign b) ++ translated base
 translated-pair a b base e =
     translated-two a b base
     ∙ ap (λ t. cond t (a ∷ translated (b ∷ base)) (paired (sign a) (sign b) ++ translated base)) (ne-eqb (bitAnd (sign a) (sign b)) 0 e)
