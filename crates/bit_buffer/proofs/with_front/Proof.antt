@@ -1,5 +1,5 @@
 -- `bit_buffer::with_front` meets its contract. Assumes nothing.
-use mathlib.Core.Path.{_≡_, sym, ap, subst}
+use mathlib.Core.Path.{sym, ap, subst}
 use native.Mathlib.Omega.{arith}
 use Rattle.codes.specs.Steps.Measure.{withFront, FrontFits}
 use borrow.Author.Needs.{needs}

@@ -1,5 +1,5 @@
 -- `shef_reader::count_of` meets its contract. Assumes nothing.
-use mathlib.Core.Path.{_≡_, sym, ap}
+use mathlib.Core.Path.{sym, ap}
 use Rattle.shef_reader.specs.Steps.Taken.{charactersIn}
 use Rattle.shef_reader.proofs.Six.{no-line-end}
 use Rattle.shef_reader.proofs.count_of.Statement.{statement}
