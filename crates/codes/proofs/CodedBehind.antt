@@ -30,10 +30,11 @@ module _ (has : ℕ → ℕ → Bool) where
 
   later-after : (text passed : List ℕ) → Later passed text → CodedAfter (lastOf passed) text
   later-after [] passed h = tt
-  later-after (c ∷ text) passed h =
-      (subst (λ (l : List ℕ). T (has (lastOf l) c)) (append-nil passed) (h 0 (omega arith)),
-       subst (λ (b : ℕ). CodedAfter b text) (last-one passed c)
-       (later-after text (passed ++ (c ∷ [])) (λ i l. subst (λ (k : List ℕ). T (has (lastOf k) (getD text i 0))) (later-front passed c (take i text)) (h (suc i) (omega arith)))))
+  later-after (c ∷ text) passed h = (
+    subst (λ (l : List ℕ). T (has (lastOf l) c)) (append-nil passed) (h 0 (omega arith)),
+    subst (λ (b : ℕ). CodedAfter b text) (last-one passed c)
+        (later-after text (passed ++ (c ∷ [])) (λ i l. subst (λ (k : List ℕ). T (has (lastOf k) (getD text i 0))) (later-front passed c (take i text)) (h (suc i) (omega arith)))),
+  )
 
   after-later : (text passed : List ℕ) → CodedAfter (lastOf passed) text → Later passed text
   after-later [] passed h = λ i l. absurd (let no : ⊥ = omega arith in no)

@@ -18,4 +18,4 @@ consecutive-in width number (c ∷ cs) zero l =
 consecutive-in width number (c ∷ cs) (suc n) l =
     let at : number + suc n ≡ suc number + n = omega arith in
     List·Memᴰ·tail (subst⁻¹ (λ (k : ℕ). In (codeFor width k (getD cs n 0 ∷ [])) (consecutive width (suc number) cs)) at
-      (consecutive-in width (suc number) cs n (omega arith)))
+    (consecutive-in width (suc number) cs n (omega arith)))

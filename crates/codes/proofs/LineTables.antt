@@ -77,9 +77,9 @@ module _ (table : List Entry) (lines : T (every lined table)) where
     where
       pick : (p q r : Bool) → (T (not p && not q) → Piece ended (c ∷ []))
           → ((cond p (CR ∷ LF ∷ []) (cond q (cond r [] (CR ∷ LF ∷ [])) (c ∷ [])) ≡ [])
-            × T (found (saying table (cond p (CR ∷ LF ∷ []) (cond q (CR ∷ LF ∷ []) (c ∷ []))))))
+          × T (found (saying table (cond p (CR ∷ LF ∷ []) (cond q (CR ∷ LF ∷ []) (c ∷ []))))))
           ⊎ ((cond p (CR ∷ LF ∷ []) (cond q (cond r [] (CR ∷ LF ∷ [])) (c ∷ [])) ≡ cond p (CR ∷ LF ∷ []) (cond q (CR ∷ LF ∷ []) (c ∷ [])))
-            × Piece ended (cond p (CR ∷ LF ∷ []) (cond q (cond r [] (CR ∷ LF ∷ [])) (c ∷ []))))
+          × Piece ended (cond p (CR ∷ LF ∷ []) (cond q (cond r [] (CR ∷ LF ∷ [])) (c ∷ []))))
       pick true q r k = inr (refl, end-piece)
       pick false true true k = inl (refl, ends)
       pick false true false k = inr (refl, end-piece)

@@ -78,10 +78,10 @@ module _ (key : Entry → List ℕ) where
       let rest : List Entry = first (λ (z : Entry). same (key z) (key e)) es in
       ⊎-elim
       (λ x. subst⁻¹ (λ (z : Entry). cond (same (key d) (key z)) (d ∷ []) (first (λ (y : Entry). same (key y) (key z)) es) ≡ z ∷ []) x
-        (passes d (first (λ (y : Entry). same (key y) (key d)) es) (same (key d) (key d)) (same-self (key d))))
+      (passes d (first (λ (y : Entry). same (key y) (key d)) es) (same (key d) (key d)) (same-self (key d))))
       (λ m. misses d rest (same (key d) (key e))
-        (every-at (λ (z : Entry). not (same (key d) (key z))) es (and-left others (unlike es) t) e m)
-        ∙ own-found es (and-right others (unlike es) t) e m)
+      (every-at (λ (z : Entry). not (same (key d) (key z))) es (and-left others (unlike es) t) e m)
+      ∙ own-found es (and-right others (unlike es) t) e m)
       (List·Memᴰ·cases-cons h)
 
 pub saying-own : (table : List Entry) → T (unlike (λ e. e .says) table) → (e : Entry) → In e table → saying table (e .says) ≡ e ∷ []

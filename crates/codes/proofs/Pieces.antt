@@ -170,8 +170,13 @@ module _ (cut : ℕ → ℕ → List ℕ) (table : List Entry) (pieces : (e : En
             → Fronts es b (c ∷ t) after
         unfolding eachAfter texts found
         spoken-front [] h s p x =
-            absurd (let no : ⊥ = omega (arith, piece-long (cut b c) p, ap length x, length-append (cut b c ++ eachAfter cut c t) after,
-              length-append (cut b c) (eachAfter cut c t)) in no)
+            absurd (let no : ⊥ = omega (
+              arith,
+              piece-long (cut b c) p,
+              ap length x,
+              length-append (cut b c ++ eachAfter cut c t) after,
+              length-append (cut b c) (eachAfter cut c t),
+            ) in no)
         spoken-front (e ∷ es) h s p x =
             let y = x ∙ append-assoc (cut b c) (eachAfter cut c t) after in
             let z = same-piece (e .says) (cut b c) (texts es) (eachAfter cut c t ++ after) (pieces e (h .0)) p y in

@@ -139,7 +139,7 @@ module _ (format : Format) (text : List ℕ) where
   no-code-means : (index : ℕ)
       → Uncoded format text index
       ↔ ((index < length text) × ((index ≡ 0) ⊎ ((carried : List ℕ) × Carries format (comesBack format (take index text)) carried))
-        × ((carried : List ℕ) → Carries format (comesBack format (take (suc index) text)) carried → ⊥))
+      × ((carried : List ℕ) → Carries format (comesBack format (take (suc index) text)) carried → ⊥))
   no-code-means index = (
     λ u.
         let p = no-code-index index .0 u in
@@ -148,7 +148,7 @@ module _ (format : Format) (text : List ℕ) where
         no-code-index index .1 (
           p .0,
           ⊎-elim (λ e. subst (λ (n : ℕ). AllCoded format (take n text)) (sym e) (λ i lt. absurd (let no′ : ⊥ = omega arith in no′)))
-            (λ s. back-coded format (take index text) (s .0) (s .1)) (p .1),
+              (λ s. back-coded format (take index text) (s .0) (s .1)) (p .1),
           λ all. p .2 (dataOf format (take (suc index) text)) (writer-carries format (take (suc index) text) all),
         ),
   )

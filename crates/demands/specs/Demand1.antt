@@ -86,7 +86,7 @@ pub record Conditions (terms : Terms) : Type 0 where
   pub no-code-means : (format : Format) (text : List ℕ) (index : ℕ)
       → Uncoded format text index
       ↔ ((index < length text) × ((index ≡ 0) ⊎ ((carried : List ℕ) × Carries format (comesBack format (take index text)) carried))
-        × ((carried : List ℕ) → Carries format (comesBack format (take (suc index) text)) carried → ⊥))
+      × ((carried : List ℕ) → Carries format (comesBack format (take (suc index) text)) carried → ⊥))
   -- 11: the text fits in no single packet of the format
   pub too-long-means : (format : Format) (text : List ℕ) → AllCoded format text
       → (terms .most < length (dataOf format text)) ↔ ((carried : List ℕ) → Carries format (comesBack format text) carried → terms .most < length carried)

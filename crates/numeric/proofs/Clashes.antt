@@ -51,7 +51,7 @@ no-sign : (c b : ℕ) → T (not (sign c)) → meaning specials (c ∷ b ∷ [])
 no-sign c b t =
     ⊎-elim (λ n. n)
     (λ o. absurd (T-not (sign c) t
-      (subst (λ (u : List ℕ). T (sign (getD u 0 0))) (o .2) (every-at (λ (e : Entry). sign (getD (e .code) 0 0)) specials signs (o .0) (o .1)))))
+    (subst (λ (u : List ℕ). T (sign (getD u 0 0))) (o .2) (every-at (λ (e : Entry). sign (getD (e .code) 0 0)) specials signs (o .0) (o .1)))))
     (meant specials (c ∷ b ∷ []))
 
 -- no character of Table 5 is one
@@ -111,9 +111,9 @@ module _ (b c : ℕ) where
       ⊎-elim
       (λ m. plain (o .3 ∙ ap (λ (e : Entry). e ∷ []) (m .2 ∙ ap itself (ended-one b c (m .0) (sym (ap (λ (e : Entry). e .says) (m .2)) ∙ o .2)))))
       (λ m. special (o .0) m (o .3)
-        (ended-has (λ (x : ℕ). not (sign x)) b c some
-          (subst (λ (u : List ℕ). T (every (λ (x : ℕ). not (sign x)) u)) (o .2)
-            (every-at (λ (e : Entry). every (λ (x : ℕ). not (sign x)) (e .says)) specials signless (o .0) m))))
+      (ended-has (λ (x : ℕ). not (sign x)) b c some
+      (subst (λ (u : List ℕ). T (every (λ (x : ℕ). not (sign x)) u)) (o .2)
+      (every-at (λ (e : Entry). every (λ (x : ℕ). not (sign x)) (e .says)) specials signless (o .0) m))))
       (translation-of (o .0) (o .1))
 
   kind : T (known c) → Kind b c
@@ -121,11 +121,11 @@ module _ (b c : ℕ) where
   kind k =
       ⊎-elim
       (λ n.
-        let x = ended-none b c (n .0) in
-        joins (ap (saying translation) (n .0) ∙ pieces.nothing-said ended translation (line-pieces translation lines))
-        (subst⁻¹ (λ (z : ℕ). T (not (sign z))) (x .0) tt) (subst⁻¹ (λ (z : ℕ). T (not (sign z))) (x .1) tt))
+      let x = ended-none b c (n .0) in
+      joins (ap (saying translation) (n .0) ∙ pieces.nothing-said ended translation (line-pieces translation lines))
+      (subst⁻¹ (λ (z : ℕ). T (not (sign z))) (x .0) tt) (subst⁻¹ (λ (z : ℕ). T (not (sign z))) (x .1) tt))
       (λ w. spoken (pieces.piece-long ended translation (line-pieces translation lines) (ended b c) (w .1)) (sayer translation (ended b c))
-        (subst⁻¹ (λ (u : List ℕ). T (found (saying translation u))) (w .0) k))
+      (subst⁻¹ (λ (u : List ℕ). T (found (saying translation u))) (w .0) k))
       (line-whole translation lines ends b c)
 
 -- no clash, and base characters that are apart
@@ -167,11 +167,13 @@ module _ (after : List Entry) (ready : (c : ℕ) → Apart (c ∷ []) (codes aft
     where
       clear : T (not (clashes c (codes (own c d))))
       clear = and-right (known d) (not (clashes c (codes (own c d)))) (h .0)
+
       follows : (e : Entry) → own c d ≡ e ∷ [] → 0 < length (e .code) → Apart (c ∷ []) (codes ((own c d ++ eachAfter own d t) ++ after))
       follows e x some =
           subst⁻¹ (λ (l : List Entry). Apart (c ∷ []) (codes ((l ++ eachAfter own d t) ++ after))) x
           (unclashed c (e .code) (codes (sending d t after)) some
-            (subst (λ (u : List ℕ). T (not (clashes c u))) (append-nil (e .code)) (subst (λ (l : List Entry). T (not (clashes c (codes l)))) x clear)))
+          (subst (λ (u : List ℕ). T (not (clashes c u))) (append-nil (e .code)) (subst (λ (l : List Entry). T (not (clashes c (codes l)))) x clear)))
+
       by-kind : Kind c d → Apart (c ∷ []) (codes ((own c d ++ eachAfter own d t) ++ after))
       by-kind (joins x n m) = sign-apart c n (codes ((own c d ++ eachAfter own d t) ++ after))
       by-kind (plain x) = follows (itself d) x (omega arith)
@@ -185,6 +187,7 @@ module _ (after : List Entry) (ready : (c : ℕ) → Apart (c ∷ []) (codes aft
     where
       front : (l : List Entry) → own b c ≡ l → AllApart ((l ++ eachAfter own c t) ++ after) → AllApart ((own b c ++ eachAfter own c t) ++ after)
       front l x a = subst⁻¹ (λ (k : List Entry). AllApart ((k ++ eachAfter own c t) ++ after)) x a
+
       by-kind : AllApart (sending c t after) → Kind b c → AllApart ((own b c ++ eachAfter own c t) ++ after)
       by-kind a (joins x n m) = front [] x a
       by-kind a (plain x) = front (itself c ∷ []) x (next-apart c t (h .1), a)
@@ -217,7 +220,7 @@ module _ (b c : ℕ) (rest : List Entry) where
       let w = special-two e m in
       record {
         clear = subst⁻¹ (λ (l : List Entry). T (not (clashes b (codes l)))) x
-          (subst⁻¹ (λ (u : List ℕ). T (not (clashes b (u ++ [])))) (w .2)
+            (subst⁻¹ (λ (u : List ℕ). T (not (clashes b (u ++ [])))) (w .2)
             (subst (λ (u : List ℕ). T (not (clashes b (u ++ codes rest)))) (w .2) (subst (λ (l : List Entry). T (not (clashes b (codes (l ++ rest))))) x k)));
         next = clear-apart c (codes rest) (sign-apart c n (codes rest));
         apart = subst (λ (l : List Entry). AllApart (l ++ rest)) x a .1;
@@ -231,6 +234,7 @@ module _ (after : List Entry) where
   apart-coded (c ∷ t) b h a k =
       let joined = append-assoc (own b c) (eachAfter own c t) after in
       let p = parted b c (sending c t after) (kind b c (h 0 (omega arith))) (subst AllApart joined a)
-        (subst (λ (l : List Entry). T (not (clashes b (codes l)))) joined k) in
-      (and-both (known c) (not (clashes b (codes (own b c)))) (h 0 (omega arith)) (p .clear),
-       apart-coded t c (coded-rest known c t h) (p .apart) (p .next))
+      (subst (λ (l : List Entry). T (not (clashes b (codes l)))) joined k) in (
+        and-both (known c) (not (clashes b (codes (own b c)))) (h 0 (omega arith)) (p .clear),
+        apart-coded t c (coded-rest known c t h) (p .apart) (p .next),
+      )

@@ -75,7 +75,7 @@ special-first e h base =
     let one = ap (meaning specials) (sym (t .2)) ∙ meaning-own specials distinct-codes e h in
     subst⁻¹ (λ (u : List ℕ). translated (u ++ base) ≡ e .says ++ translated base) (t .2)
     (ap (λ (l : List Entry). cond (found l) (texts l ++ translated base) (t .0 ∷ translated (t .1 ∷ base))) one
-     ∙ ap (λ (u : List ℕ). u ++ translated base) (append-nil (e .says)))
+    ∙ ap (λ (u : List ℕ). u ++ translated base) (append-nil (e .says)))
 
 -- an entry in front says what it says
 entry-first : (e : Entry) → In e translation → (base : List ℕ) → Apart (e .code) base → translated (e .code ++ base) ≡ e .says ++ translated base
@@ -129,8 +129,8 @@ two-more : (a b : ℕ) (base : List ℕ) → List·Memᴰ a characters → Trans
 two-more a b base h t u =
     ⊎-elim (λ n. alone-more a h (b ∷ base) n u)
     (λ o. subst (λ (v : List ℕ). Translates (v ++ base) (translated (v ++ base))) (o .2)
-      (subst⁻¹ (Translates (o .0 .code ++ base)) (special-first (o .0) (o .1) base)
-        (more (o .0) (special-in (o .1)) base (translated base) (two-apart (o .0) (o .1) base) t)))
+    (subst⁻¹ (Translates (o .0 .code ++ base)) (special-first (o .0) (o .1) base)
+    (more (o .0) (special-in (o .1)) base (translated base) (two-apart (o .0) (o .1) base) t)))
     (meant specials (a ∷ b ∷ []))
   where
     two-apart : (e : Entry) → In e specials → (rest : List ℕ) → Apart (e .code) rest

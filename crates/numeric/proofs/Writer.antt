@@ -111,8 +111,15 @@ fours-in base = pieces.pieces-in itsOwn table own-pieces distinct-texts (λ b c.
 -- two base characters, eight bits, to a byte of data
 two-each : (base carried : List ℕ) → chain.Built scheme base carried → length base ≡ 2 * length carried
 two-each base carried b =
-    omega (arith, length-bits carried, ap length (b .bits), length-append (codes (b .entries)) (b .fill), b .ends .few,
-      four-each (b .entries) (row-all table 0 0 0 (b .entries) (b .row)), ap length (b .says))
+    omega (
+      arith,
+      length-bits carried,
+      ap length (b .bits),
+      length-append (codes (b .entries)) (b .fill),
+      b .ends .few,
+      four-each (b .entries) (row-all table 0 0 0 (b .entries) (b .row)),
+      ap length (b .says),
+    )
 
 -- Base characters sent for a text
 
@@ -266,7 +273,7 @@ ours-built t h =
       base = sentFor t;
       translates = ours-translates t h;
       codes = subst (λ (u : List ℕ). chain.Built scheme u (written (ours t))) (ours-says t h)
-        (written-built (ours t) (even-closes (length (codes (ours t))) (length (sentFor t)) (ours-size t h) (sent-even t)) (ours-row t)
+          (written-built (ours t) (even-closes (length (codes (ours t))) (length (sentFor t)) (ours-size t h) (sent-even t)) (ours-row t)
           (row-binary scheme four-bits.all-bits 0 0 (ours t) (ours-row t)));
     }
 
@@ -287,7 +294,7 @@ one-building text a b h k p q =
     let base = one-sending (p .base) text (p .translates) ∙ sym (one-sending (q .base) text (q .translates)) in
     same-data (lit< tt) a b c d
     (pieces.one-row itsOwn table own-pieces distinct-texts (c .entries) (d .entries) (row-all table 0 0 0 (c .entries) (c .row)) (row-all table 0 0 0 (d .entries) (d .row))
-      (c .says ∙ base ∙ sym (d .says)))
+    (c .says ∙ base ∙ sym (d .says)))
     h k
 
 -- Texts that are carried
@@ -306,7 +313,7 @@ unfolding comesBack lineEnds own
 back-coded t carried b =
     let s = b .translates in
     let f = pieces.pieces-front ended translation (line-pieces translation lines) distinct (line-whole translation lines ends) t (s .entries)
-      (row-all translation 0 0 0 (s .entries) (s .row)) 0 (evened (length (baseOf t))) (s .says) in
+    (row-all translation 0 0 0 (s .entries) (s .row)) 0 (evened (length (baseOf t))) (s .says) in
     after-coded codedBehind t
     (apart-coded (f .others) t 0 (f .coded) (subst AllApart (f .is) (s .apart)) (start-clear (codes (eachAfter own 0 t ++ f .others))))
 

@@ -1,1 +1,2 @@
+pub mod Fives
 pub mod Six

@@ -5,6 +5,7 @@ use codes::Measured;
 use codes::Place;
 use codes::Skimmed;
 ghost use mathlib.Core.Path.{_≡_};
+ghost use mathlib.Core.Bool.{true};
 ghost use Prim.Native.Nat.{ℕ, _+_, _-_, _*_, _/_, _%_, _^_, _≤_, _<_};
 ghost use lib.ListN.{length};
 ghost use Rattle.bits.specs.Row.{bits};
@@ -14,7 +15,7 @@ ghost use Rattle.codes.specs.Steps.Measure.{Measures, countable};
 ghost use Rattle.codes.specs.Steps.Taken.{FirstCode};
 ghost use Rattle.codes.specs.Steps.Words.{SkimsInto, Begun, CountedTo, LaidTo};
 ghost use Rattle.shef.specs.Table.{table, scheme};
-ghost use Rattle.shef_reader.specs.Steps.Taken.{charactersIn, Counts, Characters, Skims};
+ghost use Rattle.shef_reader.specs.Steps.Taken.{Fives, charactersIn, Counts, Characters, Skims};
 
 const LF: u8 = 10;
 
@@ -81,8 +82,15 @@ fn skim_each(held: u64, have: u64) -> Skimmed
     Skimmed { left, count }
 }
 
+// Whether each of ten codes from the top of a word on has five bits, as those of digits have: none of their first bits is 1.
+fn ten_fives(top: u64) -> bool
+    ensures { λ r. ⌜ (r ≡ true → Fives top) ⌝ }
+{
+    top & 0x8421_0842_1084_0000 == 0
+}
+
 // Nine codes passed; where six ones are among them, the codes up to these.
-fn skim(held: u64, have: u64, counts: &[u8; 64]) -> Skimmed
+fn skim_nine(held: u64, have: u64, counts: &[u8; 64]) -> Skimmed
     requires { ⌜ (57 ≤ have) × (have ≤ 64) × Counts (now counts) ⌝ }
     ensures { λ r. ⌜ Skims held have r ⌝ }
 {
@@ -101,6 +109,20 @@ fn skim(held: u64, have: u64, counts: &[u8; 64]) -> Skimmed
         return Skimmed { left, count };
     }
     skim_each(held, have)
+}
+
+// Ten codes of five bits passed, or nine.
+fn skim(held: u64, have: u64, counts: &[u8; 64]) -> Skimmed
+    requires { ⌜ (57 ≤ have) × (have ≤ 64) × Counts (now counts) ⌝ }
+    ensures { λ r. ⌜ Skims held have r ⌝ }
+{
+    if ten_fives(held << (64 - have)) {
+        return Skimmed {
+            left: have - 50,
+            count: 10,
+        };
+    }
+    skim_nine(held, have, counts)
 }
 
 // What the last bits come to, `have` of them.
@@ -162,8 +184,26 @@ pub fn measure(s: &[u8]) -> Measured
     measure_rest(s, Place { next, skip, n })
 }
 
+// The characters of ten codes of five bits, from place n on.
+fn put_fives(held: u64, have: u64, out: &mut [u8], n: usize, characters: &[u8; 63]) -> Skimmed
+    requires { ⌜ (57 ≤ have) × (have ≤ 64) × (n ≤ length (now out)) × Begun scheme held have (length (now out) - n) × Characters (now characters) × Fives (held * 2 ^ (64 - have) % 2 ^ 64) ⌝ }
+    ensures { λ r. ⌜ SkimsInto scheme held have (now (out .entry)) (now (out .exit)) n r ⌝ }
+{
+    let mut top = held << (64 - have);
+    let mut count: usize = 0;
+    while count < 10 {
+        out[n + count] = characters[(top >> 58) as usize];
+        top = top << 5;
+        count += 1;
+    }
+    Skimmed {
+        left: have - 50,
+        count,
+    }
+}
+
 // The characters of nine codes, from place n on.
-fn put_word(held: u64, have: u64, out: &mut [u8], n: usize, characters: &[u8; 63]) -> Skimmed
+fn put_nine(held: u64, have: u64, out: &mut [u8], n: usize, characters: &[u8; 63]) -> Skimmed
     requires { ⌜ (57 ≤ have) × (have ≤ 64) × (n ≤ length (now out)) × Begun scheme held have (length (now out) - n) × Characters (now characters) ⌝ }
     ensures { λ r. ⌜ SkimsInto scheme held have (now (out .entry)) (now (out .exit)) n r ⌝ }
 {
@@ -181,6 +221,17 @@ fn put_word(held: u64, have: u64, out: &mut [u8], n: usize, characters: &[u8; 63
         turn += 1;
     }
     Skimmed { left, count }
+}
+
+// The characters of ten codes of five bits, or of nine codes, from place n on.
+fn put_word(held: u64, have: u64, out: &mut [u8], n: usize, characters: &[u8; 63]) -> Skimmed
+    requires { ⌜ (57 ≤ have) × (have ≤ 64) × (n ≤ length (now out)) × Begun scheme held have (length (now out) - n) × Characters (now characters) ⌝ }
+    ensures { λ r. ⌜ SkimsInto scheme held have (now (out .entry)) (now (out .exit)) n r ⌝ }
+{
+    if ten_fives(held << (64 - have)) {
+        return put_fives(held, have, out, n, characters);
+    }
+    put_nine(held, have, out, n, characters)
 }
 
 // The text of the codes up to fewer than eight bytes before the end.

@@ -3,7 +3,7 @@
 use mathlib.Core.Path.{_≡_}
 use mathlib.Core.Bool.{cond}
 use mathlib.Core.List.{List, [], _∷_}
-use Prim.Native.Nat.{ℕ, _+_, _/_, _≤_, _<_}
+use Prim.Native.Nat.{ℕ, _+_, _-_, _*_, _/_, _%_, _^_, _≤_, _<_}
 use lib.Dec.{eqb}
 use lib.ListN.{length, getD}
 use Rattle.codes.specs.Chain.{Entry, In, Begins}
@@ -47,3 +47,7 @@ pub record Skims (held have : ℕ) (r : Skimmed) : Type 0 where
   pub brief : r .count + r .left ≤ have
   pub stuck : 24 < r .left → SixOnes held (r .left)
   pub counted : CountedSoFar scheme (low have held) (low (r .left) held) (r .count)
+
+-- ten codes from the top of a word on have five bits each, if they are no more: the first bit of each is 0
+abbrev pub Fives : ℕ → Type 0
+Fives top = (k : ℕ) → k < 10 → top / 2 ^ (63 - 5 * k) % 2 ≡ 0
