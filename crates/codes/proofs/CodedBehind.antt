@@ -1,6 +1,6 @@
 -- Codes that are told by the character right before and by itself: the characters of a text in turn.
 -- Assumes nothing.
-use mathlib.Core.Path.{_≡_, refl, sym, ap, subst, _∙_}
+use mathlib.Core.Path.{_≡_, sym, subst}
 use mathlib.Core.Bool.{Bool}
 use mathlib.Core.List.{List, [], _∷_, _++_, append-assoc, append-nil}
 use Prim.Native.Nat.{ℕ, zero, suc, _<_}
@@ -8,12 +8,7 @@ use native.Mathlib.Omega.{arith}
 use lib.Dec.{T}
 use lib.ListN.{length, take, getD}
 use Rattle.codes.specs.Coded.{lastOf, behind, CodedBelow}
-
-last-one : (row : List ℕ) (c : ℕ) → lastOf (row ++ (c ∷ [])) ≡ c
-unfolding lastOf
-last-one [] c = refl
-last-one (a ∷ []) c = refl
-last-one (a ∷ b ∷ row) c = last-one (b ∷ row) c
+use Rattle.codes.proofs.EachAfter.{last-append}
 
 module _ (has : ℕ → ℕ → Bool) where
   -- each character has a code behind the one before it
@@ -32,13 +27,13 @@ module _ (has : ℕ → ℕ → Bool) where
   later-after [] passed h = tt
   later-after (c ∷ text) passed h = (
     subst (λ (l : List ℕ). T (has (lastOf l) c)) (append-nil passed) (h 0 (omega arith)),
-    subst (λ (b : ℕ). CodedAfter b text) (last-one passed c)
+    subst (λ (b : ℕ). CodedAfter b text) (last-append passed c)
         (later-after text (passed ++ (c ∷ [])) (λ i l. subst (λ (k : List ℕ). T (has (lastOf k) (getD text i 0))) (later-front passed c (take i text)) (h (suc i) (omega arith)))),
   )
 
   after-later : (text passed : List ℕ) → CodedAfter (lastOf passed) text → Later passed text
   after-later [] passed h = λ i l. absurd (let no : ⊥ = omega arith in no)
-  after-later (c ∷ text) passed h = at (after-later text (passed ++ (c ∷ [])) (subst (λ (b : ℕ). CodedAfter b text) (sym (last-one passed c)) (h .1)))
+  after-later (c ∷ text) passed h = at (after-later text (passed ++ (c ∷ [])) (subst (λ (b : ℕ). CodedAfter b text) (sym (last-append passed c)) (h .1)))
     where
       at : Later (passed ++ (c ∷ [])) text → (i : ℕ) → i < length (c ∷ text) → T (has (lastOf (passed ++ take i (c ∷ text))) (getD (c ∷ text) i 0))
       at k zero l = subst (λ (m : List ℕ). T (has (lastOf m) c)) (sym (append-nil passed)) (h .0)

@@ -1,11 +1,11 @@
 -- Codes that are consecutive numbers of one width: each stands in the table at its number.
 -- Assumes nothing.
-use mathlib.Core.Path.{_≡_, refl, sym, ap, subst⁻¹}
-use mathlib.Core.List.{List, [], _∷_, List·Memᴰ·head, List·Memᴰ·tail, Memᴰ·cast}
+use mathlib.Core.Path.{_≡_, ap, subst⁻¹}
+use mathlib.Core.List.{List, [], _∷_, List·Memᴰ·head, List·Memᴰ·tail}
 use Prim.Native.Nat.{ℕ, zero, suc, _+_, _<_}
 use native.Mathlib.Omega.{arith}
 use lib.ListN.{length, getD}
-use Rattle.codes.specs.Chain.{Entry, In}
+use Rattle.codes.specs.Chain.{In}
 use Rattle.codes.specs.Consecutive.{codeFor, consecutive}
 
 pub consecutive-in : (width number : ℕ) (characters : List ℕ) (n : ℕ) → n < length characters

@@ -1,6 +1,6 @@
 -- Entries that were looked up in a table: what holds of all of the table holds of them.
 -- Assumes nothing.
-use mathlib.Core.Path.{_≡_, refl, ap₂}
+use mathlib.Core.Path.{_≡_, refl}
 use mathlib.Core.Bool.{Bool, true, false, cond}
 use mathlib.Core.List.{List, [], _∷_}
 use Prim.Native.Nat.{ℕ, _*_, _≤_}
@@ -15,14 +15,6 @@ use Rattle.codes.specs.Pack.{Binary}
 use Rattle.bits.proofs.Said.{and-left, and-right, and-both}
 use Rattle.codes.proofs.BitsInBytes.{binary, binary-append, every-binary}
 use Rattle.codes.proofs.EveryElement.{every, every-append}
-
-pub same-rows : (a b : List ℕ) → T (same a b) → a ≡ b
-unfolding same
-same-rows [] [] t = refl
-same-rows [] (d ∷ b) t = absurd t
-same-rows (c ∷ a) [] t = absurd t
-same-rows (c ∷ a) (d ∷ b) t =
-    ap₂ (λ (x : ℕ) (l : List ℕ). x ∷ l) (eqb→eq c d (and-left (eqb c d) (same a b) t)) (same-rows a b (and-right (eqb c d) (same a b) t))
 
 pub saying-every : (f : Entry → Bool) (table : List Entry) → T (every f table) → (text : List ℕ) → T (every f (saying table text))
 unfolding saying every first

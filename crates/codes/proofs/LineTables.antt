@@ -1,22 +1,18 @@
 -- Tables with one code for a line end: each other entry says one character that is part of none. What holds of texts cut into pieces holds of them, by
 -- tests that compute.
 -- Assumes nothing.
-use mathlib.Core.Path.{_≡_, refl, sym, subst, subst⁻¹}
-use mathlib.Core.Bool.{Bool, true, false, not, cond, _&&_, _||_}
-use mathlib.Core.Logic.{_⊎_, inl, inr, ⊎-elim}
+use mathlib.Core.Path.{_≡_, refl, subst, subst⁻¹}
+use mathlib.Core.Bool.{Bool, true, false, not, cond, _&&_}
+use mathlib.Core.Logic.{_⊎_, inl, inr}
 use mathlib.Core.List.{List, [], _∷_, _++_}
 use Prim.Native.Nat.{ℕ, _<_, zero-le, suc-le-suc}
-use native.Mathlib.Omega.{arith}
-use lib.Dec.{T, T-not, eqb, eqb→eq, eqb-refl}
-use lib.ListN.{length, length-append}
-use borrow.Author.Tests.{ne-eqb, eqb-true, eqb-false}
+use lib.Dec.{T, eqb, eqb→eq}
+use lib.ListN.{length}
 use Rattle.codes.specs.Chain.{Entry, In, texts}
-use Rattle.codes.specs.Coded.{alone, CodedBelow}
 use Rattle.codes.specs.LineEnds.{LF, CR, eachAfter, ended, lineEnds}
-use Rattle.codes.specs.Lookup.{same, found, saying}
+use Rattle.codes.specs.Lookup.{found, saying}
 use Rattle.bits.proofs.Said.{and-left, and-right}
 use Rattle.codes.proofs.EveryElement.{every, every-at}
-use Rattle.codes.proofs.Lookup.{unlike, same-is}
 use Rattle.codes.proofs.Pieces.{Piece, AllIn}
 use Rattle.codes.proofs.Pieces as pieces
 

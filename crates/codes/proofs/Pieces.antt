@@ -9,7 +9,7 @@ use Prim.Native.Nat.{ℕ, _<_}
 use native.Mathlib.Omega.{arith}
 use lib.Dec.{T}
 use lib.ListN.{length, getD, length-append}
-use Rattle.codes.specs.Chain.{Entry, single, In, stateAfter, Row, codes, texts}
+use Rattle.codes.specs.Chain.{Entry, single, In, stateAfter, Row, texts}
 use Rattle.codes.specs.Coded.{alone, CodedBelow}
 use Rattle.codes.specs.LineEnds.{eachAfter}
 use Rattle.codes.specs.Lookup.{found, saying}

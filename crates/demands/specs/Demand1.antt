@@ -3,7 +3,7 @@
 -- The first sentence is what a check says of each function that requires nothing, as `reader::examine`, `reader::read` and `writer::write`.
 -- Assumes nothing.
 use mathlib.Core.Bool.{Bool}
-use mathlib.Core.List.{List, [], _∷_}
+use mathlib.Core.List.{List}
 use mathlib.Core.Logic.{_⊎_, _↔_}
 use mathlib.Core.Path.{_≡_}
 use Prim.Native.Nat.{ℕ, suc, _<_}

@@ -1,7 +1,7 @@
 -- Data of Compact Numeric: all of it has a text, which its functions compute.
 -- Assumes nothing.
 use mathlib.Core.List.{List}
-use mathlib.Core.Path.{_≡_, sym, ap, _∙_, subst, subst⁻¹}
+use mathlib.Core.Path.{_≡_, sym, _∙_, subst, subst⁻¹}
 use Prim.Native.Nat.{ℕ, _≤_}
 use lib.ListN.{length}
 use Rattle.header.specs.declared.Format.{Format}

@@ -4,16 +4,11 @@ use mathlib.Core.List.{List, [], _∷_, _++_, map}
 use Prim.Native.Nat.{ℕ, _-_}
 use lib.ListN.{replicate}
 use Rattle.codes.specs.Chain.{Entry, Scheme, single}
+pub use Rattle.codes.specs.LineEnds.{LF, CR}
 use Rattle.codes.specs.Pack.{low, numbers}
 
 abbrev pub HT : ℕ
 HT = 9
-
-abbrev pub LF : ℕ
-LF = 10
-
-abbrev pub CR : ℕ
-CR = 13
 
 -- a six-bit code, the character less 32
 unfoldable pub six : ℕ → Entry

@@ -2,13 +2,13 @@
 -- Assumes nothing.
 use mathlib.Core.Path.{_≡_, refl, sym, ap, subst, subst⁻¹, _∙_}
 use mathlib.Core.Bool.{Bool, true, false, not, cond, _&&_, _||_}
-use mathlib.Core.Logic.{_⊎_, inl, inr, ⊎-elim}
-use mathlib.Core.List.{List, [], _∷_, _++_, append-assoc, append-nil, head-eq-of-cons-eq, List·Memᴰ}
+use mathlib.Core.Logic.{inl, inr, ⊎-elim}
+use mathlib.Core.List.{List, [], _∷_, _++_, append-assoc, append-nil, head-eq-of-cons-eq}
 use Prim.Native.Nat.{ℕ, _<_}
 use native.Mathlib.Omega.{arith}
 use lib.Dec.{T, T-not, eqb, eqb→eq}
 use lib.ListN.{length, getD}
-use Rattle.codes.specs.Chain.{Entry, In, codes, texts}
+use Rattle.codes.specs.Chain.{Entry, In, codes}
 use Rattle.codes.specs.Coded.{alone, CodedBelow}
 use Rattle.codes.specs.LineEnds.{LF, CR, eachAfter, ended}
 use Rattle.codes.specs.Lookup.{same, found, first, saying, meaning}
@@ -19,7 +19,6 @@ use Rattle.codes.proofs.CodedTexts.{coded-rest}
 use Rattle.codes.proofs.EveryElement.{every, every-at}
 use Rattle.codes.proofs.LineTables.{lined, onePiece, line-pieces, line-whole}
 use Rattle.codes.proofs.Lookup.{unlike, Sayer, sayer, meant, nothing-found}
-use Rattle.codes.proofs.Pieces.{Piece}
 use Rattle.codes.proofs.Pieces as pieces
 use Rattle.numeric.specs.Table.{characters}
 use Rattle.numeric.specs.Translation.{sent, itself, specials, translation, Apart, AllApart}

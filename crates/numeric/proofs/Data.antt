@@ -1,15 +1,14 @@
 -- All data of Compact Numeric has a text: that of its base characters, two to a byte. So none is malformed.
 -- Assumes nothing.
 use mathlib.Core.Path.{_≡_, refl, sym, ap, ap₂, subst, subst⁻¹, _∙_}
-use mathlib.Core.Logic.{_⊎_, inl, inr}
 use mathlib.Core.List.{List, [], _∷_, _++_, append-assoc, List·Memᴰ, List·Memᴰ·head, List·Memᴰ·tail}
-use Prim.Native.Nat.{ℕ, zero, suc, _+_, _*_, _/_, _%_, _^_, _<_}
+use Prim.Native.Nat.{ℕ, zero, suc, _+_, _/_, _%_, _<_}
 use native.Mathlib.Nat.{zero-add}
 use native.Mathlib.Omega.{arith}
 use lib.ListN.{length, getD}
 use Rattle.bits.specs.Row.{bits}
 use Rattle.codes.specs.Chain as chain
-use Rattle.codes.specs.Chain.{Entry, Malformed, Builds}
+use Rattle.codes.specs.Chain.{Malformed, Builds}
 use Rattle.codes.specs.Consecutive.{codeFor}
 use Rattle.codes.specs.Pack.{low, numbers}
 use Rattle.codes.proofs.BitsInBytes.{bits-cons}
@@ -20,7 +19,7 @@ use Rattle.codes.proofs.OneReading.{builds-end, one-text, never-both}
 use Rattle.codes.proofs.SingleTable.{builds-one}
 use Rattle.numeric.specs.Table.{characters, table, scheme}
 use Rattle.numeric.specs.Data.{Built}
-use Rattle.numeric.specs.Translation.{Translates, translated}
+use Rattle.numeric.specs.Translation.{translated}
 use Rattle.numeric.specs.Steps.Text.{character, spelled, textOf}
 use Rattle.numeric.proofs.Table.{laws, mutes}
 use Rattle.numeric.proofs.Translation.{AllBase, translated-back, translates}

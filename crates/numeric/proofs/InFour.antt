@@ -34,7 +34,7 @@ in-four-append a b =
     ∙ codes-append (eachAfter (λ before c. saying table (c ∷ [])) 0 a) (eachAfter (λ before c. saying table (c ∷ [])) 0 b)
 
 -- a base character
-unfoldable isBase : ℕ → Bool
+unfoldable pub isBase : ℕ → Bool
 isBase c = found (saying table (c ∷ []))
 
 in-four-length : (base : List ℕ) → T (every isBase base) → length (inFour base) ≡ 4 * length base
@@ -60,7 +60,7 @@ evened-base n = pick (eqb (n % 2) 1)
     pick true = tt
     pick false = tt
 
-evened-length : (n : ℕ) → length (evened n) ≡ n % 2
+pub evened-length : (n : ℕ) → length (evened n) ≡ n % 2
 unfolding evened
 evened-length n = pick (eqb (n % 2) 1) refl
   where
@@ -69,6 +69,10 @@ evened-length n = pick (eqb (n % 2) 1) refl
     pick false e =
         let no′ : n % 2 ≡ 1 → ⊥ = eqb-false (n % 2) 1 e in
         let none : 0 ≡ n % 2 = omega arith in none
+
+pub sent-base : (text : List ℕ) → T (every isBase (sentFor text))
+unfolding sentFor
+sent-base text = every-append isBase (baseOf text) (evened (length (baseOf text))) (base-of-base text) (evened-base (length (baseOf text)))
 
 -- the space's four bits where the number is odd
 pub pad-length : (n : ℕ) → length (inFour (evened n)) ≡ 4 * (n % 2)
@@ -97,8 +101,7 @@ module _ (text : List ℕ) where
   pub ours-length : length (codes (ours text)) ≡ 4 * (length (baseOf text) + length (baseOf text) % 2)
   unfolding ours sentFor inFour
   ours-length =
-      in-four-length (sentFor text)
-      (every-append isBase (baseOf text) (evened (length (baseOf text))) (base-of-base text) (evened-base (length (baseOf text))))
+      in-four-length (sentFor text) (sent-base text)
       ∙ ap (λ (n : ℕ). 4 * n)
       (length-append (baseOf text) (evened (length (baseOf text))) ∙ ap (λ (n : ℕ). length (baseOf text) + n) (evened-length (length (baseOf text))))
 

@@ -1,21 +1,20 @@
 -- The special translation, both ways: what a maker may send for a text is translated back to it, and all base characters are such a sending of what they
 -- are translated to.
 -- Assumes nothing.
-use mathlib.Core.Path.{_≡_, refl, sym, ap, ap₂, subst, subst⁻¹, _∙_}
-use mathlib.Core.Bool.{Bool, true, false, not, cond, _&&_}
+use mathlib.Core.Path.{_≡_, refl, sym, ap, subst, subst⁻¹, _∙_}
+use mathlib.Core.Bool.{Bool, cond}
 use mathlib.Core.Logic.{_⊎_, inl, inr, ⊎-elim}
 use mathlib.Core.List.{List, [], _∷_, _++_, map, append-nil, List·Memᴰ, List·Memᴰ·append-cases, Memᴰ·append-left, Memᴰ·append-right, Memᴰ·map, Memᴰ·of-map}
 use Prim.Native.Nat.{ℕ}
 use native.Mathlib.Omega.{arith}
 use lib.Dec.{T, eqb, eqb→eq}
 use lib.ListN.{length}
-use Rattle.codes.specs.Chain.{Entry, single, In, Row, codes, texts}
-use Rattle.codes.specs.LineEnds.{LF, CR}
-use Rattle.codes.specs.Lookup.{same, found, first, saying, meaning}
+use Rattle.codes.specs.Chain.{Entry, In, codes, texts}
+use Rattle.codes.specs.Lookup.{same, found, meaning}
 use Rattle.codes.specs.Pack.{numbers}
 use Rattle.codes.proofs.EveryElement.{every, every-at}
 use Rattle.codes.proofs.Lookup.{unlike, meant, meaning-own}
-use Rattle.codes.proofs.Pieces.{AllIn, row-all, all-row}
+use Rattle.codes.proofs.Pieces.{AllIn, row-all}
 use Rattle.codes.proofs.SingleTable.{mute, row-one}
 use Rattle.numeric.specs.Table.{characters}
 use Rattle.numeric.specs.Translation.{sent, itself, specials, translation, Apart, AllApart, Translates, translated}

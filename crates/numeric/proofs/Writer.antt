@@ -5,23 +5,21 @@ use mathlib.Core.Bool.{Bool, true, false, not, cond, _&&_}
 use mathlib.Core.Logic.{inl, inr, ⊎-elim}
 use mathlib.Core.List.{List, [], _∷_, _++_, append-nil, List·Memᴰ}
 use Prim.Native.Nat.{ℕ, _+_, _-_, _*_, _/_, _%_, _≤_, _<_, zero-le}
-use native.Mathlib.Nat.{le-of-eq}
 use native.Mathlib.Omega.{arith}
 use lib.Dec.{T, T-not, eqb, eqb→eq, lit<}
 use lib.ListN.{length, length-append, take, getD}
-use borrow.Author.Tests.{eqb-false}
 use Rattle.bits.specs.Row.{bits, Bytes}
 use Rattle.codes.specs.Chain as chain
 use Rattle.codes.specs.Chain.{Entry, In, Row, codes, texts, Malformed}
-use Rattle.codes.specs.Coded.{lastOf, alone, CodedBelow}
+use Rattle.codes.specs.Coded.{lastOf}
 use Rattle.codes.specs.Consecutive.{codeFor, consecutive}
-use Rattle.codes.specs.LineEnds.{LF, CR, eachAfter, ended, lineEnds}
-use Rattle.codes.specs.Lookup.{same, found, first, saying, meaning}
+use Rattle.codes.specs.LineEnds.{eachAfter, ended, lineEnds}
+use Rattle.codes.specs.Lookup.{same, found, saying, meaning}
 use Rattle.codes.specs.Pack.{low, numbers, gap, written}
 use Rattle.bits.proofs.Said.{and-left, and-right}
-use Rattle.codes.proofs.BitsInBytes.{row-binary, length-written, written-built, built-closes, built-length, length-bits}
+use Rattle.codes.proofs.BitsInBytes.{length-written, written-built, length-bits}
 use Rattle.codes.proofs.CodedBehind.{coded-after, after-coded}
-use Rattle.codes.proofs.CodedTexts.{coded-none, coded-append, coded-every}
+use Rattle.codes.proofs.CodedTexts.{coded-every}
 use Rattle.codes.proofs.DataLaws.{DataLaws}
 use Rattle.codes.proofs.EveryElement.{every, every-at}
 use Rattle.codes.proofs.LineTables.{ended-some, line-pieces, line-whole, lines-kept}
@@ -37,8 +35,9 @@ use Rattle.numeric.specs.Data.{Built}
 use Rattle.numeric.specs.Steps.Text.{spelled, textOf}
 use Rattle.numeric.specs.Writer.{own, baseOf, clashes, codedBehind, coded, AllCoded, evened, sentFor, ours, comesBack}
 use Rattle.numeric.proofs.Table as four-bits
-use Rattle.numeric.proofs.Translation.{mutes, translation-of, translated-back, itself-in}
+use Rattle.numeric.proofs.Translation.{mutes, itself-in}
 use Rattle.numeric.proofs.Clashes.{lines, distinct, ends, coded-apart, apart-coded, start-clear}
+use Rattle.numeric.proofs.InFour.{isBase, evened-length, sent-base, ours-binary}
 use Rattle.numeric.proofs.Data.{character-in, text-built, one-built, never-malformed}
 
 -- Base characters in four bits each
@@ -76,23 +75,6 @@ four-each (e ∷ es) h =
     let o = eqb→eq (length (e .says)) 1 (and-right (eqb (length (e .code)) 4) (eqb (length (e .says)) 1) t) in
     omega (arith, length-append (e .code) (codes es), length-append (e .says) (texts es), f, o, four-each es (h .1))
 
-abbrev base-known : ℕ → Bool
-base-known c = found (saying table (c ∷ []))
-
-unfoldable spelt : Entry → Bool
-spelt e = every base-known (e .code)
-
-all-spelt : T (every spelt translation)
-unfolding translation specials sent itself table consecutive codeFor characters numbers every spelt found saying first same
-all-spelt = tt
-
--- what is sent consists of base characters
-sent-known : (es : List Entry) → AllIn translation es → CodedBelow (alone base-known) (codes es) (length (codes es))
-unfolding codes spelt
-sent-known [] h = coded-none base-known
-sent-known (e ∷ es) h =
-    coded-append base-known (e .code) (codes es) (coded-every base-known (e .code) (every-at spelt translation all-spelt e (h .0))) (sent-known es (h .1))
-
 abbrev inFours : List ℕ → List Entry
 inFours = eachAfter (λ before c. saying table (c ∷ [])) 0
 
@@ -101,9 +83,10 @@ unfolding eachAfter
 each-own [] b = refl
 each-own (c ∷ base) b = ap (λ (l : List ℕ). c ∷ l) (each-own base c)
 
-fours-says : (base : List ℕ) → CodedBelow (alone base-known) base (length base) → texts (inFours base) ≡ base
-fours-says base h =
-    pieces.pieces-says itsOwn table own-pieces distinct-texts (λ b c. inr (refl, inl (c, refl, λ b. refl))) base h 0 ∙ each-own base 0
+fours-says : (base : List ℕ) → T (every isBase base) → texts (inFours base) ≡ base
+unfolding isBase
+fours-says base t =
+    pieces.pieces-says itsOwn table own-pieces distinct-texts (λ b c. inr (refl, inl (c, refl, λ b. refl))) base (coded-every isBase base t) 0 ∙ each-own base 0
 
 fours-in : (base : List ℕ) → AllIn table (inFours base)
 fours-in base = pieces.pieces-in itsOwn table own-pieces distinct-texts (λ b c. inr (refl, inl (c, refl, λ b. refl))) base 0
@@ -189,15 +172,6 @@ module _ (n : ℕ) where
       pick true = (tt, tt)
       pick false = tt
 
-  -- it makes the number even
-  evened-even : (n + length (evened n)) % 2 ≡ 0
-  unfolding evened
-  evened-even = pick (eqb (n % 2) 1) refl
-    where
-      pick : (odd : Bool) → eqb (n % 2) 1 ≡ odd → (n + length {A = ℕ} (cond odd (32 ∷ []) [])) % 2 ≡ 0
-      pick true x = let o : n % 2 ≡ 1 = eqb→eq (n % 2) 1 (subst⁻¹ T x tt) in omega (arith, o)
-      pick false x = omega (arith, eqb-false (n % 2) 1 x)
-
   -- where it is even already there is nothing
   evened-none : n % 2 ≡ 0 → evened n ≡ []
   unfolding evened
@@ -243,18 +217,15 @@ one-sending base text t =
 
 sent-even : (t : List ℕ) → length (sentFor t) % 2 ≡ 0
 unfolding sentFor
-sent-even t = omega (arith, length-append (baseOf t) (evened (length (baseOf t))), evened-even (length (baseOf t)))
+sent-even t = omega (arith, length-append (baseOf t) (evened (length (baseOf t))), evened-length (length (baseOf t)))
 
-ours-says : (t : List ℕ) → AllCoded t → texts (ours t) ≡ sentFor t
+ours-says : (t : List ℕ) → texts (ours t) ≡ sentFor t
 unfolding ours
-ours-says t h =
-    let s = ours-translates t h in
-    fours-says (sentFor t)
-    (subst (λ (u : List ℕ). CodedBelow (alone base-known) u (length u)) (s .is) (sent-known (s .entries) (row-all translation 0 0 0 (s .entries) (s .row))))
+ours-says t = fours-says (sentFor t) (sent-base t)
 
-ours-size : (t : List ℕ) → AllCoded t → length (codes (ours t)) ≡ 4 * length (sentFor t)
+ours-size : (t : List ℕ) → length (codes (ours t)) ≡ 4 * length (sentFor t)
 unfolding ours
-ours-size t h = four-each (ours t) (fours-in (sentFor t)) ∙ ap (λ (u : List ℕ). 4 * length u) (ours-says t h)
+ours-size t = four-each (ours t) (fours-in (sentFor t)) ∙ ap (λ (u : List ℕ). 4 * length u) (ours-says t)
 
 ours-row : (t : List ℕ) → Row scheme 0 (ours t) 0
 unfolding ours
@@ -272,9 +243,9 @@ ours-built t h =
     record {
       base = sentFor t;
       translates = ours-translates t h;
-      codes = subst (λ (u : List ℕ). chain.Built scheme u (written (ours t))) (ours-says t h)
-          (written-built (ours t) (even-closes (length (codes (ours t))) (length (sentFor t)) (ours-size t h) (sent-even t)) (ours-row t)
-          (row-binary scheme four-bits.all-bits 0 0 (ours t) (ours-row t)));
+      codes = subst (λ (u : List ℕ). chain.Built scheme u (written (ours t))) (ours-says t)
+          (written-built (ours t) (even-closes (length (codes (ours t))) (length (sentFor t)) (ours-size t) (sent-even t)) (ours-row t)
+          (ours-binary t));
     }
 
 -- all data that carries what a text comes back as has the same base characters, so as many bytes
@@ -284,7 +255,7 @@ same-base t carried h b =
 
 no-fewer-bytes : (t carried : List ℕ) → AllCoded t → Built (comesBack t) carried → length (written (ours t)) ≤ length carried
 no-fewer-bytes t carried h b =
-    omega (arith, length-written (ours t), ours-size t h, two-each (b .base) carried (b .codes), ap length (same-base t carried h b))
+    omega (arith, length-written (ours t), ours-size t, two-each (b .base) carried (b .codes), ap length (same-base t carried h b))
 
 -- so there are no two buildings of a text
 pub one-building : (text a b : List ℕ) → Bytes a → Bytes b → Built text a → Built text b → a ≡ b

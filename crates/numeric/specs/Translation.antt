@@ -5,7 +5,7 @@ use mathlib.Core.Bool.{cond}
 use mathlib.Core.List.{List, [], _∷_, _++_, map}
 use mathlib.Core.Path.{_≡_}
 use Prim.Native.Nat.{ℕ}
-use Rattle.codes.specs.Chain.{Entry, Scheme, single, Row, codes, texts}
+use Rattle.codes.specs.Chain.{Entry, single, Row, codes, texts}
 use Rattle.codes.specs.LineEnds.{LF, CR}
 use Rattle.codes.specs.Lookup.{found, meaning}
 use Rattle.numeric.specs.Table.{characters}

@@ -6,7 +6,6 @@ use Prim.Native.Nat.{ℕ, _%_}
 use lib.Dec.{eqb}
 use lib.ListN.{length}
 use Rattle.codes.specs.Chain.{Entry, codes}
-use Rattle.codes.specs.Coded as Coded
 use Rattle.codes.specs.Coded.{behind, CodedBelow}
 use Rattle.codes.specs.LineEnds.{eachAfter, ended, lineEnds}
 use Rattle.codes.specs.Lookup.{found, saying, meaning}

@@ -19,7 +19,7 @@ use Rattle.codes.specs.declared.Held.{Held}
 use Rattle.bits.proofs.Said.{and-left, and-right, and-both}
 use Rattle.codes.proofs.ByteTests.{every-below, implied-below}
 use Rattle.codes.proofs.EveryElement.{every}
-use Rattle.codes.proofs.FoundEntries.{same-rows}
+use Rattle.codes.proofs.Lookup.{same-is}
 use Rattle.codes.proofs.LastBytes.{gap-none}
 use Rattle.codes.proofs.LowBits.{length-low}
 use Rattle.codes.proofs.PutSoFar.{sends-bits, put-whole, put-room, put-sent}
@@ -57,7 +57,7 @@ own-goes c packed t =
     let few : Bool = leb (packed / 256) 8 in
     let sizes : T (small && few) = and-right bits (small && few) t in
     record {
-      same = same-rows (bitsFor 0 c) (low (packed / 256) (packed % 256)) (and-left bits (small && few) t);
+      same = same-is (bitsFor 0 c) (low (packed / 256) (packed % 256)) (and-left bits (small && few) t);
       fits = ltb→lt (packed % 256) (2 ^ (packed / 256)) (and-left small few sizes);
       long = leb→le (packed / 256) 8 (and-right small few sizes);
     }
@@ -116,7 +116,7 @@ own-pair before c s e x y =
     subst₂ (λ (bits width : ℕ). OwnOf before c (record { bits = bits; width = width; count = 1 })) (sym x) (sym y)
     (record {
       same = ap (λ (es : List Entry). inFour (codes es)) (own-same before c e)
-          ∙ same-rows (bitsFor 0 c) (low 8 0xBB) (implied-below 32 stands pair all-pairs c (s .1) (s .0));
+          ∙ same-is (bitsFor 0 c) (low 8 0xBB) (implied-below 32 stands pair all-pairs c (s .1) (s .0));
       fits = lit< tt;
       long = lit≤ tt;
       count = refl;

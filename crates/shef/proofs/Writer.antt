@@ -1,19 +1,18 @@
 -- What our writer builds is a building of what its text comes back as, and there is no other. Texts that can be read have codes, and are never empty.
 -- Assumes nothing.
-use mathlib.Core.Path.{_≡_, refl, sym, ap, _∙_}
+use mathlib.Core.Path.{_≡_, sym, ap, _∙_}
 use mathlib.Core.List.{List, [], _∷_, append-nil}
 use Prim.Native.Nat.{ℕ}
 use native.Mathlib.Nat.{le-of-eq}
 use lib.Dec.{T, lit<}
 use lib.ListN.{length}
 use Rattle.bits.specs.Row.{Bytes}
-use Rattle.bits.specs.Word.{bit}
 use Rattle.codes.specs.Chain.{Entry, Row, codes, texts, Built}
 use Rattle.codes.specs.Coded.{alone}
 use Rattle.codes.specs.Consecutive.{codeFor, consecutive}
 use Rattle.codes.specs.LineEnds.{LF, CR, eachAfter, ended, lineEnds}
 use Rattle.codes.specs.Lookup.{same, found, first, saying}
-use Rattle.codes.specs.Pack.{low, numbers}
+use Rattle.codes.specs.Pack.{numbers}
 use Rattle.codes.proofs.BitsInBytes.{gap-few}
 use Rattle.codes.proofs.EveryElement.{every}
 use Rattle.codes.proofs.LineTables.{lined, onePiece, ended-some, line-pieces, line-whole, lines-kept}

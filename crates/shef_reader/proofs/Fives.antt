@@ -1,24 +1,23 @@
 -- Ten codes in a row whose first bits are 0: each has five bits and says one character.
 -- Assumes nothing.
-use mathlib.Core.Path.{_≡_, refl, sym, ap, ap₂, subst, _∙_}
-use mathlib.Core.Bool.{Bool, true}
+use mathlib.Core.Path.{_≡_, refl, sym, ap, subst, _∙_}
+use mathlib.Core.Bool.{true}
 use Prim.Native.Nat.{ℕ, zero, suc, _+_, _-_, _*_, _/_, _%_, _^_, _≤_, _<_}
 use native.Mathlib.Nat.{zero-div}
 use native.Mathlib.Omega.{arith}
 use lib.Bits.{bitAnd, and-shr, and-mod, and-mask}
 use lib.Dec.{T, eqb, eqb→eq}
-use lib.Pow.{mod-mod-pow, shr-shr}
+use lib.Pow.{mod-mod-pow}
 use borrow.Author.Tests.{eqb-true}
 use Rattle.bits.proofs.All.{all, all-at}
 use Rattle.codes.specs.Pack.{low}
-use Rattle.codes.specs.Steps.BitBuffer.{Window}
 use Rattle.codes.specs.Steps.Passed.{CountedSoFar}
 use Rattle.codes.proofs.EightBytes.{top-bits}
 use Rattle.codes.proofs.ReadSoFar.{counting-none}
 use Rattle.codes.proofs.TakenCodes.{counted-code}
 use Rattle.shef.specs.Table.{scheme}
 use Rattle.shef.proofs.Table.{mutes}
-use Rattle.shef_reader.specs.Steps.Taken.{Fives, charactersIn}
+use Rattle.shef_reader.specs.Steps.Taken.{Fives}
 use Rattle.shef_reader.proofs.Six.{any-code, no-line-end, six-window}
 
 -- the ten first bits

@@ -1,5 +1,4 @@
 -- `shef_reader::skim` meets its contract. Assumes nothing.
-use mathlib.Core.Path.{_≡_}
 use native.Mathlib.Omega.{arith}
 use borrow.Author.Needs.{needs}
 use Rattle.shef_reader.proofs.Fives.{fives-counted}
