@@ -132,7 +132,7 @@ fn code_bits(text: &[u8]) -> u32
     let mut n = bits_for(0, text[0]) as u32;
     let mut i: usize = 1;
     while i < text.len() {
-        let to = bit_buffer::block_end(i, text.len());
+        let to = bit_sender::block_end(i, text.len());
         n += block_bits(text, i, to) as u32;
         i = to;
     }
@@ -176,7 +176,7 @@ fn four_codes(text: &[u8], i: usize) -> Sent
     let second = own_code(text[i + 1]);
     let third = own_code(text[i + 2]);
     let fourth = own_code(text[i + 3]);
-    bit_buffer::four_joined(first, second, third, fourth)
+    bit_sender::four_joined(first, second, third, fourth)
 }
 
 // The first of our codes of the text from i on, or the first four.
@@ -203,8 +203,8 @@ pub fn put_data(text: &[u8], out: &mut [u8]) -> usize
     let mut i: usize = 0;
     while i < text.len() {
         let next = next_codes(text, i);
-        b = bit_buffer::send(out, b, next.bits, next.width);
+        b = bit_sender::send(out, b, next.bits, next.width);
         i += next.count;
     }
-    bit_buffer::flush(out, b.n, b.held, b.have)
+    bit_sender::flush(out, b.n, b.held, b.have)
 }

@@ -52,7 +52,7 @@ pub fn is_coded(text: &[u8], i: usize) -> bool
     requires { ⌜ i < length (now text) ⌝ }
     ensures { λ r. ⌜ r ≡ coded (take i (now (text .entry))) (getD (now (text .entry)) i 0) ⌝ }
 {
-    coded_after(bit_buffer::before_at(text, i), text[i])
+    coded_after(bit_sender::before_at(text, i), text[i])
 }
 
 // How many base characters go for a character that comes after `before`.
@@ -94,7 +94,7 @@ fn base_length(text: &[u8]) -> u32
     let mut n = codes_for(0, text[0]) as u32;
     let mut i: usize = 1;
     while i < text.len() {
-        let to = bit_buffer::block_end(i, text.len());
+        let to = bit_sender::block_end(i, text.len());
         n += block_codes(text, i, to) as u32;
         i = to;
     }
@@ -198,7 +198,7 @@ fn four_codes(text: &[u8], i: usize, before: u8) -> Sent
     let second = own_codes(text[i], text[i + 1]);
     let third = own_codes(text[i + 1], text[i + 2]);
     let fourth = own_codes(text[i + 2], text[i + 3]);
-    bit_buffer::four_joined(first, second, third, fourth)
+    bit_sender::four_joined(first, second, third, fourth)
 }
 
 // What goes for the next character from i on, or for the next four.
@@ -206,7 +206,7 @@ fn next_codes(text: &[u8], i: usize) -> Sent
     requires { ⌜ AllCoded (now text) × (i < length (now text)) ⌝ }
     ensures { λ r. ⌜ FirstCodesOf (now (text .entry)) i 32 r ⌝ }
 {
-    let before = bit_buffer::before_at(text, i);
+    let before = bit_sender::before_at(text, i);
     if 4 <= text.len() - i {
         return four_codes(text, i, before);
     }
@@ -226,12 +226,12 @@ pub fn put_data(text: &[u8], out: &mut [u8]) -> usize
     let mut i: usize = 0;
     while i < text.len() {
         let next = next_codes(text, i);
-        b = bit_buffer::send(out, b, next.bits, next.width);
+        b = bit_sender::send(out, b, next.bits, next.width);
         i += next.count;
     }
     if b.have % 8 == 4 {
-        let even = bit_buffer::send(out, b, 10, 4);
-        return bit_buffer::flush(out, even.n, even.held, even.have);
+        let even = bit_sender::send(out, b, 10, 4);
+        return bit_sender::flush(out, even.n, even.held, even.have);
     }
-    bit_buffer::flush(out, b.n, b.held, b.have)
+    bit_sender::flush(out, b.n, b.held, b.have)
 }

@@ -274,8 +274,8 @@ fn send_eight(text: &[u8], i: usize, out: &mut [u8], b: Held) -> Held
     ensures { λ r. ⌜ SendsBits (now (out .entry)) (now (out .exit)) b (eightValues (now (text .entry)) i) r ⌝ }
 {
     let values = gathered(text, i);
-    let first = bit_buffer::send(out, b, values / 0x1_0000_0000, 24);
-    bit_buffer::send(out, first, values % 0x1_0000_0000, 24)
+    let first = bit_sender::send(out, b, values / 0x1_0000_0000, 24);
+    bit_sender::send(out, first, values % 0x1_0000_0000, 24)
 }
 
 // What our writer builds of the text, at the front of the buffer; how many bytes it is.
@@ -297,10 +297,10 @@ pub fn put_data(text: &[u8], out: &mut [u8]) -> usize
             announced -= 8;
         } else {
             let next = next_codes(text, i, announced);
-            b = bit_buffer::send(out, b, next.bits, next.width);
+            b = bit_sender::send(out, b, next.bits, next.width);
             i += next.count;
             announced = next.values;
         }
     }
-    bit_buffer::flush(out, b.n, b.held, b.have)
+    bit_sender::flush(out, b.n, b.held, b.have)
 }

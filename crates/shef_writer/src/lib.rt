@@ -111,7 +111,7 @@ fn code_bits(text: &[u8]) -> u32
     let mut n = bits_for(0, text[0]) as u32;
     let mut i: usize = 1;
     while i < text.len() {
-        let to = bit_buffer::block_end(i, text.len());
+        let to = bit_sender::block_end(i, text.len());
         n += block_bits(text, i, to) as u32;
         i = to;
     }
@@ -154,7 +154,7 @@ fn next_codes(table: &[u8; 91], text: &[u8], i: usize) -> Sent
         let third = entry(table, text[i + 2]);
         let fourth = entry(table, text[i + 3]);
         if 64 <= first & (second & (third & fourth)) {
-            return bit_buffer::four_joined(
+            return bit_sender::four_joined(
                 code_of(first),
                 code_of(second),
                 code_of(third),
@@ -162,7 +162,7 @@ fn next_codes(table: &[u8; 91], text: &[u8], i: usize) -> Sent
             );
         }
     }
-    own_code(bit_buffer::before_at(text, i), text[i])
+    own_code(bit_sender::before_at(text, i), text[i])
 }
 
 // What our writer builds of the text, at the front of the buffer; how many bytes it is.
@@ -181,8 +181,8 @@ pub fn put_data(text: &[u8], out: &mut [u8]) -> usize
     let mut i: usize = 0;
     while i < text.len() {
         let next = next_codes(table, text, i);
-        b = bit_buffer::send(out, b, next.bits, next.width);
+        b = bit_sender::send(out, b, next.bits, next.width);
         i += next.count;
     }
-    bit_buffer::flush(out, b.n, b.held, b.have)
+    bit_sender::flush(out, b.n, b.held, b.have)
 }

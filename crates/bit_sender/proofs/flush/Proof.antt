@@ -1,4 +1,4 @@
--- `bit_buffer::flush` meets its contract. The loop's invariant: the bytes so far are laid, and `left` bits and the fill are pending.
+-- `bit_sender::flush` meets its contract. The loop's invariant: the bytes so far are laid, and `left` bits and the fill are pending.
 -- Assumes nothing.
 use mathlib.Core.Path.{_≡_, ap, subst₂, _∙_}
 use mathlib.Core.List.{List, []}
@@ -10,8 +10,8 @@ use Rattle.codes.specs.Pack.{low, packed, filled, gap}
 use Rattle.codes.specs.Steps.Pending.{Pending}
 use Rattle.codes.proofs.PendingBytes.{pending-length, pending-room, pending-byte, pending-done}
 use Rattle.codes.proofs.LastBytes.{last-bytes, last-length, last-pending, gap-none, gap-some, pending-last}
-use Rattle.bit_buffer.proofs.flush.Statement.{statement}
-use Rattle.bit_buffer.proofs.flush.Tie as tie
+use Rattle.bit_sender.proofs.flush.Statement.{statement}
+use Rattle.bit_sender.proofs.flush.Tie as tie
 
 -- the last bytes
 abbrev last : ℕ → ℕ → List ℕ

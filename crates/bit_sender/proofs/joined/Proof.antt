@@ -1,10 +1,10 @@
--- `bit_buffer::joined` meets its contract. Assumes nothing.
+-- `bit_sender::joined` meets its contract. Assumes nothing.
 use mathlib.Core.Path.{refl}
 use native.Mathlib.Omega.{arith}
 use borrow.Author.Needs.{needs}
 use Rattle.codes.proofs.JoinedCodes.{join}
-use Rattle.bit_buffer.proofs.joined.Statement.{statement}
-use Rattle.bit_buffer.proofs.joined.Tie as tie
+use Rattle.bit_sender.proofs.joined.Statement.{statement}
+use Rattle.bit_sender.proofs.joined.Tie as tie
 
 shl-t3 : tie.Need-shl-t3
 shl-t3 c = search needs

@@ -1,10 +1,10 @@
--- `bit_buffer::spill` meets its contract. Assumes nothing.
+-- `bit_sender::spill` meets its contract. Assumes nothing.
 use native.Mathlib.Omega.{arith}
 use lib.ListN.{length-set}
 use Rattle.codes.proofs.EightBytes.{spill-four}
 use borrow.Author.Needs.{needs}
-use Rattle.bit_buffer.proofs.spill.Statement.{statement}
-use Rattle.bit_buffer.proofs.spill.Tie as tie
+use Rattle.bit_sender.proofs.spill.Statement.{statement}
+use Rattle.bit_sender.proofs.spill.Tie as tie
 
 sub-four : tie.Need-sub-four
 sub-four c = search needs

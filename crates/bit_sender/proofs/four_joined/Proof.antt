@@ -1,8 +1,8 @@
--- `bit_buffer::four_joined` meets its contract. Assumes nothing.
+-- `bit_sender::four_joined` meets its contract. Assumes nothing.
 use borrow.Author.Needs.{needs}
 use Rattle.codes.proofs.JoinedCodes.{four-joined}
-use Rattle.bit_buffer.proofs.four_joined.Statement.{statement}
-use Rattle.bit_buffer.proofs.four_joined.Tie as tie
+use Rattle.bit_sender.proofs.four_joined.Statement.{statement}
+use Rattle.bit_sender.proofs.four_joined.Tie as tie
 
 joined-requires : tie.Need-joined-requires
 joined-requires c κs = search needs

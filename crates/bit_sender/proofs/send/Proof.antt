@@ -1,11 +1,11 @@
--- `bit_buffer::send` meets its contract. Assumes nothing.
+-- `bit_sender::send` meets its contract. Assumes nothing.
 use mathlib.Core.Path.{_≡_, sym, ap, _∙_}
 use Prim.Native.Nat.{ℕ, _+_, _*_, _/_}
 use native.Mathlib.Omega.{arith}
 use borrow.Author.Needs.{needs}
 use Rattle.codes.specs.Steps.EightBytes.{spilled}
-use Rattle.bit_buffer.proofs.send.Statement.{statement}
-use Rattle.bit_buffer.proofs.send.Tie as tie
+use Rattle.bit_sender.proofs.send.Statement.{statement}
+use Rattle.bit_sender.proofs.send.Tie as tie
 
 push-requires : tie.Need-push-requires
 push-requires c κs = search needs

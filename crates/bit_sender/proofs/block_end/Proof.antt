@@ -1,9 +1,9 @@
--- `bit_buffer::block_end` meets its contract. Assumes nothing.
+-- `bit_sender::block_end` meets its contract. Assumes nothing.
 use mathlib.Core.Logic.{inl, inr}
 use native.Mathlib.Omega.{arith}
 use borrow.Author.Needs.{needs}
-use Rattle.bit_buffer.proofs.block_end.Statement.{statement}
-use Rattle.bit_buffer.proofs.block_end.Tie as tie
+use Rattle.bit_sender.proofs.block_end.Statement.{statement}
+use Rattle.bit_sender.proofs.block_end.Tie as tie
 
 sub-if1 : tie.Need-sub-if1
 sub-if1 c = search needs

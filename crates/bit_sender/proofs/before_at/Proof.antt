@@ -1,11 +1,11 @@
--- `bit_buffer::before_at` meets its contract. Assumes nothing.
+-- `bit_sender::before_at` meets its contract. Assumes nothing.
 use mathlib.Core.Path.{sym}
 use native.Mathlib.Omega.{arith}
 use borrow.Author.Needs.{needs}
 use Rattle.codes.specs.Coded.{lastOf}
 use Rattle.codes.proofs.EachAfter.{last-taken}
-use Rattle.bit_buffer.proofs.before_at.Statement.{statement}
-use Rattle.bit_buffer.proofs.before_at.Tie as tie
+use Rattle.bit_sender.proofs.before_at.Statement.{statement}
+use Rattle.bit_sender.proofs.before_at.Tie as tie
 
 returns : tie.Need-returns
 unfolding lastOf
