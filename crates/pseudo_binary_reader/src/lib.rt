@@ -199,8 +199,8 @@ fn put_eight(out: &mut [u8], n: usize, word: u64)
     requires { ⌜ n + 8 ≤ length (now out) ⌝ }
     ensures { λ r. ⌜ ((bs : List ℕ) → Eight bs word → now (out .exit) ≡ laid (now (out .entry)) n (charactersIn 8 bs)) ⌝ }
 {
-    bit_buffer::spill(out, n, word, 64);
-    bit_buffer::spill(out, n + 4, word, 32);
+    bit_sender::spill(out, n, word, 64);
+    bit_sender::spill(out, n + 4, word, 32);
 }
 
 // Fewer than eight of them.
