@@ -34,7 +34,7 @@ packed bs = bytes (length bs / 8) bs
 unfoldable pub gap : ℕ → ℕ
 gap n = (8 - n % 8) % 8
 
--- the bits, then ones up to the byte's end (001, 4.5; RULES, Formats: in both compact formats)
+-- the bits, then ones up to the byte's end (001, 4.4 and 4.5; RULES, Formats)
 unfoldable pub filled : List ℕ → List ℕ
 filled bs = bs ++ replicate (gap (length bs)) 1
 

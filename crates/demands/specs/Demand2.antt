@@ -1,5 +1,5 @@
 -- Demand 2. Packets and text agree with document 001. Text that has codes and fits is written in the named format and sync bit and reads back character
--- for character with both (as what it comes back as: in these formats itself); empty text is refused. A packet is accepted exactly when its header is no
+-- for character with both (as what it comes back as: RULES, Formats); empty text is refused. A packet is accepted exactly when its header is no
 -- more bits from a valid one than are mended, the document and our limits allow the packet with that header in one of our formats, and the buffer holds
 -- its text. Writing that text again in its format gives a packet that reads the same in text and format, room given.
 -- The first sentence is what the definitions say, held against the document, and what the published packets show.

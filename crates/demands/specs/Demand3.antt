@@ -1,6 +1,6 @@
 -- Demand 3. Take a packet that any maker could have built under our rules, runs and line ends cut as that maker liked, and flip no more of its 32 header
--- bits than are mended. With data and checksum intact and room for the text, the reader returns exactly the sent text (as what it comes back as: in these
--- formats itself), format and sync bit, with the true number of mended bits. If instead only one data byte or two neighbouring ones changed, or only one
+-- bits than are mended. With data and checksum intact and room for the text, the reader returns exactly the sent text (as what it comes back as:
+-- RULES, Formats), format and sync bit, with the true number of mended bits. If instead only one data byte or two neighbouring ones changed, or only one
 -- or both checksum bytes, it refuses by checksum and hands out nothing.
 -- Assumes nothing.
 use mathlib.Core.Bool.{Bool}
