@@ -36,6 +36,11 @@ static void make_open(void)
         source[i] = below(256);
 }
 
+static unsigned value_character(unsigned value)
+{
+    return value == 63 ? '?' : 64 + value;
+}
+
 /* Readings of three characters that wander, some of them missing, and a space before each group of twelve. */
 static void make_pseudo_binary(void)
 {
@@ -47,7 +52,7 @@ static void make_pseudo_binary(void)
         reading += below(41) - 20;
         bool missing = below(16) == 0;
         for (int k = 12; k >= 0; k -= 6)
-            source[length++] = missing ? '/' : 64 + (reading >> k & 63);
+            source[length++] = missing ? '/' : value_character(reading >> k & 63);
     }
 }
 
@@ -96,7 +101,7 @@ static size_t part_for(unsigned format, size_t size)
     while (exceeds - fits > 1) {
         size_t middle = fits + (exceeds - fits) / 2;
         rosopyat_write_answer answer = tuned_write(format, false, source, middle, packet, 0);
-        if (answer.refusal != 8 || answer.number > size + 6)
+        if (answer.refusal == ROSOPYAT_TOO_LONG || answer.number > size + 6)
             exceeds = middle;
         else
             fits = middle;

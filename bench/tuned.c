@@ -262,6 +262,12 @@ static inline uint64_t gather(uint64_t v)
     return (v & 0x00ffffff00000000) >> 8 | (v & 0xffffff);
 }
 
+/* Of eight values the characters: 64 to 126, and 63 for the last. */
+static inline uint64_t characters_of(uint64_t values)
+{
+    return ((values + EACH(1)) & EACH(63)) + EACH(63);
+}
+
 static void text_of_pseudo_binary(const uint8_t *data, size_t length, uint8_t *text, size_t count)
 {
     size_t at = 0, done = 0, readable = length + 2;
@@ -272,9 +278,9 @@ static void text_of_pseudo_binary(const uint8_t *data, size_t length, uint8_t *t
             size_t run = (indicator & 0x7f) + 1;
             at += 8;
             for (; run >= 8; run -= 8, at += 48, done += 8)
-                store_64(text + done, spread(window(data, readable, at) >> 16) + EACH(64));
+                store_64(text + done, characters_of(spread(window(data, readable, at) >> 16)));
             if (run > 0) {
-                uint64_t last = spread(window(data, readable, at) >> 16) + EACH(64);
+                uint64_t last = characters_of(spread(window(data, readable, at) >> 16));
                 if (likely(count - done >= 8))
                     store_64(text + done, last); /* what is too much is written again */
                 else
@@ -475,11 +481,17 @@ static rosopyat_write_answer refuse_writing(uint32_t refusal, size_t number)
     return (rosopyat_write_answer){.refusal = refusal, .number = number};
 }
 
-/* Runs of Compact Pseudo Binary: characters of one kind from `from` on, at most `most`. */
+/* Runs of Compact Pseudo Binary: characters of one kind from `from` on, at most `most`. The values are the characters 63 to 127. */
 
-static inline bool all_values(uint64_t eight)
+static inline bool is_value(unsigned character)
 {
-    return (eight & EACH(0xc0)) == EACH(0x40);
+    return character - 63 < 65;
+}
+
+/* Of eight characters the top bit of each that is no value; above the first of these, the lowest, it may be wrong. */
+static inline uint64_t no_values(uint64_t eight)
+{
+    return (~(eight + EACH(65)) | eight) & EACH(0x80);
 }
 
 static inline size_t run_of_values(const uint8_t *text, size_t length, size_t from, size_t most)
@@ -488,11 +500,11 @@ static inline size_t run_of_values(const uint8_t *text, size_t length, size_t fr
     uint64_t eight;
     while (at + 8 <= end) {
         memcpy(&eight, text + at, 8);
-        if (!all_values(eight))
-            return at - from + __builtin_ctzll((eight & EACH(0xc0)) ^ EACH(0x40)) / 8;
+        if (no_values(eight))
+            return at - from + __builtin_ctzll(no_values(eight)) / 8;
         at += 8;
     }
-    while (at < end && (text[at] & 0xc0) == 0x40)
+    while (at < end && is_value(text[at]))
         at++;
     return at - from;
 }
@@ -511,7 +523,7 @@ static bool measure_text_pseudo_binary(const uint8_t *text, size_t length, size_
     size_t at = 0, sum = 0;
     while (at < length) {
         unsigned character = text[at];
-        if ((character & 0xc0) == 0x40) {
+        if (is_value(character)) {
             size_t run = run_of_values(text, length, at, SIZE_MAX);
             sum += 6 * run + (run + 127) / 128 * 8;
             at += run;
@@ -562,7 +574,7 @@ static void data_of_pseudo_binary(const uint8_t *text, size_t length, uint8_t *d
     size_t at = 0;
     while (at < length) {
         unsigned character = text[at];
-        if ((character & 0xc0) == 0x40) {
+        if (is_value(character)) {
             size_t run = run_of_values(text, length, at, 128), end = at + run;
             put(&out, 0x80 | (run - 1), 8);
             for (; at + 8 <= end; at += 8) {

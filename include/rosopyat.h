@@ -46,15 +46,16 @@ enum {
 
 /* The formats, by their number in the flag byte. "Line end" is CR LF, CR or LF; CR with LF after it is one.
  *
- * What is written reads back character for character, but for two things, and what was read back so reads back unchanged:
+ * What is written reads back character for character, but for three things, and what was read back so reads back unchanged:
+ *   - in Pseudo Binary 3F (the question mark) and 7F are both sent as value 63, and read back as 3F;
  *   - in Numeric and SHEF each line end reads back as CR LF;
  *   - in Numeric, where two codes fill a byte, an odd number of codes is followed by that of a space: the text reads back with a space behind it.
- * So it may read back longer than it was written: at most twice as long, or by the space.
+ * So in Numeric and SHEF it may read back longer than it was written: at most twice as long, or by the space.
  * In Numeric some pairs of + - . stand for other characters. So a + or - may not have + - # = E or a line end after it, and a . may not have . or : after
  * it: that second character has no code there (refusal 9). Lower-case letters have no code in SHEF. */
 enum rosopyat_format {
     ROSOPYAT_OPEN = 0,          /* the data bytes are the text: any bytes, 8 bits each */
-    ROSOPYAT_PSEUDO_BINARY = 1, /* compacted: characters 64 to 127 (6 bits each, and 8 for a run of up to 128), space and slash (6 for a run of up to 16) */
+    ROSOPYAT_PSEUDO_BINARY = 1, /* compacted: characters 63 to 127 (6 bits each, and 8 for a run of up to 128), space and slash (6 for a run of up to 16) */
     ROSOPYAT_NUMERIC = 2,       /* compacted: digits, space and + , - . / (4 bits), # = : E and line ends (8) */
     ROSOPYAT_SHEF = 3,          /* compacted: digits, space and + , - . / (5 bits), A to Z, # = : ; and line ends (6) */
     ROSOPYAT_FULL_ASCII = 4     /* compacted: characters 32 to 63 (6 bits), 64 to 126 (7), HT, CR, LF, and CR with LF after it (9) */

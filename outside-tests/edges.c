@@ -1,5 +1,5 @@
-/* The published packets and messages (file given), the table of edges P1 to P15, edges of Numeric and SHEF, every unreadable ending and the numbers of
- * formats, through rosopyat.h: linked once with the independent implementation under the library's names, and once with the library. */
+/* The published packets and messages (file given), the table of edges P1 to P15 and Q1 to Q3, edges of Numeric and SHEF, every unreadable ending and the
+ * numbers of formats, through rosopyat.h: linked once with the independent implementation under the library's names, and once with the library. */
 #include "maker.h"
 #include "rosopyat.h"
 
@@ -154,6 +154,15 @@ static void edges(void)
     expect_data("P13", 4, "A\r\n", "\x83\xff", 2);
     expect_data("P14", 4, "\r\n", "\xff\xff", 2);
     expect_malformed("P15", 4, "\xff", 1, 0);
+}
+
+static void value_63(void)
+{
+    expect_data("Q1", 1, "?", "\x80\xff", 2);
+    expect_normal("Q1", 1, "\x7f", "\x80\xff", 2, "?");
+    expect_data("Q2", 1, "~", "\x80\xfb", 2);
+    expect_uncoded("Q2", 1, ">", 0);
+    expect_data("Q3", 1, "????????", "\x87\xff\xff\xff\xff\xff\xff", 7);
 }
 
 static void numeric(void)
@@ -370,10 +379,16 @@ static void published_packet(const char *title, uint8_t *packet, size_t packet_l
         text_length = packet_length - 6;
         memcpy(text, packet + 4, text_length);
     }
-    if (format == 1) /* value 63, printed as 3F in the tables, reads back as 7F */
-        for (size_t i = 0; i < text_length; i++)
-            if (text[i] == 0x3f)
-                text[i] = 0x7f;
+    if (format == 1) { /* value 63, printed as 3F in the tables, may be 7F in what is written */
+        uint8_t other[4096];
+        unsigned changed = 0;
+        for (size_t i = 0; i < text_length; i++) {
+            other[i] = text[i] == 0x3f ? 0x7f : text[i];
+            changed += other[i] != text[i];
+        }
+        expect(title, "values 63", changed, 12);
+        expect_writing(title, format, other, text_length, packet, packet_length);
+    }
     if (format == 2) { /* 331 codes, and the space that makes them even */
         expect(title, "characters of the message", text_length, 317);
         expect_writing(title, format, text, text_length, packet, packet_length);
@@ -386,7 +401,7 @@ static void published_packet(const char *title, uint8_t *packet, size_t packet_l
 static bool has_code(unsigned format, unsigned character)
 {
     if (format == 1)
-        return character == ' ' || character == '/' || (character >= 64 && character <= 127);
+        return character == ' ' || character == '/' || (character >= 63 && character <= 127);
     if (format == 2)
         return character < 128 && strchr("0123456789 +,-./\r\n#=:E", character) != NULL;
     if (format == 3)
@@ -455,7 +470,7 @@ static unsigned published(const char *path)
             text_length += hexadecimal(line + 5, text + text_length);
     }
     fclose(file);
-    expect("published", "messages written", messages, 8); /* all in Full ASCII, two in SHEF, one in Numeric; in Pseudo Binary a question mark or a digit is in the way */
+    expect("published", "messages written", messages, 10); /* all in Full ASCII, two in Pseudo Binary, two in SHEF, one in Numeric */
     return packets;
 }
 
@@ -466,6 +481,7 @@ int main(int count, char **words)
         return 2;
     }
     edges();
+    value_63();
     numeric();
     shef();
     endings();

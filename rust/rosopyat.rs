@@ -20,7 +20,7 @@ pub const MOST_TEXT: usize = 85_328;
 pub enum Format {
     /// The data bytes are the text: any bytes.
     Open = 0,
-    /// Compacted: characters 64 to 127, space and slash.
+    /// Compacted: characters 63 to 127, space and slash. 3F (`?`) and 7F are both sent as value 63, and read back as 3F.
     PseudoBinary = 1,
     /// Compacted: digits, space and `+ , - . /`, then `# = : E` and line ends. A line end reads back as CR LF, and an odd number of codes with a space
     /// behind the text. A `+` or `-` may not have `+ - # = E` or a line end after it, a `.` not `.` or `:`.

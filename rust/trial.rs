@@ -54,7 +54,7 @@ fn read_refusals() {
 fn write_refusals() {
     let mut packet = [0; 64];
     assert_eq!(write(Format::Open, false, b"", &mut packet), Err(WriteRefusal::Empty));
-    assert_eq!(write(Format::PseudoBinary, false, b"@A!", &mut packet), Err(WriteRefusal::NoCode(2)));
+    assert_eq!(write(Format::PseudoBinary, false, b"@A>", &mut packet), Err(WriteRefusal::NoCode(2)));
     assert_eq!(write(Format::Numeric, false, b"12+\r\n", &mut packet), Err(WriteRefusal::NoCode(3)));
     assert_eq!(write(Format::Shef, false, b"Ab", &mut packet), Err(WriteRefusal::NoCode(1)));
     assert_eq!(write(Format::FullAscii, false, b"\x7f", &mut packet), Err(WriteRefusal::NoCode(0)));
@@ -101,7 +101,8 @@ fn first_byte(packet: &[u8]) -> Result<u8, Box<dyn std::error::Error>> {
 fn main() {
     let every: Vec<u8> = (0..=255).collect();
     assert_eq!(there_and_back(Format::Open, true, &every), 262);
-    assert_eq!(there_and_back(Format::PseudoBinary, false, b"@A~\x7f//// ZZ"), 14);
+    assert_eq!(there_and_back(Format::PseudoBinary, false, b"@A~?//// ZZ"), 14);
+    assert_eq!(comes_back_as(Format::PseudoBinary, false, b"?\x7f//// \x7f?", b"??//// ??"), 13);
     assert_eq!(there_and_back(Format::PseudoBinary, true, &[b'/'; MOST_TEXT]), MOST_PACKET);
     assert_eq!(there_and_back(Format::Numeric, true, b"13:30:00 -4.8,E\r\n"), 16);
     assert_eq!(comes_back_as(Format::Numeric, false, b"1\n2\r", b"1\r\n2\r\n"), 9);

@@ -2,8 +2,8 @@
 """Writes the cases of crates/vectors (stdin) and what the program must print for them (stdout).
 
 Written from docs/RULES.md and document 001 alone. For the published packets of 001's section 5 (outside-tests/vectors/section5.txt) the expectation is
-the published packet and the message beside it; for the edges P1 to P15 it is the line of RULES, Edges; for all others it is worked out here, in the
-plainest way: bits are strings of 0 and 1, a header is mended by trying every pattern of at most two bits.
+the published packet and the message beside it; for the edges P1 to P15 and Q1 to Q3 it is the line of RULES, Edges; for all others it is worked out
+here, in the plainest way: bits are strings of 0 and 1, a header is mended by trying every pattern of at most two bits.
 
     python3 vector-maker/make_vectors.py            writes both files
     python3 vector-maker/make_vectors.py --check    writes nothing: are they what would be written?
@@ -104,6 +104,11 @@ def take(bits, at, width, start):
     return bits[at:at + width]
 
 
+def value_character(value):
+    """The values 0 to 62 are the characters 64 to 126, and 63 is 3F."""
+    return 0x3F if value == 63 else 64 + value
+
+
 def read_pseudo(data):
     bits, at, text = bits_of(data), 0, bytearray()
     while not is_end(bits[at:at + 8]) or len(bits) - at > 7:
@@ -111,7 +116,7 @@ def read_pseudo(data):
             count = int(take(bits, at, 8, at)[1:], 2) + 1
             at += 8
             for _ in range(count):
-                text.append(64 + int(take(bits, at, 6, at), 2))
+                text.append(value_character(int(take(bits, at, 6, at), 2)))
                 at += 6
         else:
             code = take(bits, at, 6, at)
@@ -172,7 +177,12 @@ READ = {OPEN: bytes, PSEUDO: read_pseudo, NUMERIC: read_numeric, SHEF: read_shef
 def pseudo_kind(character):
     if 64 <= character <= 127:
         return "value"
-    return {0x20: "space", 0x2F: "slash"}.get(character)
+    return {0x3F: "value", 0x20: "space", 0x2F: "slash"}.get(character)
+
+
+def value_of(character):
+    """7F is 63 too."""
+    return 63 if character == 0x3F else character - 64
 
 
 def write_pseudo(text):
@@ -183,7 +193,7 @@ def write_pseudo(text):
         for start in range(0, len(run), fullest):
             part = run[start:start + fullest]
             if kind == "value":
-                bits += f"1{len(part) - 1:07b}" + "".join(f"{c - 64:06b}" for c in part)
+                bits += f"1{len(part) - 1:07b}" + "".join(f"{value_of(character):06b}" for character in part)
             else:
                 bits += ("00" if kind == "space" else "01") + f"{len(part) - 1:04b}"
     return bytes_of(bits)
@@ -233,6 +243,8 @@ WRITE = {OPEN: bytes, PSEUDO: write_pseudo, NUMERIC: write_numeric, SHEF: write_
 
 def normal(format, text):
     """What a text comes back as."""
+    if format == PSEUDO:
+        return text.replace(b"\x7f", b"\x3f")
     if format in (NUMERIC, SHEF):
         text = with_line_ends(text)
     odd = format == NUMERIC and sum(len(BASE.get(piece, b"")) for piece in pieces(text)) % 2 == 1
@@ -355,12 +367,13 @@ def published():
     for name, (sent, message) in sections().items():
         format = {"5.1": OPEN, "5.2.1": PSEUDO, "5.2.2": PSEUDO, "5.3": NUMERIC, "5.4": SHEF, "5.5": ASCII}[name]
         text = bytes(range(256)) if format == OPEN else message
-        if format == PSEUDO:  # house rule: value 63 is character 7F
-            writes(format, text, 200, answer=("refused 9", text.index(0x3F), b""))
-            text = text.replace(b"\x3f", b"\x7f")
         length, used = len(sent) - 6, len(sent)
+        written = (f"written {used}", used, sent)
+        if format == PSEUDO:  # value 63, which the table prints as 3F, may be 7F in what is written
+            assert text.count(b"\x3f") == 12
+            writes(format, text.replace(b"\x3f", b"\x7f"), used, answer=written)
         if format == NUMERIC:  # an odd number of codes, and the space behind them
-            writes(format, text, used, answer=(f"written {used}", used, sent))
+            writes(format, text, used, answer=written)
             assert len(text) == 317
             text += b" "
         ok = (f"ok {format} 0 0 {length} {len(text)}", used, text)
@@ -369,7 +382,6 @@ def published():
         reads(sent, len(text), ok)
         reads(sent, len(text) - 1, ("refused 8", len(text), b""))
         reads(sent[:-1], len(text), ("refused 5", 0, b""))
-        written = (f"written {used}", used, sent)
         writes(format, text, used + 3, answer=written)
         writes(format, text, used, answer=written)
         writes(format, text, used - 1, answer=("refused 8", used, b""))
@@ -393,14 +405,15 @@ def messages():
 
 
 def edges():
-    """P1 to P15, each as its line of the table says."""
-    def data(format, text, sent, head=None):
+    """P1 to P15 and Q1 to Q3, each as its line of the table says."""
+    def data(format, text, sent, head=None, others=()):
         sent = bytes.fromhex(sent)
         whole = packet_of(format, sent)
         if head:
             assert whole[:4] == bytes.fromhex(head)
         reads(whole, len(text) + 2, (f"ok {format} 0 0 {len(sent)} {len(text)}", len(whole), text))
-        writes(format, text, len(whole) + 2, answer=(f"written {len(whole)}", len(whole), whole))
+        for same in text, *others:
+            writes(format, same, len(whole) + 2, answer=(f"written {len(whole)}", len(whole), whole))
 
     def malformed(format, sent, place):
         reads(packet_of(format, bytes.fromhex(sent)), 300, ("refused 7", place, b""))
@@ -422,6 +435,29 @@ def edges():
     data(ASCII, b"A\r\n", "83FF")  # P13
     data(ASCII, b"\r\n", "FFFF")  # P14
     malformed(ASCII, "FF", 0)  # P15
+    data(PSEUDO, b"?", "80FF", others=[b"\x7f"])  # Q1
+    data(PSEUDO, b"~", "80FB")  # Q2
+    writes(PSEUDO, b">", 10, answer=("refused 9", 0, b""))
+    data(PSEUDO, b"????????", "87FFFFFFFFFFFF")  # Q3
+
+
+def sixty_threes():
+    """Value 63, as 3F and as 7F, in every place of a run of 1, 8, 127, 128 and 129 values, among others that vary. The run stands by itself, or with a
+    space or a slash before it, behind it, and both: a run of 1 or 8 all nine ways for each place, a longer one for its first place, its last and the last
+    of 128; for its other places they take turns. The data is put together beside the text."""
+    beside = {b"": "", b" ": "000000", b"/": "010000"}
+    ways = list(itertools.product(beside, repeat=2))
+    turns = itertools.cycle(ways)
+    for count, place in [(count, place) for count in (1, 8, 127, 128, 129) for place in range(count)]:
+        values = [63 if index == place else (5 * index + place) % 63 for index in range(count)]
+        parts = [part for part in (values[:128], values[128:]) if part]
+        bits = "".join(f"1{len(part) - 1:07b}" + "".join(f"{value:06b}" for value in part) for part in parts)
+        for before, behind in ways if count <= 8 or place in (0, 127, count - 1) else [next(turns)]:
+            whole = packet_of(PSEUDO, bytes_of(beside[before] + bits + beside[behind]))
+            back, other = (before + bytes(sixty_three if value == 63 else 64 + value for value in values) + behind for sixty_three in (0x3F, 0x7F))
+            for text in back, other:
+                writes(PSEUDO, text, len(whole) + 1, answer=(f"written {len(whole)}", len(whole), whole))
+            reads(whole, len(back) + 1, (f"ok 1 0 0 {len(whole) - 6} {len(back)}", len(whole), back))
 
 
 def line_ends_and_pairs():
@@ -623,10 +659,10 @@ def texts():
     generator = random.Random(3)
     chosen = []
     for n in 1, 2, 15, 16, 17, 32, 33, 127, 128, 129, 256, 257:
-        chosen += [(PSEUDO, character * n) for character in (b"/", b" ", b"\x7f")]
+        chosen += [(PSEUDO, unit * n) for unit in (b"/", b" ", b"?", b"\x7f", b"?\x7f")]
         chosen += [(PSEUDO, b"@" * n + b"/" + b"~" * n + b" "), (OPEN, b"\xff" * n)]
         chosen += [(ASCII, text) for text in (b"\r" * n + b"\n", b"\r\n" * n, b"\t5" * n)]
-    letters = {OPEN: bytes(range(256)), PSEUDO: bytes(range(64, 128)) + b" / / / / / /" * 4, ASCII: bytes(range(32, 127)) + b"\t\r\n\r\n" * 6,
+    letters = {OPEN: bytes(range(256)), PSEUDO: bytes(range(64, 127)) + b"?\x7f / / / / / /" * 4, ASCII: bytes(range(32, 127)) + b"\t\r\n\r\n" * 6,
                NUMERIC: TABLE_4 + b"+-.#=:E\r\n\r\n", SHEF: TABLE_4 * 2 + b"".join(TABLE_6) + b"\r\n"}
     for format in letters:
         for _ in range(40):
@@ -645,7 +681,8 @@ def texts():
 
 
 def make():
-    for group in published, messages, edges, line_ends_and_pairs, headers, reader_refusals, endings, compact_data, longest, writer_refusals, texts:
+    for group in (published, messages, edges, sixty_threes, line_ends_and_pairs, headers, reader_refusals, endings, compact_data, longest, writer_refusals,
+                  texts):
         before = COUNT
         group()
         print(f"{group.__name__}: {COUNT - before} cases")

@@ -75,6 +75,7 @@ enum outcome {
     READ_TRAILING,
     READ_LONG_TAIL,
     MADE_AND_READ,
+    MADE_VALUE_63,
     DAMAGED, /* and its kind */
     DAMAGED_MENDED = DAMAGED + 4, /* and the header bits flipped beside it */
     NO_ROOM_ONE_SHORT = DAMAGED_MENDED + 3,
@@ -84,13 +85,18 @@ enum outcome {
     WRITE_LOW_8_OURS = WRITE_REFUSED + 13,
     WRITE_LOW_16_OURS,
     WRITE_NO_PAIR,
+    WRITE_NO_3E,
     WRITE_SYNC_1,
     WRITE_DATA_4000,
     WRITE_ROOM_EXACT,
     WRITTEN_AND_READ,
     WRITTEN_SPACE,
     WRITTEN_LINE_END, /* and its kind: CR LF, CR alone, LF alone */
-    WRITE_ONE_SHORT = WRITTEN_LINE_END + 3,
+    WRITTEN_3F = WRITTEN_LINE_END + 3,
+    WRITTEN_7F,
+    WRITTEN_FIRST_63,
+    WRITTEN_LAST_63,
+    WRITE_ONE_SHORT,
     OUTCOMES
 };
 
@@ -118,6 +124,7 @@ static const char *const outcome_name[OUTCOMES] = {
     [READ_TRAILING] = "  with bytes behind the packet",
     [READ_LONG_TAIL] = "  with more than 4,000 bytes behind the packet",
     [MADE_AND_READ] = "  and read as made",
+    [MADE_VALUE_63] = "    with a value 63 (Compact Pseudo Binary)",
     [DAMAGED + 0] = "refused 6 for a data byte changed",
     [DAMAGED + 1] = "refused 6 for two neighbouring data bytes changed",
     [DAMAGED + 2] = "refused 6 for a checksum byte changed",
@@ -136,6 +143,7 @@ static const char *const outcome_name[OUTCOMES] = {
     [WRITE_LOW_8_OURS] = "  whose low 8 bits are a format's number",
     [WRITE_LOW_16_OURS] = "  whose low 16 bits are a format's number",
     [WRITE_NO_PAIR] = "writer refused 9, a pair of Compact Numeric",
+    [WRITE_NO_3E] = "writer refused 9, 3E in Compact Pseudo Binary",
     [WRITE_SYNC_1] = "writer accepted, with sync 1",
     [WRITE_DATA_4000] = "  with 4,000 data bytes",
     [WRITE_ROOM_EXACT] = "  with exactly the room needed",
@@ -144,6 +152,10 @@ static const char *const outcome_name[OUTCOMES] = {
     [WRITTEN_LINE_END + 0] = "line ends of CR LF written (Compact Numeric and SHEF)",
     [WRITTEN_LINE_END + 1] = "line ends of CR alone",
     [WRITTEN_LINE_END + 2] = "line ends of LF alone",
+    [WRITTEN_3F] = "values 63 written as 3F (Compact Pseudo Binary)",
+    [WRITTEN_7F] = "values 63 written as 7F",
+    [WRITTEN_FIRST_63] = "  right behind a space or slash",
+    [WRITTEN_LAST_63] = "  right before a space or slash",
     [WRITE_ONE_SHORT] = "packet buffer one byte too short",
 };
 
@@ -366,6 +378,12 @@ static bool one_more(size_t rest, size_t shortest)
     return rest > 7 || (rest >= shortest && chance(50));
 }
 
+/* A value, as it comes back. Whether the maker's text had 3F or 7F for 63 cannot be told. */
+static unsigned value_character(unsigned value)
+{
+    return value == 63 ? '?' : 64 + value;
+}
+
 /* `longest`: full runs of space and slash only. */
 static void make_pseudo_binary(struct maker_bits *bits, size_t most_bits, bool longest)
 {
@@ -380,7 +398,7 @@ static void make_pseudo_binary(struct maker_bits *bits, size_t most_bits, bool l
             for (size_t i = 0; i < run; i++) {
                 unsigned value = chance(10) ? 63 : below(64);
                 maker_put(bits, value, 6);
-                add_text(64 + value, 1);
+                add_text(value_character(value), 1);
             }
         } else {
             size_t run = longest ? 16 : some_run(16);
@@ -667,6 +685,7 @@ static const char *compare_making(rosopyat_read_answer answer, const uint8_t *te
     if (!read_as_made(answer, text))
         return "the packet is not read as made";
     outcomes[MADE_AND_READ]++;
+    outcomes[MADE_VALUE_63] += made.format == 1 && memchr(made_text, '?', made.text_length) != NULL;
     return NULL;
 }
 
@@ -750,24 +769,33 @@ static size_t make_piece(uint8_t *text, const char *others, unsigned line_ends)
     return 1;
 }
 
+/* A value of Compact Pseudo Binary: so many per cent are 63, as 3F or 7F. */
+static unsigned some_value(unsigned sixty_threes)
+{
+    return chance(sixty_threes) ? 0x3f | below(2) << 6 : between(64, 127);
+}
+
+/* Values, spaces or slashes; `runs`: no values. */
+static size_t make_run(uint8_t *text, bool few, bool runs, unsigned sixty_threes)
+{
+    unsigned kind = runs ? below(2) : below(few ? 40 : 4);
+    size_t run = kind >= 2 ? some_run(chance(10) ? 300 : 130) : runs ? between(14, 64) : some_run(chance(5) ? 50 : 17);
+    for (size_t i = 0; i < run; i++)
+        text[i] = kind >= 2 ? some_value(sixty_threes) : kind == 1 ? '/' : ' ';
+    return run;
+}
+
 static size_t make_pieces(unsigned format, uint8_t *text, size_t least)
 {
     size_t length = 0;
     bool few = chance(30), runs = chance(3);
-    unsigned line_ends = chance(5) ? 99 : few ? 3 : 20, pairs = chance(70) ? 0 : chance(50) ? 2 : 20;
+    unsigned line_ends = chance(5) ? 99 : few ? 3 : 20, pairs = chance(70) ? 0 : chance(50) ? 2 : 20, sixty_threes = chance(30) ? 60 : 4;
     while (length < least) {
         if (format == 0)
             text[length++] = random_64() >> 56;
-        else if (format == 1) {
-            unsigned kind = runs ? below(2) : below(few ? 40 : 4);
-            if (kind < 2) {
-                size_t run = runs ? between(14, 64) : some_run(chance(5) ? 50 : 17);
-                memset(text + length, kind ? '/' : ' ', run);
-                length += run;
-            } else
-                for (size_t run = some_run(chance(10) ? 300 : 130); run > 0; run--)
-                    text[length++] = between(64, 127);
-        } else if (format == 2) {
+        else if (format == 1)
+            length += make_run(text + length, few, runs, sixty_threes);
+        else if (format == 2) {
             size_t piece = make_piece(text + length, few ? "0123456789 ,/." : "0123456789 +,-./+-.#=:E", line_ends);
             if (length > 0 && makes_pair(text[length - 1], text[length]))
                 text[length++] = '0' + below(10);
@@ -839,6 +867,7 @@ static void count_writing(rosopyat_write_answer answer, size_t room, uint32_t fo
     if (answer.refusal != 0) {
         outcomes[WRITE_NO_PAIR] +=
             answer.refusal == 9 && format == 2 && answer.number > 0 && makes_pair(text[answer.number - 1], text[answer.number]);
+        outcomes[WRITE_NO_3E] += answer.refusal == 9 && format == 1 && text[answer.number] == 0x3e;
         outcomes[WRITE_REFUSED + answer.refusal]++;
         outcomes[WRITE_LOW_8_OURS] += answer.refusal == 12 && is_ours(format & 0xff);
         outcomes[WRITE_LOW_16_OURS] += answer.refusal == 12 && is_ours(format & 0xffff);
@@ -850,8 +879,20 @@ static void count_writing(rosopyat_write_answer answer, size_t room, uint32_t fo
     outcomes[WRITE_ROOM_EXACT] += room == answer.length;
 }
 
-/* What a text comes back as, in `normal`, and its length: in Compact Numeric and SHEF with all line ends as CR LF, and in Numeric with a space behind it
- * where it has an odd number of codes. */
+static bool space_or_slash(unsigned character)
+{
+    return character == ' ' || character == '/';
+}
+
+static void count_value_63(const uint8_t *text, size_t length, size_t at)
+{
+    outcomes[text[at] == '?' ? WRITTEN_3F : WRITTEN_7F]++;
+    outcomes[WRITTEN_FIRST_63] += at > 0 && space_or_slash(text[at - 1]);
+    outcomes[WRITTEN_LAST_63] += at + 1 < length && space_or_slash(text[at + 1]);
+}
+
+/* What a text comes back as, in `normal`, and its length: in Compact Pseudo Binary with each 7F as 3F; in Compact Numeric and SHEF with all line ends as CR
+ * LF, and in Numeric with a space behind it where it has an odd number of codes. */
 static uint8_t normal[2 * LONG_TEXT + 1];
 
 static size_t make_normal(uint32_t format, const uint8_t *text, size_t text_length)
@@ -859,7 +900,10 @@ static size_t make_normal(uint32_t format, const uint8_t *text, size_t text_leng
     size_t length = 0, codes = 0;
     for (size_t i = 0; i < text_length; i++) {
         bool cr = text[i] == '\r', lf = text[i] == '\n', cr_before = i > 0 && text[i - 1] == '\r';
-        if ((format != 2 && format != 3) || (!cr && !lf))
+        if (format == 1 && (text[i] == '?' || text[i] == 0x7f)) {
+            normal[length++] = '?';
+            count_value_63(text, text_length, i);
+        } else if ((format != 2 && format != 3) || (!cr && !lf))
             normal[length++] = text[i];
         else if (cr || !cr_before) {
             memcpy(normal + length, "\r\n", 2);
@@ -898,6 +942,9 @@ static unsigned other_character(unsigned kind)
         return "+-."[below(3)];
     case 1: /* that has no code in Compact SHEF */
         return between('a', 'z');
+    case 2:
+    case 3: /* that stands at the edge of the values of Compact Pseudo Binary: 3E has no code */
+        return between(0x3e, 0x3f);
     default:
         return chance(30) ? between(31, 33) : chance(30) ? between(126, 128) : random_64() >> 56;
     }
@@ -906,7 +953,7 @@ static unsigned other_character(unsigned kind)
 /* One to three characters made any others, mostly without a code. */
 static void damage_text(size_t length)
 {
-    unsigned kind = below(5);
+    unsigned kind = below(7);
     for (unsigned i = between(1, 3); i > 0; i--)
         made_text[chance(20) ? length - 1 : below(length)] = other_character(kind);
 }

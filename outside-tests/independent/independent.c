@@ -120,6 +120,12 @@ static bool read_open(const uint8_t *data, size_t length, uint8_t *text, size_t 
     return true;
 }
 
+/* Compact Pseudo Binary: the values 0 to 62 are the characters 64 to 126, and 63 is the question mark. */
+static unsigned character_of(unsigned value)
+{
+    return value == 63 ? '?' : 64 + value;
+}
+
 static bool read_pseudo_binary(const uint8_t *data, size_t length, uint8_t *text, size_t *count, size_t *bad)
 {
     size_t bits = 8 * length;
@@ -136,7 +142,7 @@ static bool read_pseudo_binary(const uint8_t *data, size_t length, uint8_t *text
                 *bad = at;
                 if (bits - at < 6)
                     return false;
-                put_character(text, count, 64 + bits_at(data, at, 6));
+                put_character(text, count, character_of(bits_at(data, at, 6)));
                 at += 6;
             }
         } else {
@@ -391,7 +397,7 @@ static size_t take_piece(const uint8_t *text, size_t length, size_t at, unsigned
 static bool has_code(unsigned format, unsigned piece)
 {
     if (format == 1)
-        return (piece >= 64 && piece <= 127) || piece == ' ' || piece == '/';
+        return (piece >= 64 && piece <= 127) || piece == '?' || piece == ' ' || piece == '/';
     if (format == 2)
         return numeric_code(piece) != NO_CODE || pair_for(piece) != NULL;
     if (format == 3)
@@ -453,6 +459,12 @@ static size_t run_length(const uint8_t *text, size_t length, size_t most)
     return run;
 }
 
+/* The value of a character: 127 is 63 too. */
+static unsigned value_of(unsigned character)
+{
+    return character == '?' ? 63 : character - 64;
+}
+
 static void write_pseudo_binary(struct bit_row *row, const uint8_t *text, size_t length)
 {
     size_t i = 0;
@@ -463,7 +475,7 @@ static void write_pseudo_binary(struct bit_row *row, const uint8_t *text, size_t
             put_bits(row, 1, 1);
             put_bits(row, run - 1, 7);
             for (size_t k = 0; k < run; k++)
-                put_bits(row, text[i + k] & 63, 6);
+                put_bits(row, value_of(text[i + k]), 6);
         } else {
             put_bits(row, kind, 2);
             put_bits(row, run - 1, 4);

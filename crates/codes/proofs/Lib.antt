@@ -8,6 +8,7 @@ pub mod ConsecutiveCodes
 pub mod DataInBuffer
 pub mod DataLaws
 pub mod EachAfter
+pub mod EachByte
 pub mod EightBytes
 pub mod EveryElement
 pub mod Fill
@@ -34,6 +35,7 @@ pub mod PushedBits
 pub mod PutSoFar
 pub mod ReadSoFar
 pub mod ReadingAgrees
+pub mod Renamed
 pub mod SchemeLaws
 pub mod SentOnce
 pub mod SingleTable

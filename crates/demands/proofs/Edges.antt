@@ -288,15 +288,15 @@ computed : Passed (every-row edges)
 unfolding Passed every-row every-test tests same other ours reading comes-to stuck-at none all valid flip onesIn Odd received distance differences
     flagIn checkIn checkOf informationIn lengthIn remainder generator bytesOf headerFor headerOf lowFlag parityFor fieldsIn messageTypeIn extendedTypeIn spareIn syncIn flagBits
     bits bit low numbers every begun fills find answer stateAfter codes texts value bytes packed gap filled written
-    pseudo.isOf pseudo.valueOf pseudo.characterOf pseudo.indicator pseudo.most pseudo.indicators pseudo.six pseudo.tables
-    pseudo-writer.kind pseudo-writer.run pseudo-writer.besides pseudo-writer.oursAfter pseudo-writer.ours
+    pseudo.isOf pseudo.coded pseudo.valueOf pseudo.characterOf pseudo.indicator pseudo.most pseudo.indicators pseudo.six pseudo.tables
+    pseudo-writer.kind pseudo-writer.run pseudo-writer.besides pseudo-writer.oursAfter pseudo-writer.ours pseudo-writer.backAs pseudo-writer.comesBack
     codeFor consecutive lastOf eachAfter ended lineEnds found first saying meaning character spelled textOf
     numeric.characters numeric.table numeric-translation.sent numeric-translation.itself numeric-translation.specials numeric-translation.translation
     numeric-translation.translated numeric-writer.own numeric-writer.baseOf numeric-writer.clashes numeric-writer.codedBehind numeric-writer.evened
     numeric-writer.sentFor numeric-writer.ours numeric-writer.comesBack shef.table shef-writer.coded shef-writer.own shef-writer.ours
     ascii.six ascii.seven ascii.special ascii.pair ascii.table ascii-writer.own ascii-writer.ours
 computed =
-    (tt, (tt, (tt, (tt, (tt, (tt, (tt, (tt, (tt, (tt, (tt, (tt, (tt, (tt, (tt, (tt, (tt, (tt, (tt, (tt, (tt, (tt, (tt, (tt, (tt, (tt, (tt, (tt, (tt, (tt, (tt, (tt, (tt, (tt, (tt, (tt, (tt, (tt, (tt, (tt, tt))))))))))))))))))))))))))))))))))))))))
+    (tt, (tt, (tt, (tt, (tt, (tt, (tt, (tt, (tt, (tt, (tt, (tt, (tt, (tt, (tt, (tt, (tt, (tt, (tt, (tt, (tt, (tt, (tt, (tt, (tt, (tt, (tt, (tt, (tt, (tt, (tt, (tt, (tt, (tt, (tt, (tt, (tt, (tt, (tt, (tt, (tt, (tt, (tt, (tt, (tt, (tt, tt))))))))))))))))))))))))))))))))))))))))))))))
 
 -- the one statement: every row of the table
 pub edges-hold : Every edges

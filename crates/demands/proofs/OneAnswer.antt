@@ -1,4 +1,5 @@
--- The promises of the entry points leave one answer and one content; what `examine` and the reader say agrees; and bytes after the checksum change nothing.
+-- The promises of the entry points leave one answer and one content; what `examine` and the reader say agrees; what any maker may build of a text; and bytes
+-- after the checksum change nothing.
 -- Assumes nothing.
 use mathlib.Core.List.{List, [], _∷_, _++_}
 use mathlib.Core.Logic.{_⊎_, _↔_}
@@ -14,6 +15,7 @@ use Rattle.header.specs.Valid.{lengthIn}
 use Rattle.distance.specs.Distance.{ValidWithin}
 use Rattle.checksum.specs.Checksum.{checksumBytes}
 use Rattle.numeric.proofs.Writer as numeric-writer
+use Rattle.pseudo_binary.proofs.Makers as pseudo-makers
 use Rattle.shef.proofs.Writer as shef-writer
 use Rattle.formats.specs.Data.{Carries, Unreadable}
 use Rattle.refusals.specs.declared.ExamineRefusal.{ExamineRefusal}
@@ -36,10 +38,13 @@ use Rattle.reader.proofs.Headers.{one-header, under}
 use Rattle.reader.proofs.ReadAnswers.{no-room, read-into}
 use Rattle.reader.proofs.ReadOnce.{reads-one, refused-packet, packet-refused}
 use Rattle.writer.proofs.WriteOnce.{writes-one}
-use Rattle.demands.specs.OneAnswer.{OneAnswer, OneBuilding, Agreement, NothingAfter}
+use Rattle.demands.specs.OneAnswer.{OneAnswer, OneBuilding, Buildings, Agreement, NothingAfter}
 
 pub one-building : OneBuilding
 one-building = record { in-numeric = numeric-writer.one-building; in-shef = shef-writer.one-building }
+
+pub buildings : Buildings
+buildings = record { in-pseudo-binary = pseudo-makers.builds-back }
 
 module _ (terms : Terms) (named : MayBeNamed terms) where
   pub one-answer : OneAnswer terms

@@ -17,6 +17,7 @@ kept terms named = record {
   demand-3 = third.demand-3 terms named;
   one-answer = beside.one-answer terms named;
   one-building = beside.one-building;
+  buildings = beside.buildings;
   agreement = beside.agreement terms named;
   nothing-after = beside.nothing-after terms named;
 }

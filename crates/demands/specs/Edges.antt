@@ -65,7 +65,7 @@ Holds (carries format text carried) = Carries format text carried
 Holds (stops format carried bit) = Unreadable format carried bit
 Holds (lacks format text index) = Uncoded format text index
 
--- text in ASCII: A 65, B 66, E 69, a 97, 0 48, 1 49, 2 50, space 32, # 35, + 43, - 45, . 46, slash 47, : 58, ; 59, = 61, CR 13, LF 10
+-- text in ASCII: A 65, B 66, E 69, a 97, > 62, ? 63, ~ 126, DEL 127, 0 48, 1 49, 2 50, space 32, # 35, + 43, - 45, . 46, slash 47, : 58, ; 59, = 61, CR 13, LF 10
 abbrev pub edges : List Edge
 edges =
     -- P1
@@ -98,6 +98,15 @@ edges =
     ∷ writes FullAscii (13 ∷ 10 ∷ []) (0xFF ∷ 0xFF ∷ [])
     -- P15
     ∷ stops FullAscii (0xFF ∷ []) 0
+    -- Q1
+    ∷ writes PseudoBinary (63 ∷ []) (0x80 ∷ 0xFF ∷ [])
+    ∷ writes PseudoBinary (127 ∷ []) (0x80 ∷ 0xFF ∷ [])
+    ∷ carries PseudoBinary (63 ∷ []) (0x80 ∷ 0xFF ∷ [])
+    -- Q2
+    ∷ writes PseudoBinary (126 ∷ []) (0x80 ∷ 0xFB ∷ [])
+    ∷ lacks PseudoBinary (62 ∷ []) 0
+    -- Q3
+    ∷ writes PseudoBinary (replicate 8 63) (0x87 ∷ 0xFF ∷ 0xFF ∷ 0xFF ∷ 0xFF ∷ 0xFF ∷ 0xFF ∷ [])
     -- N1
     ∷ writes Numeric (49 ∷ 50 ∷ []) (0x12 ∷ [])
     ∷ writes Numeric (49 ∷ []) (0x1A ∷ [])

@@ -1,5 +1,6 @@
 -- For every input the promises of the entry points leave one answer and one content of the lent buffer (RULES, What a promise says); what `examine` and the
--- reader say of one packet agrees; no text has two buildings in Numeric or SHEF; and bytes after the checksum are not looked at (RULES, Packet).
+-- reader say of one packet agrees; no text has two buildings in Numeric or SHEF; what any maker may build of a text in Pseudo Binary; and bytes after the
+-- checksum are not looked at (RULES, Packet).
 -- Assumes nothing.
 use mathlib.Core.Bool.{Bool}
 use mathlib.Core.List.{List, _++_}
@@ -8,10 +9,11 @@ use mathlib.Core.Path.{_≡_}
 use Prim.Native.Nat.{ℕ, _+_, _≤_, _<_}
 use lib.ListN.{length}
 use Rattle.bits.specs.Row.{Bytes}
-use Rattle.header.specs.declared.Format.the-variants.{Numeric, Shef}
+use Rattle.header.specs.declared.Format.the-variants.{PseudoBinary, Numeric, Shef}
 use Rattle.header.specs.Valid.{lengthIn}
 use Rattle.distance.specs.Distance.{ValidWithin}
-use Rattle.formats.specs.Data.{Carries}
+use Rattle.pseudo_binary.specs.Makers.{BuildsOf}
+use Rattle.formats.specs.Data.{Carries, comesBack}
 use Rattle.refusals.specs.declared.ExamineRefusal.{ExamineRefusal}
 use Rattle.refusals.specs.declared.ReadRefusal.the-variants.{Packet, NoRoom}
 use Rattle.terms.specs.declared.Terms.{Terms}
@@ -36,6 +38,11 @@ pub record OneAnswer (terms : Terms) : Type 0 where
 pub record OneBuilding : Type 0 where
   pub in-numeric : (text a b : List ℕ) → Bytes a → Bytes b → Carries Numeric text a → Carries Numeric text b → a ≡ b
   pub in-shef : (text a b : List ℕ) → Bytes a → Bytes b → Carries Shef text a → Carries Shef text b → a ≡ b
+
+-- what a maker may build, by the building of the text itself: in Pseudo Binary its runs cut as that maker likes, and each value as its low six bits. That
+-- is all the data, and the only data, that carries what the text comes back as
+pub record Buildings : Type 0 where
+  pub in-pseudo-binary : (text carried : List ℕ) → BuildsOf text carried ↔ Carries PseudoBinary (comesBack PseudoBinary text) carried
 
 -- of one packet, examined and read into a buffer
 pub record Agreement (terms : Terms) : Type 0 where

@@ -4,7 +4,7 @@ use Rattle.terms.specs.declared.Terms.{Terms}
 use Rattle.demands.specs.Demand1.{Demand1, Conditions}
 use Rattle.demands.specs.Demand2.{Demand2}
 use Rattle.demands.specs.Demand3.{Demand3}
-use Rattle.demands.specs.OneAnswer.{OneAnswer, OneBuilding, Agreement, NothingAfter}
+use Rattle.demands.specs.OneAnswer.{OneAnswer, OneBuilding, Buildings, Agreement, NothingAfter}
 
 pub record Promised (terms : Terms) : Type 0 where
   pub demand-1 : Demand1 terms
@@ -13,5 +13,6 @@ pub record Promised (terms : Terms) : Type 0 where
   pub demand-3 : Demand3 terms
   pub one-answer : OneAnswer terms
   pub one-building : OneBuilding
+  pub buildings : Buildings
   pub agreement : Agreement terms
   pub nothing-after : NothingAfter terms

@@ -11,9 +11,9 @@ use lib.Seq.{drop-drop, length-take-le}
 use Rattle.codes.specs.Chain.{Entry}
 use Rattle.pseudo_binary.specs.Table.{Kind, values, spaces, slashes, indicator, most}
 use Rattle.pseudo_binary.specs.Writer.{ours, Alike}
+use Rattle.pseudo_binary.specs.Makers.{spelled}
 use Rattle.pseudo_binary.proofs.Characters.{Other}
 use Rattle.pseudo_binary.proofs.Entries.{pred-most}
-use Rattle.pseudo_binary.proofs.Runs.{spelled}
 use Rattle.pseudo_binary.proofs.Writer.{ours-cut}
 
 -- n indicators, each as full as one can be, and what the characters that they count take besides

@@ -1,9 +1,11 @@
+pub mod AnyCharacter
 pub mod Bound
 pub mod Characters
 pub mod Cut
 pub mod Entries
 pub mod Least
 pub mod Length
+pub mod Makers
 pub mod Runs
 pub mod Size
 pub mod Table

@@ -9,7 +9,7 @@ use lib.ListN.{replicate}
 use borrow.Author.Tests.{eqb-true}
 use Rattle.codes.specs.Chain.{Entry, stateAfter, Row, texts}
 use Rattle.pseudo_binary.specs.Table.{SPACE, SLASH, Kind, values, spaces, slashes, isOf, valueOf, indicator, most, six, scheme}
-use Rattle.pseudo_binary.specs.Writer.{besides}
+use Rattle.pseudo_binary.specs.Writer.{besides, backAs, comesBack}
 use Rattle.pseudo_binary.proofs.Characters.{valueOf-back, valueOf-small}
 use Rattle.pseudo_binary.proofs.Entries.{indicator-in, six-in, after-six}
 
@@ -24,10 +24,10 @@ announced values j = j
 announced spaces j = 0
 announced slashes j = 0
 
--- the entries build the text, where an indicator of kind k before them counts its first j characters
+-- the entries build what the text comes back as, where an indicator of kind k before them counts its first j characters
 pub record Counted (k : Kind) (j : ℕ) (t : List ℕ) (es : List Entry) : Type 0 where
   pub row : Row scheme (announced k j) es 0
-  pub says : said k j ++ texts es ≡ t
+  pub says : said k j ++ texts es ≡ comesBack t
 
 -- where it counts none its kind does not matter
 none-announced : (k : Kind) → announced k 0 ≡ 0
@@ -42,7 +42,7 @@ none-said values t = refl
 none-said spaces t = refl
 none-said slashes t = refl
 
-pub counted-none : (k : Kind) {t : List ℕ} {es : List Entry} → Row scheme 0 es 0 → texts es ≡ t → Counted k 0 t es
+pub counted-none : (k : Kind) {t : List ℕ} {es : List Entry} → Row scheme 0 es 0 → texts es ≡ comesBack t → Counted k 0 t es
 counted-none k {t} {es} r s = record {
   row = subst⁻¹ (λ (n : ℕ). Row scheme n es 0) (none-announced k) r;
   says = none-said k (texts es) ∙ s;
@@ -56,12 +56,12 @@ row-one values j c es h =
 row-one spaces j c es h = h
 row-one slashes j c es h = h
 
-says-one : (k : Kind) (j c : ℕ) (t : List ℕ) (es : List Entry) → isOf k c ≡ true → said k j ++ texts es ≡ t
-    → said k (suc j) ++ texts (besides k c ++ es) ≡ c ∷ t
-unfolding said besides six texts isOf
+says-one : (k : Kind) (j c : ℕ) (t : List ℕ) (es : List Entry) → isOf k c ≡ true → said k j ++ texts es ≡ comesBack t
+    → said k (suc j) ++ texts (besides k c ++ es) ≡ comesBack (c ∷ t)
+unfolding said besides six texts isOf backAs comesBack
 says-one values j c t es x h = ap₂ (λ (y : ℕ) (l : List ℕ). y ∷ l) (valueOf-back c x) h
-says-one spaces j c t es x h = ap₂ (λ (y : ℕ) (l : List ℕ). y ∷ l) (sym (eqb-true c SPACE x)) h
-says-one slashes j c t es x h = ap₂ (λ (y : ℕ) (l : List ℕ). y ∷ l) (sym (eqb-true c SLASH x)) h
+says-one spaces j c t es x h = ap₂ (λ (y : ℕ) (l : List ℕ). y ∷ l) (ap backAs (sym (eqb-true c SPACE x))) h
+says-one slashes j c t es x h = ap₂ (λ (y : ℕ) (l : List ℕ). y ∷ l) (ap backAs (sym (eqb-true c SLASH x))) h
 
 pub counted-one : {k : Kind} {j : ℕ} {t : List ℕ} {es : List Entry} (c : ℕ) → isOf k c ≡ true → Counted k j t es
     → Counted k (suc j) (c ∷ t) (besides k c ++ es)
@@ -86,8 +86,3 @@ unfolding texts
 counted-all {k} {j} {t} {es} l m h =
     counted-none l (indicator-in k j m, subst⁻¹ (λ (n : ℕ). Row scheme n es 0) (after-indicator k j) (h .row))
     (ap (λ (s : List ℕ). s ++ texts es) (indicator-says k j) ∙ h .says)
-
--- what the characters of a run take besides their indicator
-unfoldable pub spelled : Kind → List ℕ → List Entry
-spelled k [] = []
-spelled k (c ∷ r) = besides k c ++ spelled k r

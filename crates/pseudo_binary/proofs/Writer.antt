@@ -1,29 +1,31 @@
--- What our writer builds is a building of its text and no building of that text is shorter. Texts that can be read have codes, and are never empty.
+-- What our writer builds is a building of what its text comes back as, and no building of that is shorter. Texts that can be read have codes, come back as
+-- they are, and are never empty.
 -- Assumes nothing.
-use mathlib.Core.Path.{_≡_, refl, sym, ap, subst⁻¹, _∙_}
-use mathlib.Core.Bool.{Bool, true, false, cond}
+use mathlib.Core.Path.{_≡_, refl, sym, ap, ap₂, subst, subst⁻¹, _∙_}
+use mathlib.Core.Bool.{Bool, true, false, cond, _||_}
 use mathlib.Core.Logic.{_⊎_, inl, inr, ⊎-elim}
 use mathlib.Core.List.{List, [], _∷_, _++_, append-assoc}
 use Prim.Native.Nat.{ℕ, zero, suc, pred, _≤_, _<_}
 use native.Mathlib.Omega.{arith}
-use lib.Dec.{T, lit<}
-use lib.ListN.{length}
-use Rattle.codes.specs.Coded.{alone}
+use lib.Dec.{T, eqb, eqb→eq, lit<}
+use lib.ListN.{length, length-map}
+use Rattle.codes.specs.Coded.{alone, CodedBelow}
 use Rattle.codes.specs.Chain.{Entry, Row, codes, texts}
 use Rattle.codes.specs.Pack.{numbers}
-use Rattle.codes.proofs.CodedTexts.{coded-rest}
+use Rattle.codes.proofs.CodedTexts.{coded-none, coded-cons, coded-rest}
 use Rattle.codes.proofs.EveryElement.{every}
 use Rattle.codes.proofs.ReadingAgrees.{Agrees, agrees}
 use Rattle.codes.proofs.BitsInBytes.{gap-few}
 use Rattle.codes.proofs.WriterLaws as writing
 use Rattle.codes.proofs.WriterLaws.{spells, said-coded, WriterFacts, WriterLaws}
-use Rattle.pseudo_binary.specs.Table.{Kind, values, isOf, coded, AllCoded, characterOf, indicator, most, indicators, six, tables, scheme}
-use Rattle.pseudo_binary.specs.Writer.{comesBack, kind, run, besides, oursAfter, ours, Alike}
+use Rattle.pseudo_binary.specs.Table.{Kind, values, spaces, slashes, isOf, coded, AllCoded, characterOf, indicator, most, indicators, six, tables, scheme}
+use Rattle.pseudo_binary.specs.Writer.{backAs, comesBack, kind, run, besides, oursAfter, ours, Alike}
+use Rattle.pseudo_binary.specs.Makers.{spelled}
 use Rattle.pseudo_binary.proofs.Table.{laws, sounds, all-bits}
-use Rattle.pseudo_binary.proofs.Characters.{Other, of-kind, kind-of}
+use Rattle.pseudo_binary.proofs.Characters.{Other, of-kind, kind-of, isOf-back, valueOf-same}
 use Rattle.pseudo_binary.proofs.Entries.{pred-most}
 use Rattle.pseudo_binary.proofs.Least.{shortest}
-use Rattle.pseudo_binary.proofs.Runs.{said, announced, Counted, counted-none, counted-one, counted-all, spelled}
+use Rattle.pseudo_binary.proofs.Runs.{said, announced, Counted, counted-none, counted-one, counted-all}
 
 -- a run is counted no further than asked
 pub run-le : (k : Kind) (n : ℕ) (t : List ℕ) → run k n t ≤ n
@@ -48,7 +50,7 @@ follows-new k c t u h =
     (counted-one c (kind-of (kind c) c u refl) h)
 
 follows : (k : Kind) (n : ℕ) (t : List ℕ) → AllCoded t → Follows k n t
-unfolding run oursAfter texts
+unfolding run oursAfter texts comesBack
 follows k zero [] u = counted-none k refl refl
 follows k (suc n) [] u = counted-none k refl refl
 follows k zero (c ∷ t) u =
@@ -68,7 +70,7 @@ pub ours-row : (t : List ℕ) → AllCoded t → Row scheme 0 (ours t) 0
 unfolding ours run announced
 ours-row t u = follows values 0 t u .row
 
-pub ours-says : (t : List ℕ) → AllCoded t → texts (ours t) ≡ t
+pub ours-says : (t : List ℕ) → AllCoded t → texts (ours t) ≡ comesBack t
 unfolding ours run said
 ours-says t u = follows values 0 t u .says
 
@@ -111,15 +113,80 @@ unfolding isOf coded characterOf indicator most indicators six tables numbers ev
 all-spell zero = tt
 all-spell (suc m) = tt
 
+-- what a text comes back as has codes where the text has, and is written as the same data
+coded-same : (c : ℕ) → coded (backAs c) ≡ coded c
+unfolding coded
+coded-same c =
+    ap₂ (λ (a b : Bool). a || b) (isOf-back values c) (ap₂ (λ (a b : Bool). a || b) (isOf-back spaces c) (isOf-back slashes c))
+
+back-coded : (t : List ℕ) → AllCoded (comesBack t) → AllCoded t
+unfolding comesBack
+back-coded [] u = coded-none coded
+back-coded (c ∷ t) u =
+    coded-cons coded c t (subst T (coded-same c) (u 0 (omega arith))) (back-coded t (coded-rest coded (backAs c) (comesBack t) u))
+
+kind-same : (c : ℕ) → kind (backAs c) ≡ kind c
+unfolding kind
+kind-same c = ap₂ (λ (a b : Bool). cond a spaces (cond b slashes values)) (isOf-back spaces c) (isOf-back slashes c)
+
+besides-same : (k : Kind) (c : ℕ) → besides k (backAs c) ≡ besides k c
+unfolding besides
+besides-same values c = ap (λ (v : ℕ). six v ∷ []) (valueOf-same c)
+besides-same spaces c = refl
+besides-same slashes c = refl
+
+run-same : (k : Kind) (n : ℕ) (t : List ℕ) → run k n (comesBack t) ≡ run k n t
+unfolding run comesBack
+run-same k zero t = refl
+run-same k (suc n) [] = refl
+run-same k (suc n) (c ∷ t) = ap₂ (λ (b : Bool) (m : ℕ). cond b (suc m) 0) (isOf-back k c) (run-same k n t)
+
+ours-same : (t : List ℕ) (n : ℕ) → oursAfter n (comesBack t) ≡ oursAfter n t
+unfolding oursAfter comesBack
+ours-same [] n = refl
+ours-same (c ∷ t) zero =
+    let back : List ℕ = comesBack t in
+    let k : Kind = kind c in
+    let m : ℕ = run k (pred (most k)) t in
+    ap (λ (l : Kind). let n = run l (pred (most l)) back in indicator l n ∷ (besides l (backAs c) ++ oursAfter n back)) (kind-same c)
+    ∙ ap (λ (n : ℕ). indicator k n ∷ (besides k (backAs c) ++ oursAfter n back)) (run-same k (pred (most k)) t)
+    ∙ ap₂ (λ (es ds : List Entry). indicator k m ∷ (es ++ ds)) (besides-same k c) (ours-same t m)
+ours-same (c ∷ t) (suc n) =
+    ap (λ (l : Kind). besides l (backAs c) ++ oursAfter n (comesBack t)) (kind-same c)
+    ∙ ap₂ (λ (es ds : List Entry). es ++ ds) (besides-same (kind c) c) (ours-same t n)
+
+pub ours-back : (t : List ℕ) → ours (comesBack t) ≡ ours t
+unfolding ours
+ours-back t = ours-same t 0
+
+pub back-length : (t : List ℕ) → length (comesBack t) ≡ length t
+unfolding comesBack
+back-length t = length-map t backAs
+
+-- what the tables say comes back as it is
+settled : ℕ → Bool
+settled c = eqb (backAs c) c
+
+all-settled : (m : ℕ) → T (every (spells settled) (tables m))
+unfolding backAs characterOf indicator most indicators six tables numbers every spells settled
+all-settled zero = tt
+all-settled (suc m) = tt
+
+settled-kept : (t : List ℕ) → CodedBelow (alone settled) t (length t) → comesBack t ≡ t
+unfolding comesBack settled
+settled-kept [] u = refl
+settled-kept (c ∷ t) u = ap₂ (λ (y : ℕ) (l : List ℕ). y ∷ l) (eqb→eq (backAs c) c (u 0 (omega arith))) (settled-kept t (coded-rest settled c t u))
+
 writer : WriterFacts scheme (alone coded) comesBack ours
 writer = record {
   row = ours-row;
   closes = λ t h. gap-few (length (codes (ours t)));
   says = ours-says;
-  shortest = λ t h es r x says. shortest t es r says;
-  nonempty = λ t some h. some;
-  kept = λ es r x. refl;
-  coded = said-coded scheme coded all-spell;
+  shortest = λ t h es r x says.
+      subst (λ (ds : List Entry). length (codes ds) ≤ length (codes es)) (ours-back t) (shortest (comesBack t) es r says);
+  nonempty = λ t some h. omega (arith, back-length t);
+  kept = λ es r x. settled-kept (texts es) (said-coded scheme settled all-settled (texts es) es r refl);
+  coded = λ t es r x. back-coded t (said-coded scheme coded all-spell (comesBack t) es r x);
   all-bits = all-bits;
   sounds = sounds;
   few = lit< tt;

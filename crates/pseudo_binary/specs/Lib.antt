@@ -1,2 +1,3 @@
+pub mod Makers
 pub mod Table
 pub mod Writer

@@ -1,6 +1,6 @@
 -- The characters and codes of Compact Pseudo Binary (001, 4.2).
 -- Assumes nothing.
-use mathlib.Core.Bool.{Bool, _&&_, _||_}
+use mathlib.Core.Bool.{Bool, cond, _&&_, _||_}
 use mathlib.Core.List.{List, [], _∷_, _++_, map}
 use Prim.Native.Nat.{ℕ, zero, suc, _+_, _%_}
 use lib.Dec.{leb, eqb}
@@ -15,15 +15,18 @@ SPACE = 32
 abbrev pub SLASH : ℕ
 SLASH = 47
 
+abbrev pub QUESTION_MARK : ℕ
+QUESTION_MARK = 63
+
 -- what an indicator counts
 pub data Kind : Type 0 where
   values : Kind
   spaces : Kind
   slashes : Kind
 
--- the characters of each kind: 64 to 127, space, slash
+-- the characters of each kind: the question mark and, right behind it, 64 to 127; space; slash
 unfoldable pub isOf : Kind → ℕ → Bool
-isOf values c = leb 64 c && leb c 127
+isOf values c = leb QUESTION_MARK c && leb c 127
 isOf spaces c = eqb c SPACE
 isOf slashes c = eqb c SLASH
 
@@ -35,13 +38,13 @@ coded c = isOf values c || (isOf spaces c || isOf slashes c)
 abbrev pub AllCoded : List ℕ → Type 0
 AllCoded text = CodedBelow (alone coded) text (length text)
 
--- the value of a character is its low six bits
+-- the value of a character is its low six bits (001, 4.2.1): that of the question mark is 63, as that of 127
 unfoldable pub valueOf : ℕ → ℕ
 valueOf c = c % 64
 
--- a value reads back as 64 plus it, 63 too (RULES, Formats)
+-- a value reads back as 64 plus it, but 63 as the question mark (001, Tables 10 to 13)
 unfoldable pub characterOf : ℕ → ℕ
-characterOf v = 64 + v
+characterOf v = cond (eqb v 63) QUESTION_MARK (64 + v)
 
 -- `1ccccccc`: c + 1 six-bit values follow. `00cccc`: c + 1 spaces. `01cccc`: c + 1 slashes
 unfoldable pub indicator : Kind → ℕ → Entry

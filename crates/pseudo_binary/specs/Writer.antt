@@ -2,10 +2,11 @@
 -- Assumes nothing.
 use mathlib.Core.Path.{_≡_}
 use mathlib.Core.Bool.{true, cond}
-use mathlib.Core.List.{List, [], _∷_, _++_}
+use mathlib.Core.List.{List, [], _∷_, _++_, map}
 use Prim.Native.Nat.{ℕ, zero, suc, pred}
+use lib.Dec.{eqb}
 use Rattle.codes.specs.Chain.{Entry}
-use Rattle.pseudo_binary.specs.Table.{Kind, values, spaces, slashes, isOf, valueOf, indicator, most, six}
+use Rattle.pseudo_binary.specs.Table.{QUESTION_MARK, Kind, values, spaces, slashes, isOf, valueOf, indicator, most, six}
 
 -- the kind of a character that has a code
 unfoldable pub kind : ℕ → Kind
@@ -37,9 +38,13 @@ oursAfter (suc n) (c ∷ text) = besides (kind c) c ++ oursAfter n text
 unfoldable pub ours : List ℕ → List Entry
 ours text = oursAfter 0 text
 
--- what a text comes back as: itself
-abbrev pub comesBack : List ℕ → List ℕ
-comesBack text = text
+-- what a character comes back as: 127 as the question mark, which has the same value
+unfoldable pub backAs : ℕ → ℕ
+backAs c = cond (eqb c 127) QUESTION_MARK c
+
+-- what a text comes back as: each 127 replaced by the question mark
+unfoldable pub comesBack : List ℕ → List ℕ
+comesBack text = map backAs text
 
 -- each character is of kind k
 abbrev pub Alike : Kind → List ℕ → Type 0

@@ -1,23 +1,16 @@
--- Eight values of six bits in a row, spread to a byte each.
+-- Eight values of six bits in a row, spread to a byte each, and each made its character.
 -- Assumes nothing.
-use mathlib.Core.Path.{_≡_, ap, ap₂, _∙_}
-use Prim.Native.Nat.{ℕ, zero, suc, _+_, _-_, _*_, _/_, _%_, _^_, _<_}
+use mathlib.Core.Path.{_≡_, sym, ap, ap₂, _∙_}
+use Prim.Native.Nat.{ℕ, _+_, _-_, _*_, _/_, _%_, _^_, _<_}
 use native.Mathlib.Nat.{mod-lt, zero-lt-suc}
 use native.Mathlib.Omega.{arith}
-use lib.Bits.{bitAnd, and-block, and-high}
+use lib.Bits.{bitAnd, and-block, and-high, and-mask}
 use lib.Dec.{lit<}
+use Rattle.codes.specs.Steps.EightBytes.{eightOf}
+use Rattle.codes.proofs.EachByte.{eight-sum, eight-each, eight-byte}
 use Rattle.pseudo_binary.specs.Table.{characterOf}
+use Rattle.pseudo_binary.proofs.Characters.{characterOf-turned}
 use Rattle.pseudo_binary_reader.specs.Steps.Taken.{Spread}
-
--- what holds of 0, of 1, .. holds of each number below n
-abbrev pub Each : ℕ → (ℕ → Type 0) → Type 0
-Each zero P = Unit {0}
-Each (suc n) P = P 0 × Each n (λ k. P (suc k))
-
-pub each-at : (n : ℕ) (P : ℕ → Type 0) → Each n P → (k : ℕ) → k < n → P k
-each-at zero P a k h = absurd (let none : ⊥ = omega arith in none)
-each-at (suc n) P a zero h = a .0
-each-at (suc n) P a (suc k) h = each-at n (λ k. P (suc k)) (a .1) k (omega arith)
 
 -- the upper 12 of 24 bits in each half, and the upper six of 12 in each quarter
 upper-twelve : (x y : ℕ) → x < 16777216 → y < 16777216
@@ -38,10 +31,6 @@ module _ (d : ℕ → ℕ) (small : (k : ℕ) → d k < 64) where
   pairs =
       ((d 0 * 64 + d 1) * 65536 + (d 2 * 64 + d 3)) * 4294967296 + ((d 4 * 64 + d 5) * 65536 + (d 6 * 64 + d 7))
 
-  -- in a byte each
-  joined : ℕ
-  joined = ((d 0 * 256 + d 1) * 65536 + (d 2 * 256 + d 3)) * 4294967296 + ((d 4 * 256 + d 5) * 65536 + (d 6 * 256 + d 7))
-
   upper-two : (k : ℕ) → bitAnd ((d k * 64 + d (k + 1)) * 65536 + (d (k + 2) * 64 + d (k + 3))) 264245184 ≡ d k * 64 * 65536 + d (k + 2) * 64
   upper-two k =
       and-block 16 (d k * 64 + d (k + 1)) 4032 (d (k + 2) * 64 + d (k + 3)) 4032 (omega (arith, small (k + 2), small (k + 3))) (lit< tt)
@@ -55,18 +44,26 @@ module _ (d : ℕ → ℕ) (small : (k : ℕ) → d k < 64) where
       (omega (arith, small 4, small 5, small 6, small 7)) (lit< tt)
       ∙ ap₂ (λ (a b : ℕ). a * 4294967296 + b) (upper-two 0) (upper-two 4)
 
-  pairs-apart : pairs + bitAnd pairs 1134924423669747648 * 3 ≡ joined
-  unfolding pairs joined
+  pairs-apart : pairs + bitAnd pairs 1134924423669747648 * 3 ≡ eightOf d
+  unfolding pairs eightOf
   pairs-apart = omega (arith, upper-four)
 
-  -- each is a byte of it, and so is 64 more of 64 more in each byte
-  joined-bytes : (k : ℕ) → k < 8 → (joined + 4629771061636907072) / 2 ^ (56 - 8 * k) % 256 ≡ 64 + d k
-  unfolding joined
-  joined-bytes =
-      let a : (d 0 < 64) × (d 1 < 64) × (d 2 < 64) × (d 3 < 64) = (small 0, small 1, small 2, small 3) in
-      let b : (d 4 < 64) × (d 5 < 64) × (d 6 < 64) × (d 7 < 64) = (small 4, small 5, small 6, small 7) in
-      each-at 8 (λ (k : ℕ). (joined + 4629771061636907072) / 2 ^ (56 - 8 * k) % 256 ≡ 64 + d k)
-      (omega arith, (omega arith, (omega arith, (omega arith, (omega arith, (omega arith, (omega arith, (omega arith, tt))))))))
+-- the characters of eight values: one more in each byte, six bits of it, and 63 more
+module _ (d : ℕ → ℕ) (small : (k : ℕ) → d k < 64) where
+  turned : bitAnd (eightOf d + 0x0101010101010101) 0x3f3f3f3f3f3f3f3f + 0x3f3f3f3f3f3f3f3f ≡ eightOf (λ k. bitAnd (d k + 1) 0x3f + 0x3f)
+  unfolding eightOf
+  turned =
+      ap (λ (n : ℕ). bitAnd n 0x3f3f3f3f3f3f3f3f + 0x3f3f3f3f3f3f3f3f) (eight-sum d (λ k. 1))
+      ∙ ap (λ (n : ℕ). n + 0x3f3f3f3f3f3f3f3f) (eight-each bitAnd and-block (λ k. d k + 1) (λ k. 0x3f) (λ k. omega (arith, small k)) (λ k. lit< tt))
+      ∙ eight-sum (λ k. bitAnd (d k + 1) 0x3f) (λ k. 0x3f)
+
+  turned-bytes : (k : ℕ) → k < 8
+      → (bitAnd (eightOf d + 0x0101010101010101) 0x3f3f3f3f3f3f3f3f + 0x3f3f3f3f3f3f3f3f) / 2 ^ (56 - 8 * k) % 256 ≡ characterOf (d k)
+  turned-bytes k l =
+      ap (λ (n : ℕ). n / 2 ^ (56 - 8 * k) % 256) turned
+      ∙ eight-byte (λ k. bitAnd (d k + 1) 0x3f + 0x3f) (λ k. omega (arith, and-mask (d k + 1) 6)) k l
+      ∙ (let e : bitAnd (d k + 1) 0x3f + 0x3f ≡ 63 + (d k + 1) % 64 = omega (arith, and-mask (d k + 1) 6) in e)
+      ∙ sym (characterOf-turned (d k) (small k))
 
 -- the code's steps: 48 bits in two halves, a gap in the middle of each, and then of each quarter
 module _ (v : ℕ) (h : v < 281474976710656) where
@@ -98,17 +95,19 @@ module _ (v : ℕ) (h : v < 281474976710656) where
       (ap₂ (λ (x y : ℕ). x * 65536 + y) (let e : v % 16777216 / 4096 ≡ v / 2 ^ 18 % 64 * 64 + v / 2 ^ 12 % 64 = omega arith in e)
       (let e : v % 16777216 % 4096 ≡ v / 2 ^ 6 % 64 * 64 + v / 2 ^ 0 % 64 = omega arith in e))
 
-  eighths-joined : eighths ≡ joined nth nth-small
+  eighths-joined : eighths ≡ eightOf nth
   unfolding eighths
   eighths-joined = ap (λ (n : ℕ). n + bitAnd n 1134924423669747648 * 3) quarters-are ∙ pairs-apart nth nth-small
 
-  pub eighths-spread : Spread v (eighths + 4629771061636907072)
-  unfolding characterOf nth
-  eighths-spread k l = ap (λ (n : ℕ). (n + 4629771061636907072) / 2 ^ (56 - 8 * k) % 256) eighths-joined ∙ joined-bytes nth nth-small k l
+  pub eighths-spread : Spread v (bitAnd (eighths + 0x0101010101010101) 0x3f3f3f3f3f3f3f3f + 0x3f3f3f3f3f3f3f3f)
+  unfolding nth
+  eighths-spread k l =
+      ap (λ (n : ℕ). (bitAnd (n + 0x0101010101010101) 0x3f3f3f3f3f3f3f3f + 0x3f3f3f3f3f3f3f3f) / 2 ^ (56 - 8 * k) % 256) eighths-joined
+      ∙ turned-bytes nth nth-small k l
 
   -- it takes two bits less than eight bytes
   pub eighths-small : eighths < 4611686018427387904
-  unfolding joined
+  unfolding eightOf
   eighths-small =
       omega (
         arith,

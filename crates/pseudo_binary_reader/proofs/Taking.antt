@@ -15,10 +15,10 @@ use Rattle.codes.specs.Pack.{value}
 use Rattle.codes.specs.Steps.EightBytes.{eightAt, spilled}
 use Rattle.codes.proofs.LaidRows.{laid-nil, laid-laid, length-laid, set-laid}
 use Rattle.codes.proofs.LowBits.{value-low}
+use Rattle.codes.proofs.EachByte.{each-at}
 use Rattle.codes.proofs.EightBytes.{eight-bits}
 use Rattle.pseudo_binary.specs.Table.{characterOf}
 use Rattle.pseudo_binary_reader.specs.Steps.Taken.{Spread, Eight, Top, charactersIn}
-use Rattle.pseudo_binary_reader.proofs.Parting.{each-at}
 use Rattle.pseudo_binary_reader.proofs.Starts.{ahead-part}
 use Rattle.pseudo_binary_reader.proofs.Values.{length-characters}
 

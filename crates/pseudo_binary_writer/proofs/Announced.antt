@@ -1,6 +1,6 @@
 -- The values that were announced, as the writer sends them, one or more at once; and what comes after them.
 -- Assumes nothing.
-use mathlib.Core.Path.{_≡_, refl, sym, ap, ap₂, subst₂, _∙_}
+use mathlib.Core.Path.{_≡_, refl, sym, ap, ap₂, subst⁻¹, subst₂, _∙_}
 use mathlib.Core.Bool.{true}
 use mathlib.Core.List.{List, [], _∷_, _++_, append-assoc}
 use Prim.Native.Nat.{ℕ, zero, suc, _+_, _-_, _*_, _%_, _^_, _≤_, _<_}
@@ -87,14 +87,15 @@ two-there t i h =
     (one-there t (i + 1) (omega arith) ∙ ap (λ (n : ℕ). getD t (i + 1) 0 ∷ drop n t) (let e : i + 1 + 1 ≡ i + 2 = omega arith in e))
 
 module _ (t : List ℕ) (i m : ℕ) (h : i + m ≤ length t) (a : Alike values (take m (drop i t))) where
-  pub value-next : 0 < m → NextOf m (drop i t) (record { bits = getD t i 0 % 64; width = 6; values = m - 1; count = 1 })
-  value-next k =
+  pub value-next : {sent : ℕ} → sent ≡ getD t i 0 % 64 → 0 < m → NextOf m (drop i t) (record { bits = sent; width = 6; values = m - 1; count = 1 })
+  value-next is k =
       let l : ℕ = m - 1 in
       let one : m ≡ suc l = omega arith in
       let u : List ℕ = getD t i 0 ∷ drop (i + 1) t in
       let e : drop i t ≡ u = one-there t i (omega arith) in
-      subst₂ (λ (j : ℕ) (s : List ℕ). NextOf j s (record { bits = getD t i 0 % 64; width = 6; values = l; count = 1 })) (sym one) (sym e)
-      (next-value l (getD t i 0) (drop (i + 1) t) (omega (arith, length-drop (i + 1) t)) (subst₂ (λ (j : ℕ) (s : List ℕ). Alike values (take j s)) one e a))
+      subst⁻¹ (λ (b : ℕ). NextOf m (drop i t) (record { bits = b; width = 6; values = l; count = 1 })) is
+      (subst₂ (λ (j : ℕ) (s : List ℕ). NextOf j s (record { bits = getD t i 0 % 64; width = 6; values = l; count = 1 })) (sym one) (sym e)
+      (next-value l (getD t i 0) (drop (i + 1) t) (omega (arith, length-drop (i + 1) t)) (subst₂ (λ (j : ℕ) (s : List ℕ). Alike values (take j s)) one e a)))
 
   pub two-next : 2 ≤ m → NextOf m (drop i t) (record { bits = twoValues t i; width = 12; values = m - 2; count = 2 })
   two-next k =

@@ -72,7 +72,7 @@ parted t e x =
     }
 
 -- a space or a slash is below the values, and a kind by itself
-pub low-kind : (c : ℕ) → T (coded c) → c < 64 → (k : Kind) × Between k c c
+pub low-kind : (c : ℕ) → T (coded c) → c < 63 → (k : Kind) × Between k c c
 low-kind c x l = pick (eqb c SPACE) refl (eqb c SLASH) refl
   where
     pick : (a : Bool) → eqb c SPACE ≡ a → (b : Bool) → eqb c SLASH ≡ b → (k : Kind) × Between k c c
@@ -83,7 +83,7 @@ low-kind c x l = pick (eqb c SPACE) refl (eqb c SLASH) refl
 
 -- at place i of a text
 module _ (t : List ℕ) (i : ℕ) (h : i < length t) (x : T (coded (getD t i 0))) (n : ℕ) where
-  pub repeat-extent : getD t i 0 < 64 → ((k : Kind) → Between k (getD t i 0) (getD t i 0) → n ≡ run k 16 (drop i t))
+  pub repeat-extent : getD t i 0 < 63 → ((k : Kind) → Between k (getD t i 0) (getD t i 0) → n ≡ run k 16 (drop i t))
       → ExtentOf (drop i t) (record { bits = 6; count = n })
   repeat-extent l e = pick (eqb c SPACE) refl (eqb c SLASH) refl
     where
@@ -100,10 +100,10 @@ module _ (t : List ℕ) (i : ℕ) (h : i < length t) (x : T (coded (getD t i 0))
           let all : n ≡ run slashes 16 (drop i t) = e slashes (subst⁻¹ (λ (d : ℕ). Between slashes d d) same slashes-between) in
           record { sent = _; first = slash-first t i h n same all; width = refl; says = sym (add-zero n) }
       pick false p false q =
-          let high : 64 ≤ c = value-range c (else-value c x (eqb-false c SPACE p) (eqb-false c SLASH q)) .0 in
+          let high : 63 ≤ c = value-range c (else-value c x (eqb-false c SPACE p) (eqb-false c SLASH q)) .0 in
           absurd (let none : ⊥ = omega arith in none)
 
-  pub values-extent : 64 ≤ getD t i 0 → n ≡ run values 128 (drop i t) → ExtentOf (drop i t) (record { bits = 8 + 6 * n; count = n })
+  pub values-extent : 63 ≤ getD t i 0 → n ≡ run values 128 (drop i t) → ExtentOf (drop i t) (record { bits = 8 + 6 * n; count = n })
   values-extent l e =
       record {
         sent = _;

@@ -22,13 +22,13 @@ pub slash-coded : (c : ℕ) → c ≡ SLASH → true ≡ coded c
 unfolding coded isOf
 slash-coded c e = ap coded (sym e)
 
-pub value-coded : (c : ℕ) → 64 ≤ c → c < 128 → true ≡ coded c
+pub value-coded : (c : ℕ) → 63 ≤ c → c < 128 → true ≡ coded c
 unfolding coded isOf
-value-coded c h k = sym (simp (le-leb 64 c h, le-leb c 127 (omega arith)))
+value-coded c h k = sym (simp (le-leb 63 c h, le-leb c 127 (omega arith)))
 
-pub low-uncoded : (c : ℕ) → (c ≡ SPACE → ⊥) → (c ≡ SLASH → ⊥) → c < 64 → false ≡ coded c
+pub low-uncoded : (c : ℕ) → (c ≡ SPACE → ⊥) → (c ≡ SLASH → ⊥) → c < 63 → false ≡ coded c
 unfolding coded isOf
-low-uncoded c a b h = sym (simp (lt-leb 64 c h, ne-eqb c SPACE a, ne-eqb c SLASH b))
+low-uncoded c a b h = sym (simp (lt-leb 63 c h, ne-eqb c SPACE a, ne-eqb c SLASH b))
 
 and-false : (b : Bool) → (b && false) ≡ false
 and-false true = refl
@@ -37,7 +37,7 @@ and-false false = refl
 pub high-uncoded : (c : ℕ) → 128 ≤ c → false ≡ coded c
 unfolding coded isOf
 high-uncoded c h =
-    sym (simp (lt-leb c 127 h, and-false (leb 64 c), ne-eqb c SPACE (omega arith), ne-eqb c SLASH (omega arith)))
+    sym (simp (lt-leb c 127 h, and-false (leb 63 c), ne-eqb c SPACE (omega arith), ne-eqb c SLASH (omega arith)))
 
 pub coded-at : (t : List ℕ) (i : ℕ) → AllCoded t → i < length t → T (coded (getD t i 0))
 coded-at t i c h = c i h
@@ -65,7 +65,7 @@ pub slashes-between : Between slashes SLASH SLASH
 unfolding isOf
 slashes-between c = equal-between SLASH c
 
-pub values-between : Between values 64 127
+pub values-between : Between values 63 127
 unfolding isOf
 values-between c = refl
 

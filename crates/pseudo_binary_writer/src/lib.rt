@@ -23,7 +23,7 @@ pub fn is_coded(c: u8) -> bool
     match c {
         b' ' => true,
         b'/' => true,
-        64..=127 => true,
+        b'?'..=127 => true,
         _ => false,
     }
 }
@@ -54,7 +54,7 @@ fn values_from(text: &[u8], i: usize, most: usize, known: usize) -> usize
             return n;
         }
         let c = text[i + n];
-        if c < 64 {
+        if c < b'?' {
             return n;
         }
         if 127 < c {
@@ -91,13 +91,15 @@ fn run_of(text: &[u8], i: usize, character: u8, most: usize) -> usize
     n
 }
 
-// What the upper two bits of the eight characters at place i differ from 01 in, which they are in a value: as many of them, from the first on, are values
-// as whole bytes of it are zeros.
+// The top bit of each of the eight characters at place i that is no value. A value's own top bit is 0, and 65 more than the other seven, which are 63 or
+// more, has 1 there. As many of the characters, from the first on, are values as whole bytes are zeros.
 fn others_at(text: &[u8], i: usize) -> u64
     requires { ⌜ i + 8 ≤ length (now text) ⌝ }
     ensures { λ r. ⌜ Alike values (take (leadingZeros 64 r / 8) (drop i (now (text .entry)))) ⌝ }
 {
-    (bit_buffer::eight(text, i) & 0xC0C0_C0C0_C0C0_C0C0) ^ 0x4040_4040_4040_4040
+    let word = bit_buffer::eight(text, i);
+    let more = (word & 0x7f7f_7f7f_7f7f_7f7f) + 0x4141_4141_4141_4141;
+    ((more ^ 0x8080_8080_8080_8080) | word) & 0x8080_8080_8080_8080
 }
 
 // A number of values that stand in a row at place i: up to seven more may stand at the end of the text, or where `most` comes near.
@@ -176,7 +178,7 @@ fn next_extent(text: &[u8], i: usize) -> Extent
     ensures { λ r. ⌜ ExtentOf (drop i (now (text .entry))) r ⌝ }
 {
     let c = text[i];
-    if c < 64 {
+    if c < b'?' {
         return Extent {
             bits: 6,
             count: run_of(text, i, c, Sent::MOST_REPEATED),

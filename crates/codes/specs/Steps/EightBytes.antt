@@ -12,6 +12,10 @@ fourAt s q = (getD s q 0 * 256 + getD s (q + 1) 0) * 65536 + (getD s (q + 2) 0 *
 unfoldable pub eightAt : List ℕ → ℕ → ℕ
 eightAt s q = fourAt s q * 4294967296 + fourAt s (q + 4)
 
+-- eight numbers, a byte each, the first highest
+unfoldable pub eightOf : (ℕ → ℕ) → ℕ
+eightOf d = ((d 0 * 256 + d 1) * 65536 + (d 2 * 256 + d 3)) * 4294967296 + ((d 4 * 256 + d 5) * 65536 + (d 6 * 256 + d 7))
+
 -- k bytes of the lowest `have` bits of `held`, the upper first, stored from place n on
 unfoldable pub spilled : ℕ → List ℕ → ℕ → ℕ → ℕ → List ℕ
 spilled zero out n held have = out

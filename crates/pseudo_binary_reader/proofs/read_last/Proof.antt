@@ -2,7 +2,7 @@
 -- Assumes nothing.
 use mathlib.Core.Path.{_≡_, sym, ap, _∙_}
 use mathlib.Core.List.{List}
-use Prim.Native.Nat.{ℕ, _-_, _*_, _≤_}
+use Prim.Native.Nat.{ℕ, _+_, _-_, _*_, _%_, _≤_, _<_}
 use native.Mathlib.Omega.{arith}
 use lib.ListN.{length, take, drop}
 use lib.Seq.{drop-drop}
@@ -10,6 +10,7 @@ use Rattle.bits.specs.Row.{bits}
 use Rattle.codes.specs.Steps.Laid.{laid}
 use Rattle.codes.specs.Pack.{value}
 use Rattle.pseudo_binary.specs.Table.{characterOf}
+use Rattle.pseudo_binary.proofs.Characters.{characterOf-turned}
 use Rattle.pseudo_binary_reader.specs.Steps.Taken.{charactersIn}
 use Rattle.pseudo_binary_reader.proofs.Taking.{taken-none, taken-length, taken-one}
 use Rattle.pseudo_binary_reader.proofs.read_last.Statement.{statement}
@@ -39,7 +40,10 @@ add-out : tie.Need-add-out Inv-loop μ-loop
 add-out c = omega (arith, c .value-at .ensures)
 
 add-out-2 : tie.Need-add-out-2 Inv-loop μ-loop
-add-out-2 c = let e = c .before .before .before .before .before in omega (arith, e .pre, e .good)
+add-out-2 c = omega arith
+
+add-out-3 : tie.Need-add-out-3 Inv-loop μ-loop
+add-out-3 c = let e = c .before .before .before .before .before in omega (arith, e .pre, e .good)
 
 -- the buffer keeps its length
 same : (a : tie.At-loop Inv-loop μ-loop) → length (a .loop .out) ≡ length (a .before .before .before .args .out .now)
@@ -57,8 +61,11 @@ add-done c = omega arith
 loop-less : tie.Need-loop-less Inv-loop μ-loop
 loop-less c = omega arith
 
+-- the character of a value that is known by its bits
+character : (v w x : ℕ) → v < 64 → v ≡ w → x ≡ 63 + (v + 1) % 64 → x ≡ characterOf w
+character v w x h e is = is ∙ sym (characterOf-turned v h) ∙ ap characterOf e
+
 loop-again : tie.Need-loop-again Inv-loop μ-loop
-unfolding characterOf
 loop-again c =
     let a = c .before .before in
     let e = a .before .before .before in
@@ -67,7 +74,8 @@ loop-again c =
       omega arith,
       taken-one (drop (e .args .at) bs) (e .args .out .now) (a .loop .out) (e .args .n) done (a .loop .inv .1) (omega (arith, e .pre))
           _ (omega (arith, e .pre, c .before .loop-test .taken))
-          (omega (arith, c .value-at .ensures .0 ∙ ap (λ (l : List ℕ). value (take 6 l)) (sym (drop-drop (6 * done) (e .args .at) bs)))),
+          (character (c .value-at .result) _ _ (c .value-at .ensures .1)
+          (c .value-at .ensures .0 ∙ ap (λ (l : List ℕ). value (take 6 l)) (sym (drop-drop (6 * done) (e .args .at) bs))) (omega arith)),
     )
 
 same-length : tie.Need-same-length Inv-loop μ-loop
@@ -93,6 +101,7 @@ read-last-spec =
     value-at-requires
     add-out
     add-out-2
+    add-out-3
     slice-write-out
     add-done
     loop-less

@@ -1,4 +1,5 @@
 -- `pseudo_binary_reader::spread` meets its contract. Assumes nothing.
+use Prim.Native.Nat.{_+_}
 use native.Mathlib.Omega.{arith}
 use lib.Bits.{and-le-r}
 use Rattle.pseudo_binary_reader.proofs.Parting.{halves, quarters, eighths, eighths-spread, eighths-small}
@@ -28,9 +29,13 @@ add-eighths : tie.Need-add-eighths
 unfolding halves quarters eighths
 add-eighths c = omega (arith, eighths-small (c .args .values) (c .pre))
 
+add-next : tie.Need-add-next
+unfolding halves quarters eighths
+add-next c = omega (arith, eighths-small (c .args .values) (c .pre))
+
 add-result : tie.Need-add-result
 unfolding halves quarters eighths
-add-result c = omega (arith, eighths-small (c .args .values) (c .pre))
+add-result c = omega (arith, and-le-r (eighths (c .args .values) (c .pre) + 0x0101010101010101) 0x3f3f3f3f3f3f3f3f)
 
 returns : tie.Need-returns
 unfolding halves quarters eighths
@@ -38,4 +43,4 @@ returns c = eighths-spread (c .args .values) (c .pre)
 
 pub spread-spec : {M : Type 1} → statement M
 spread-spec =
-    tie.close (tie.spec mul-halves add-halves mul-quarters add-quarters mul-eighths add-eighths add-result returns)
+    tie.close (tie.spec mul-halves add-halves mul-quarters add-quarters mul-eighths add-eighths add-next add-result returns)

@@ -16,7 +16,7 @@ returns-3 c = value-coded (c .before .before .before .args .c) (omega arith) (om
 returns-4 : tie.Need-returns-4
 returns-4 c =
     let r = c .before .match .rest in
-    low-uncoded (c .before .before .args .c) (r .0 .1) (r .1) (c .if1 .taken)
+    low-uncoded (c .before .before .args .c) (r .0 .1) (r .1) (omega arith)
 
 returns-5 : tie.Need-returns-5
 returns-5 c = high-uncoded (c .before .before .before .args .c) (omega arith)

@@ -46,7 +46,7 @@ sub-t13 c = search needs
 returns-3 : tie.Need-returns-3
 returns-3 c =
     let e = c .before .before .before .before .before in
-    value-next (e .args .text .now) (e .args .i) (e .args .announced) (e .pre .1 .0) (e .pre .1 .1) (c .before .if3 .taken)
+    value-next (e .args .text .now) (e .args .i) (e .args .announced) (e .pre .1 .0) (e .pre .1 .1) (omega arith) (c .before .if3 .taken)
 
 next-indicator-requires : tie.Need-next-indicator-requires
 next-indicator-requires c κs =

@@ -64,7 +64,7 @@ returns-2 c =
     let e = a .before in
     ended a
     (run-other values (e .args .most - a .loop .n) (e .args .text .now) (e .args .i + a .loop .n) (there f)
-    (below values 64 127 _ values-between (c .if2 .taken)))
+    (below values 63 127 _ values-between (c .if2 .taken)))
 
 returns-3 : tie.Need-returns-3 Inv-loop μ-loop
 returns-3 c =
@@ -73,7 +73,7 @@ returns-3 c =
     let e = a .before in
     ended a
     (run-other values (e .args .most - a .loop .n) (e .args .text .now) (e .args .i + a .loop .n) (there f)
-    (above values 64 127 _ values-between (c .if3 .taken)))
+    (above values 63 127 _ values-between (c .if3 .taken)))
 
 add-n : tie.Need-add-n Inv-loop μ-loop
 add-n c = omega arith
@@ -92,7 +92,7 @@ loop-again c =
       omega arith,
       omega (arith, there f),
       run-on values (e .args .most) n t i (run values (e .args .most) (drop i t)) (f .before .loop-test .taken) (there f)
-          (inside values 64 127 _ values-between (c .before .if2 .left) (omega arith)) (a .loop .inv .2),
+          (inside values 63 127 _ values-between (c .before .if2 .left) (omega arith)) (a .loop .inv .2),
     )
 
 returns-4 : tie.Need-returns-4 Inv-loop μ-loop
