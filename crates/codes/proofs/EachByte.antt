@@ -2,11 +2,11 @@
 -- Assumes nothing.
 use mathlib.Core.Path.{_≡_, refl, sym, ap, ap₂, _∙_}
 use mathlib.Core.List.{List}
-use Prim.Native.Nat.{ℕ, zero, suc, _+_, _-_, _*_, _/_, _%_, _^_, _<_}
+use Prim.Native.Nat.{ℕ, zero, suc, _+_, _-_, _*_, _/_, _%_, _^_, _≤_, _<_}
 use native.Mathlib.Nat.{add-zero}
 use native.Mathlib.Omega.{arith}
 use lib.ListN.{getD}
-use Rattle.codes.specs.Steps.EightBytes.{fourAt, eightAt, eightOf}
+use Rattle.codes.specs.Steps.EightBytes.{eightAt, eightOf}
 use Rattle.codes.proofs.EightBytes.{four-at}
 
 -- what holds of 0, of 1, .. holds of each number below n
@@ -32,6 +32,14 @@ eight-at s q =
 pub eight-sum : (d e : ℕ → ℕ) → eightOf d + eightOf e ≡ eightOf (λ k. d k + e k)
 unfolding eightOf
 eight-sum d e = omega arith
+
+-- and so is a difference, where none is borrowed
+eight-whole : (d e g : ℕ → ℕ) → ((k : ℕ) → e k + g k ≡ d k) → eightOf e + eightOf g ≡ eightOf d
+unfolding eightOf
+eight-whole d e g h = omega (arith, h 0, h 1, h 2, h 3, h 4, h 5, h 6, h 7)
+
+pub eight-difference : (d e : ℕ → ℕ) → ((k : ℕ) → e k ≤ d k) → eightOf d - eightOf e ≡ eightOf (λ k. d k - e k)
+eight-difference d e h = omega (arith, eight-whole d e (λ k. d k - e k) (λ k. omega (arith, h k)))
 
 -- an operation of bits is that of each
 module _ (op : ℕ → ℕ → ℕ)
@@ -63,7 +71,3 @@ module _ (d : ℕ → ℕ) (small : (k : ℕ) → d k < 256) where
       let b : (d 4 < 256) × (d 5 < 256) × (d 6 < 256) × (d 7 < 256) = (small 4, small 5, small 6, small 7) in
       each-at 8 (λ (k : ℕ). eightOf d / 2 ^ (56 - 8 * k) % 256 ≡ d k)
       (omega arith, (omega arith, (omega arith, (omega arith, (omega arith, (omega arith, (omega arith, (omega arith, tt))))))))
-
-  pub eight-small : eightOf d < 2 ^ 64
-  unfolding eightOf
-  eight-small = omega (arith, small 0, small 1, small 2, small 3, small 4, small 5, small 6, small 7)

@@ -10,13 +10,13 @@ use native.Mathlib.Nat.{zero-add}
 use native.Mathlib.Omega.{arith}
 use lib.ListN.{length, replicate, length-replicate}
 use Rattle.codes.specs.Chain.{Entry, stateAfter, Row, texts, Built}
-use Rattle.pseudo_binary.specs.Table.{SPACE, SLASH, Kind, values, spaces, slashes, isOf, valueOf, characterOf, indicator, most, six, scheme}
-use Rattle.pseudo_binary.specs.Writer.{besides, backAs, comesBack, Alike}
+use Rattle.pseudo_binary.specs.Table.{SPACE, SLASH, Kind, values, spaces, slashes, isOf, AllCoded, valueOf, characterOf, indicator, most, six, scheme}
+use Rattle.pseudo_binary.specs.Writer.{besides, ours, backAs, comesBack, Alike}
 use Rattle.pseudo_binary.specs.Makers.{spelled, Sends, nothing, part, BuildsOf}
 use Rattle.pseudo_binary.proofs.Characters.{alike-replicate, isOf-back, valueOf-same, characterOf-value, characterOf-valueOf}
 use Rattle.pseudo_binary.proofs.Entries.{indicator-of, six-of, after-six}
 use Rattle.pseudo_binary.proofs.Runs.{said, announced, Counted, counted-none, counted-one, counted-all}
-use Rattle.pseudo_binary.proofs.Writer.{back-length}
+use Rattle.pseudo_binary.proofs.Writer.{ours-row, ours-says, back-length}
 
 -- ---- what a maker may send says what the text comes back as
 
@@ -173,6 +173,10 @@ goes (suc m) (x ∷ es) t r e =
 
 pub says-sends : (t : List ℕ) (es : List Entry) → Row scheme 0 es 0 → texts es ≡ comesBack t → Sends t es
 says-sends t es r e = goes-sends t es (goes 0 es t r e)
+
+-- our writer's way is one of them
+pub ours-sends : (t : List ℕ) → AllCoded t → Sends t (ours t)
+ours-sends t u = says-sends t (ours t) (ours-row t u) (ours-says t u)
 
 -- the data that any maker may build of a text carries what the text comes back as, and no other data does
 pub builds-back : (text carried : List ℕ) → BuildsOf text carried ↔ Built scheme (comesBack text) carried

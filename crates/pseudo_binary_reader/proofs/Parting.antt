@@ -4,10 +4,10 @@ use mathlib.Core.Path.{_≡_, sym, ap, ap₂, _∙_}
 use Prim.Native.Nat.{ℕ, _+_, _-_, _*_, _/_, _%_, _^_, _<_}
 use native.Mathlib.Nat.{mod-lt, zero-lt-suc}
 use native.Mathlib.Omega.{arith}
-use lib.Bits.{bitAnd, and-block, and-high, and-mask}
+use lib.Bits.{bitAnd, and-le-r, and-block, and-high}
 use lib.Dec.{lit<}
 use Rattle.codes.specs.Steps.EightBytes.{eightOf}
-use Rattle.codes.proofs.EachByte.{eight-sum, eight-each, eight-byte}
+use Rattle.codes.proofs.EachByte.{eight-sum, eight-difference, eight-each, eight-byte}
 use Rattle.pseudo_binary.specs.Table.{characterOf}
 use Rattle.pseudo_binary.proofs.Characters.{characterOf-turned}
 use Rattle.pseudo_binary_reader.specs.Steps.Taken.{Spread}
@@ -48,22 +48,37 @@ module _ (d : ℕ → ℕ) (small : (k : ℕ) → d k < 64) where
   unfolding pairs eightOf
   pairs-apart = omega (arith, upper-four)
 
--- the characters of eight values: one more in each byte, six bits of it, and 63 more
-module _ (d : ℕ → ℕ) (small : (k : ℕ) → d k < 64) where
-  turned : bitAnd (eightOf d + 0x0101010101010101) 0x3f3f3f3f3f3f3f3f + 0x3f3f3f3f3f3f3f3f ≡ eightOf (λ k. bitAnd (d k + 1) 0x3f + 0x3f)
-  unfolding eightOf
-  turned =
-      ap (λ (n : ℕ). bitAnd n 0x3f3f3f3f3f3f3f3f + 0x3f3f3f3f3f3f3f3f) (eight-sum d (λ k. 1))
-      ∙ ap (λ (n : ℕ). n + 0x3f3f3f3f3f3f3f3f) (eight-each bitAnd and-block (λ k. d k + 1) (λ k. 0x3f) (λ k. omega (arith, small k)) (λ k. lit< tt))
-      ∙ eight-sum (λ k. bitAnd (d k + 1) 0x3f) (λ k. 0x3f)
+-- the character of a value, and the characters of eight, as the code has them
+character : ℕ → ℕ
+character v = v + (64 - bitAnd (v + 1) 64)
 
-  turned-bytes : (k : ℕ) → k < 8
-      → (bitAnd (eightOf d + 0x0101010101010101) 0x3f3f3f3f3f3f3f3f + 0x3f3f3f3f3f3f3f3f) / 2 ^ (56 - 8 * k) % 256 ≡ characterOf (d k)
-  turned-bytes k l =
-      ap (λ (n : ℕ). n / 2 ^ (56 - 8 * k) % 256) turned
-      ∙ eight-byte (λ k. bitAnd (d k + 1) 0x3f + 0x3f) (λ k. omega (arith, and-mask (d k + 1) 6)) k l
-      ∙ (let e : bitAnd (d k + 1) 0x3f + 0x3f ≡ 63 + (d k + 1) % 64 = omega (arith, and-mask (d k + 1) 6) in e)
-      ∙ sym (characterOf-turned (d k) (small k))
+character-is : (v : ℕ) → v < 64 → character v ≡ characterOf v
+unfolding character
+character-is v h =
+    (let e : v + (64 - bitAnd (v + 1) 64) ≡ 63 + (v + 1) % 64 = omega (arith, and-high (v + 1) 1 6) in e) ∙ sym (characterOf-turned v h)
+
+unfoldable pub characters : ℕ → ℕ
+characters n = n + (0x4040404040404040 - bitAnd (n + 0x0101010101010101) 0x4040404040404040)
+
+module _ (d : ℕ → ℕ) (small : (k : ℕ) → d k < 64) where
+  characters-each : characters (eightOf d) ≡ eightOf (λ k. character (d k))
+  unfolding characters character eightOf
+  characters-each =
+      let n : ℕ = eightOf d in
+      ap (λ (m : ℕ). n + (0x4040404040404040 - bitAnd m 0x4040404040404040)) (eight-sum d (λ k. 1))
+      ∙ ap (λ (m : ℕ). n + (0x4040404040404040 - m)) (eight-each bitAnd and-block (λ k. d k + 1) (λ k. 64) (λ k. omega (arith, small k)) (λ k. lit< tt))
+      ∙ ap (λ (m : ℕ). n + m) (eight-difference (λ k. 64) (λ k. bitAnd (d k + 1) 64) (λ k. and-le-r (d k + 1) 64))
+      ∙ eight-sum d (λ k. 64 - bitAnd (d k + 1) 64)
+
+  character-small : (k : ℕ) → character (d k) < 256
+  unfolding character
+  character-small k = omega (arith, small k)
+
+  characters-bytes : (k : ℕ) → k < 8 → characters (eightOf d) / 2 ^ (56 - 8 * k) % 256 ≡ characterOf (d k)
+  characters-bytes k l =
+      ap (λ (n : ℕ). n / 2 ^ (56 - 8 * k) % 256) characters-each
+      ∙ eight-byte (λ k. character (d k)) character-small k l
+      ∙ character-is (d k) (small k)
 
 -- the code's steps: 48 bits in two halves, a gap in the middle of each, and then of each quarter
 module _ (v : ℕ) (h : v < 281474976710656) where
@@ -99,11 +114,10 @@ module _ (v : ℕ) (h : v < 281474976710656) where
   unfolding eighths
   eighths-joined = ap (λ (n : ℕ). n + bitAnd n 1134924423669747648 * 3) quarters-are ∙ pairs-apart nth nth-small
 
-  pub eighths-spread : Spread v (bitAnd (eighths + 0x0101010101010101) 0x3f3f3f3f3f3f3f3f + 0x3f3f3f3f3f3f3f3f)
+  pub eighths-spread : Spread v (characters eighths)
   unfolding nth
   eighths-spread k l =
-      ap (λ (n : ℕ). (bitAnd (n + 0x0101010101010101) 0x3f3f3f3f3f3f3f3f + 0x3f3f3f3f3f3f3f3f) / 2 ^ (56 - 8 * k) % 256) eighths-joined
-      ∙ turned-bytes nth nth-small k l
+      ap (λ (n : ℕ). characters n / 2 ^ (56 - 8 * k) % 256) eighths-joined ∙ characters-bytes nth nth-small k l
 
   -- it takes two bits less than eight bytes
   pub eighths-small : eighths < 4611686018427387904

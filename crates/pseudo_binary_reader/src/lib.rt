@@ -175,8 +175,8 @@ pub fn measure(s: &[u8]) -> Measured
     }
 }
 
-// Eight values, each as its character in a byte of its own: the bits are parted in the middle, then each half, then each quarter. The characters begin
-// with that of value 63, so that of any value is 63 and the value next to it, which for 63 is 0.
+// Eight values, each as its character in a byte of its own: the bits are parted in the middle, then each half, then each quarter. The character is 64
+// plus the value, but for 63, of which one more has the bit of 64: it stays 63.
 fn spread(values: u64) -> u64
     requires { ⌜ values < 2 ^ 48 ⌝ }
     ensures { λ r. ⌜ Spread values r ⌝ }
@@ -184,8 +184,8 @@ fn spread(values: u64) -> u64
     let halves = values / 0x100_0000 * 0x1_0000_0000 + values % 0x100_0000;
     let quarters = halves + (halves & 0x00ff_f000_00ff_f000) * 15;
     let eighths = quarters + (quarters & 0x0fc0_0fc0_0fc0_0fc0) * 3;
-    let next = (eighths + 0x0101_0101_0101_0101) & 0x3f3f_3f3f_3f3f_3f3f;
-    next + 0x3f3f_3f3f_3f3f_3f3f
+    let more = eighths + 0x0101_0101_0101_0101;
+    eighths + (0x4040_4040_4040_4040 - (more & 0x4040_4040_4040_4040))
 }
 
 // The eight values that end so many bits before the end of the eight bytes from `first` on, each as its character in a byte of its own.

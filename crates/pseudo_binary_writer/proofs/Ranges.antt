@@ -1,16 +1,14 @@
 -- The characters that have a code, and the kinds of character as ranges.
 -- Assumes nothing.
-use mathlib.Core.Path.{_≡_, refl, sym, ap, ap₂, _∙_}
+use mathlib.Core.Path.{_≡_, refl, sym, ap, ap₂, subst⁻¹, _∙_}
 use mathlib.Core.Bool.{Bool, true, false, _&&_}
 use mathlib.Core.Logic.{by-cases}
-use mathlib.Core.List.{List}
 use Prim.Native.Nat.{ℕ, _≤_, _<_}
 use native.Mathlib.Decide.{decLt}
 use native.Mathlib.Omega.{arith}
 use lib.Dec.{T, leb, eqb}
-use lib.ListN.{length, getD}
 use borrow.Author.Tests.{leb-true, eqb-true, eqb-false, ne-eqb, lt-leb, le-leb}
-use Rattle.pseudo_binary.specs.Table.{SPACE, SLASH, Kind, values, spaces, slashes, isOf, coded, AllCoded}
+use Rattle.pseudo_binary.specs.Table.{SPACE, SLASH, Kind, values, spaces, slashes, isOf, coded}
 use Rattle.pseudo_binary_writer.specs.Steps.Sending.{Between}
 
 -- which characters have a code
@@ -39,8 +37,9 @@ unfolding coded isOf
 high-uncoded c h =
     sym (simp (lt-leb c 127 h, and-false (leb 63 c), ne-eqb c SPACE (omega arith), ne-eqb c SLASH (omega arith)))
 
-pub coded-at : (t : List ℕ) (i : ℕ) → AllCoded t → i < length t → T (coded (getD t i 0))
-coded-at t i c h = c i h
+-- and so they are below 128
+pub coded-small : (c : ℕ) → T (coded c) → c < 128
+coded-small c t = by-cases (decLt c 128) (λ h. h) (λ h. absurd (subst⁻¹ T (high-uncoded c (omega arith)) t))
 
 -- the kinds of character as ranges
 equal-between : (a c : ℕ) → eqb c a ≡ (leb a c && leb c a)
@@ -81,3 +80,7 @@ another k a c e h = by-cases (decLt c a) (below k a a c e) (λ l. above k a a c 
 
 pub inside : (k : Kind) (a b c : ℕ) → Between k a b → a ≤ c → c ≤ b → isOf k c ≡ true
 inside k a b c e h j = e c ∙ ap₂ (λ (x y : Bool). x && y) (le-leb a c h) (le-leb c b j)
+
+-- a character that has a code is a value from the question mark on
+pub high-value : (c : ℕ) → T (coded c) → 63 ≤ c → isOf values c ≡ true
+high-value c t h = inside values 63 127 c values-between h (omega (arith, coded-small c t))

@@ -5,9 +5,8 @@ use codes::Needed;
 ghost use mathlib.Core.Path.{_≡_};
 ghost use mathlib.Core.Logic.{_⊎_};
 ghost use lib.Count.{leadingZeros};
-ghost use lib.Dec.{T};
 ghost use Prim.Native.Nat.{_+_, _*_, _/_, _≤_, _<_, _^_};
-ghost use lib.ListN.{length, take, drop, getD};
+ghost use lib.ListN.{length, take, drop};
 ghost use Rattle.codes.specs.Coded.{alone};
 ghost use Rattle.codes.specs.Pack.{written};
 ghost use Rattle.codes.specs.Steps.Sending.{SendsBits};
@@ -45,6 +44,7 @@ impl Sent {
 
 // How many values stand in a row at place i, counted up to `most`. The first `known` of them are known to.
 fn values_from(text: &[u8], i: usize, most: usize, known: usize) -> usize
+    requires { ⌜ AllCoded (now text) ⌝ }
     requires { ⌜ (known ≤ most) × (i + known ≤ length (now text)) × Alike values (take known (drop i (now text))) ⌝ }
     ensures { λ r. ⌜ r ≡ run values most (drop i (now (text .entry))) ⌝ }
 {
@@ -53,11 +53,7 @@ fn values_from(text: &[u8], i: usize, most: usize, known: usize) -> usize
         if i + n == text.len() {
             return n;
         }
-        let c = text[i + n];
-        if c < b'?' {
-            return n;
-        }
-        if 127 < c {
+        if text[i + n] < b'?' {
             return n;
         }
         n += 1;
@@ -91,20 +87,18 @@ fn run_of(text: &[u8], i: usize, character: u8, most: usize) -> usize
     n
 }
 
-// The top bit of each of the eight characters at place i that is no value. A value's own top bit is 0, and 65 more than the other seven, which are 63 or
-// more, has 1 there. As many of the characters, from the first on, are values as whole bytes are zeros.
+// The top bit of each of the eight characters at place i that is no value: 190 less the character has it unless the character is 63 or more. As many of
+// them, from the first on, are values as whole bytes are zeros.
 fn others_at(text: &[u8], i: usize) -> u64
-    requires { ⌜ i + 8 ≤ length (now text) ⌝ }
+    requires { ⌜ AllCoded (now text) × (i + 8 ≤ length (now text)) ⌝ }
     ensures { λ r. ⌜ Alike values (take (leadingZeros 64 r / 8) (drop i (now (text .entry)))) ⌝ }
 {
-    let word = bit_buffer::eight(text, i);
-    let more = (word & 0x7f7f_7f7f_7f7f_7f7f) + 0x4141_4141_4141_4141;
-    ((more ^ 0x8080_8080_8080_8080) | word) & 0x8080_8080_8080_8080
+    (0xbebe_bebe_bebe_bebe - bit_buffer::eight(text, i)) & 0x8080_8080_8080_8080
 }
 
 // A number of values that stand in a row at place i: up to seven more may stand at the end of the text, or where `most` comes near.
 fn values_by_eight(text: &[u8], i: usize, most: usize) -> usize
-    requires { ⌜ i ≤ length (now text) ⌝ }
+    requires { ⌜ AllCoded (now text) × (i ≤ length (now text)) ⌝ }
     ensures { λ r. ⌜ (r ≤ most) × (i + r ≤ length (now (text .entry))) × Alike values (take r (drop i (now (text .entry)))) ⌝ }
 {
     let mut n: usize = 0;
@@ -123,7 +117,7 @@ fn values_by_eight(text: &[u8], i: usize, most: usize) -> usize
 
 // How many values stand in a row at place i, counted up to as many as one indicator announces.
 fn values_at(text: &[u8], i: usize) -> usize
-    requires { ⌜ i ≤ length (now text) ⌝ }
+    requires { ⌜ AllCoded (now text) × (i ≤ length (now text)) ⌝ }
     ensures { λ r. ⌜ r ≡ run values 128 (drop i (now (text .entry))) ⌝ }
 {
     let known = values_by_eight(text, i, Sent::MOST_VALUES);
@@ -132,7 +126,7 @@ fn values_at(text: &[u8], i: usize) -> usize
 
 // The first of our indicators of the text from i on: it counts as many characters of the first one's kind as it can.
 fn next_indicator(text: &[u8], i: usize) -> Sent
-    requires { ⌜ (i < length (now text)) × T (coded (getD (now text) i 0)) ⌝ }
+    requires { ⌜ AllCoded (now text) × (i < length (now text)) ⌝ }
     ensures { λ r. ⌜ FirstIndicatorOf (drop i (now (text .entry))) r ⌝ }
 {
     match text[i] {
@@ -174,7 +168,7 @@ struct Extent {
 
 // What the first of our indicators of the text from i on takes.
 fn next_extent(text: &[u8], i: usize) -> Extent
-    requires { ⌜ (i < length (now text)) × T (coded (getD (now text) i 0)) ⌝ }
+    requires { ⌜ AllCoded (now text) × (i < length (now text)) ⌝ }
     ensures { λ r. ⌜ ExtentOf (drop i (now (text .entry))) r ⌝ }
 {
     let c = text[i];

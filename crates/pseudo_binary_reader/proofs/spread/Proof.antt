@@ -2,7 +2,7 @@
 use Prim.Native.Nat.{_+_}
 use native.Mathlib.Omega.{arith}
 use lib.Bits.{and-le-r}
-use Rattle.pseudo_binary_reader.proofs.Parting.{halves, quarters, eighths, eighths-spread, eighths-small}
+use Rattle.pseudo_binary_reader.proofs.Parting.{halves, quarters, eighths, characters, eighths-spread, eighths-small}
 use borrow.Author.Needs.{needs}
 use Rattle.pseudo_binary_reader.proofs.spread.Statement.{statement}
 use Rattle.pseudo_binary_reader.proofs.spread.Tie as tie
@@ -29,18 +29,22 @@ add-eighths : tie.Need-add-eighths
 unfolding halves quarters eighths
 add-eighths c = omega (arith, eighths-small (c .args .values) (c .pre))
 
-add-next : tie.Need-add-next
+add-more : tie.Need-add-more
 unfolding halves quarters eighths
-add-next c = omega (arith, eighths-small (c .args .values) (c .pre))
+add-more c = omega (arith, eighths-small (c .args .values) (c .pre))
+
+sub-result : tie.Need-sub-result
+unfolding halves quarters eighths
+sub-result c = omega (arith, and-le-r (eighths (c .args .values) (c .pre) + 0x0101010101010101) 0x4040404040404040)
 
 add-result : tie.Need-add-result
 unfolding halves quarters eighths
-add-result c = omega (arith, and-le-r (eighths (c .args .values) (c .pre) + 0x0101010101010101) 0x3f3f3f3f3f3f3f3f)
+add-result c = omega (arith, eighths-small (c .args .values) (c .pre))
 
 returns : tie.Need-returns
-unfolding halves quarters eighths
+unfolding halves quarters eighths characters
 returns c = eighths-spread (c .args .values) (c .pre)
 
 pub spread-spec : {M : Type 1} → statement M
 spread-spec =
-    tie.close (tie.spec mul-halves add-halves mul-quarters add-quarters mul-eighths add-eighths add-next add-result returns)
+    tie.close (tie.spec mul-halves add-halves mul-quarters add-quarters mul-eighths add-eighths add-more sub-result add-result returns)

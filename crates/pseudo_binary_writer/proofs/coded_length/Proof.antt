@@ -32,7 +32,7 @@ next-extent-requires : tie.Need-next-extent-requires Inv-loop μ-loop
 next-extent-requires c κs =
     let a = c .before in
     let e = a .before .before in
-    (c .loop-test .taken, e .pre (a .loop .i) (c .loop-test .taken))
+    (e .pre, c .loop-test .taken)
 
 -- what the next indicator takes
 next : (f : tie.After-next-extent Inv-loop μ-loop)

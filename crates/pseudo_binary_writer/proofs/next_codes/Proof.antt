@@ -6,7 +6,6 @@ use lib.ListN.{drop}
 use borrow.Author.Needs.{needs}
 use Rattle.pseudo_binary_writer.specs.Steps.Sending.{NextOf}
 use Rattle.pseudo_binary_writer.proofs.Announced.{value-next, two-next, four-next, first-next}
-use Rattle.pseudo_binary_writer.proofs.Ranges.{coded-at}
 use Rattle.pseudo_binary_writer.proofs.next_codes.Statement.{statement}
 use Rattle.pseudo_binary_writer.proofs.next_codes.Tie as tie
 
@@ -51,7 +50,7 @@ returns-3 c =
 next-indicator-requires : tie.Need-next-indicator-requires
 next-indicator-requires c κs =
     let e = c .before .before .before .before in
-    (e .pre .0 .1, coded-at (e .args .text .now) (e .args .i) (e .pre .0 .0) (e .pre .0 .1))
+    e .pre .0
 
 returns-4 : tie.Need-returns-4
 returns-4 c =

@@ -14,15 +14,15 @@ shared-slice-read-c c = search needs
 run-of-requires : tie.Need-run-of-requires
 run-of-requires c κs =
     let e = c .before .before .before in
-    (omega arith, low-kind _ (e .pre .1) (c .if1 .taken))
+    (omega arith, low-kind _ (e .pre .0 (e .args .i) (e .pre .1)) (c .if1 .taken))
 
 returns : tie.Need-returns
 returns c =
     let e = c .before .before .before .before in
-    repeat-extent (e .args .text .now) (e .args .i) (e .pre .0) (e .pre .1) (c .run-of .result) (c .before .if1 .taken) (c .run-of .ensures)
+    repeat-extent (e .args .text .now) (e .args .i) (e .pre .1) (e .pre .0 (e .args .i) (e .pre .1)) (c .run-of .result) (c .before .if1 .taken) (c .run-of .ensures)
 
 values-at-requires : tie.Need-values-at-requires
-values-at-requires c κs = search needs
+values-at-requires c κs = let e = c .before .before .before in (e .pre .0, omega arith)
 
 mul-t9 : tie.Need-mul-t9
 mul-t9 c =
@@ -37,7 +37,7 @@ add-t10 c =
 returns-2 : tie.Need-returns-2
 returns-2 c =
     let e = c .before .before .before .before in
-    values-extent (e .args .text .now) (e .args .i) (e .pre .0) (e .pre .1) (c .values-at .result) (c .before .if1 .left) (c .values-at .ensures)
+    values-extent (e .args .text .now) (e .args .i) (e .pre .1) (e .pre .0 (e .args .i) (e .pre .1)) (c .values-at .result) (c .before .if1 .left) (c .values-at .ensures)
 
 pub next-extent-spec : {M : Type 1} → statement M
 next-extent-spec =

@@ -23,7 +23,7 @@ sub-t11 : tie.Need-sub-t11
 unfolding isOf
 sub-t11 c =
     let e = c .before .before .before .before in
-    run-some (e .args .text .now) (e .args .i) (e .pre .0) spaces 15 (c .run-of .result)
+    run-some (e .args .text .now) (e .args .i) (e .pre .1) spaces 15 (c .run-of .result)
     (eq-eqb (getD (e .args .text .now) (e .args .i) 0) SPACE (c .before .match .keys1)) (c .run-of .ensures spaces spaces-between)
 
 run-of-requires-2 : tie.Need-run-of-requires-2
@@ -33,7 +33,7 @@ sub-t13 : tie.Need-sub-t13
 unfolding isOf
 sub-t13 c =
     let e = c .before .before .before .before in
-    run-some (e .args .text .now) (e .args .i) (e .pre .0) slashes 15 (c .run-of2 .result)
+    run-some (e .args .text .now) (e .args .i) (e .pre .1) slashes 15 (c .run-of2 .result)
     (eq-eqb (getD (e .args .text .now) (e .args .i) 0) SLASH (c .before .match .keys2)) (c .run-of2 .ensures slashes slashes-between)
 
 add-t14 : tie.Need-add-t14
@@ -42,18 +42,18 @@ add-t14 c =
     omega (arith, c .run-of2 .ensures slashes slashes-between, run-le slashes 16 (drop (e .args .i) (e .args .text .now)))
 
 values-at-requires : tie.Need-values-at-requires
-values-at-requires c κs = search needs
+values-at-requires c κs = let e = c .before .before .before in (e .pre .0, omega arith)
 
 -- the last arm is that of the values
 is-value : (c : tie.At-match-rest) → isOf values (getD (c .before .before .before .args .text .now) (c .before .before .before .args .i) 0) ≡ true
 is-value c =
     let e = c .before .before .before in
-    else-value (getD (e .args .text .now) (e .args .i) 0) (e .pre .1) (c .match .rest .0 .1) (c .match .rest .1)
+    else-value (getD (e .args .text .now) (e .args .i) 0) (e .pre .0 (e .args .i) (e .pre .1)) (c .match .rest .0 .1) (c .match .rest .1)
 
 sub-t16 : tie.Need-sub-t16
 sub-t16 c =
     let e = c .before .before .before .before in
-    run-some (e .args .text .now) (e .args .i) (e .pre .0) values 127 (c .values-at .result) (is-value (c .before))
+    run-some (e .args .text .now) (e .args .i) (e .pre .1) values 127 (c .values-at .result) (is-value (c .before))
     (c .values-at .ensures)
 
 add-t17 : tie.Need-add-t17
@@ -64,18 +64,18 @@ add-t17 c =
 returns : tie.Need-returns
 returns c =
     let e = c .before .before .before .before in
-    space-first (e .args .text .now) (e .args .i) (e .pre .0) (c .run-of .result) (c .before .match .keys1) (c .run-of .ensures spaces spaces-between)
+    space-first (e .args .text .now) (e .args .i) (e .pre .1) (c .run-of .result) (c .before .match .keys1) (c .run-of .ensures spaces spaces-between)
 
 returns-2 : tie.Need-returns-2
 returns-2 c =
     let e = c .before .before .before .before in
-    slash-first (e .args .text .now) (e .args .i) (e .pre .0) (c .run-of2 .result) (c .before .match .keys2)
+    slash-first (e .args .text .now) (e .args .i) (e .pre .1) (c .run-of2 .result) (c .before .match .keys2)
     (c .run-of2 .ensures slashes slashes-between)
 
 returns-3 : tie.Need-returns-3
 returns-3 c =
     let e = c .before .before .before .before in
-    value-first (e .args .text .now) (e .args .i) (e .pre .0) (c .values-at .result) (is-value (c .before)) (c .values-at .ensures)
+    value-first (e .args .text .now) (e .args .i) (e .pre .1) (c .values-at .result) (is-value (c .before)) (c .values-at .ensures)
 
 pub next-indicator-spec : {M : Type 1} → statement M
 next-indicator-spec =

@@ -3,7 +3,6 @@ use mathlib.Core.List.{List}
 use mathlib.Core.Path.{_≡_, ap, _∙_}
 use Prim.Native.Nat.{ℕ}
 use native.Mathlib.Omega.{arith}
-use borrow.Author.Needs.{needs}
 use lib.ListN.{drop}
 use Rattle.pseudo_binary.specs.Table.{values}
 use Rattle.pseudo_binary.specs.Writer.{run}
@@ -11,11 +10,11 @@ use Rattle.pseudo_binary_writer.proofs.values_at.Statement.{statement}
 use Rattle.pseudo_binary_writer.proofs.values_at.Tie as tie
 
 values-by-eight-requires : tie.Need-values-by-eight-requires
-values-by-eight-requires c κs = search needs
+values-by-eight-requires c κs = c .before .pre
 
 values-from-requires : tie.Need-values-from-requires
 values-from-requires c κs =
-    let known = c .values-by-eight .ensures in (omega (arith, known .0), known .1, known .2)
+    let known = c .values-by-eight .ensures in (c .before .before .pre .0, (omega (arith, known .0), known .1, known .2))
 
 -- counted up to what one indicator announces
 up-to : (rest : List ℕ) (r most : ℕ) → r ≡ run values most rest → most ≡ 128 → r ≡ run values 128 rest

@@ -36,7 +36,7 @@ add-others-at : tie.Need-add-others-at Inv-loop μ-loop
 add-others-at c = omega arith
 
 others-at-requires : tie.Need-others-at-requires Inv-loop μ-loop
-others-at-requires c κs = omega arith
+others-at-requires c κs = (c .before .before .before .before .pre .0, omega arith)
 
 -- so many of the next eight are values too
 on : (f : tie.After-others-at Inv-loop μ-loop)

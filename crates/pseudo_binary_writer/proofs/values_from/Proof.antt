@@ -9,7 +9,7 @@ use lib.Seq.{drop-drop}
 use Rattle.pseudo_binary.specs.Table.{values}
 use Rattle.pseudo_binary.specs.Writer.{run}
 use Rattle.pseudo_binary_writer.proofs.Counting.{run-past, run-end, run-other, run-on, run-full}
-use Rattle.pseudo_binary_writer.proofs.Ranges.{below, above, inside, values-between}
+use Rattle.pseudo_binary_writer.proofs.Ranges.{below, values-between, high-value}
 use Rattle.pseudo_binary_writer.proofs.values_from.Statement.{statement}
 use Rattle.pseudo_binary_writer.proofs.values_from.Tie as tie
 
@@ -29,7 +29,7 @@ loop-holds c =
       omega arith,
       omega arith,
       ap (λ (l : List ℕ). n + run values (c .args .most - n) l) (sym (drop-drop n i t))
-          ∙ run-past values n (c .args .most) (drop i t) (omega arith) (omega (arith, length-drop i t)) (c .pre .2),
+          ∙ run-past values n (c .args .most) (drop i t) (omega arith) (omega (arith, length-drop i t)) (c .pre .1 .2),
     )
 
 add-if1 : tie.Need-add-if1 Inv-loop μ-loop
@@ -47,11 +47,11 @@ returns c =
     let e = a .before in
     ended a (run-end values (e .args .most - a .loop .n) (e .args .text .now) (e .args .i + a .loop .n) (omega (arith, c .if1 .taken)))
 
-add-c : tie.Need-add-c Inv-loop μ-loop
-add-c c = omega (arith, c .before .before .before .good)
+add-if2 : tie.Need-add-if2 Inv-loop μ-loop
+add-if2 c = omega (arith, c .before .before .before .good)
 
-shared-slice-read-c : tie.Need-shared-slice-read-c Inv-loop μ-loop
-shared-slice-read-c c = omega (arith, c .before .if1 .left)
+shared-slice-read-if2 : tie.Need-shared-slice-read-if2 Inv-loop μ-loop
+shared-slice-read-if2 c = omega (arith, c .before .if1 .left)
 
 there : (c : tie.Else1 Inv-loop μ-loop)
     → c .before .before .before .args .i + c .before .before .loop .n < length (c .before .before .before .args .text .now)
@@ -66,15 +66,6 @@ returns-2 c =
     (run-other values (e .args .most - a .loop .n) (e .args .text .now) (e .args .i + a .loop .n) (there f)
     (below values 63 127 _ values-between (c .if2 .taken)))
 
-returns-3 : tie.Need-returns-3 Inv-loop μ-loop
-returns-3 c =
-    let f = c .before .before .before in
-    let a = f .before .before in
-    let e = a .before in
-    ended a
-    (run-other values (e .args .most - a .loop .n) (e .args .text .now) (e .args .i + a .loop .n) (there f)
-    (above values 63 127 _ values-between (c .if3 .taken)))
-
 add-n : tie.Need-add-n Inv-loop μ-loop
 add-n c = omega arith
 
@@ -83,7 +74,7 @@ loop-less c = omega arith
 
 loop-again : tie.Need-loop-again Inv-loop μ-loop
 loop-again c =
-    let f = c .before .before .before in
+    let f = c .before .before in
     let a = f .before .before in
     let e = a .before in
     let t = e .args .text .now in
@@ -92,11 +83,11 @@ loop-again c =
       omega arith,
       omega (arith, there f),
       run-on values (e .args .most) n t i (run values (e .args .most) (drop i t)) (f .before .loop-test .taken) (there f)
-          (inside values 63 127 _ values-between (c .before .if2 .left) (omega arith)) (a .loop .inv .2),
+          (high-value _ (e .pre .0 (i + n) (there f)) (c .if2 .left)) (a .loop .inv .2),
     )
 
-returns-4 : tie.Need-returns-4 Inv-loop μ-loop
-returns-4 c =
+returns-3 : tie.Need-returns-3 Inv-loop μ-loop
+returns-3 c =
     let a = c .before in
     let e = a .before in
     ended a (run-full values (e .args .most) (a .loop .n) (drop (e .args .i + a .loop .n) (e .args .text .now)) (c .loop-test .left))
@@ -110,11 +101,10 @@ values-from-spec =
     loop-holds
     add-if1
     returns
-    add-c
-    shared-slice-read-c
+    add-if2
+    shared-slice-read-if2
     returns-2
-    returns-3
     add-n
     loop-less
     loop-again
-    returns-4)
+    returns-3)
