@@ -30,7 +30,9 @@ spelled-counted k (c ∷ r) t es a h =
 sends-counted : {t : List ℕ} {es : List Entry} → Sends t es → (k : Kind) → Counted k 0 t es
 unfolding texts comesBack
 sends-counted nothing k = counted-none k refl refl
-sends-counted (part {text} {es} j c r a l s) k = counted-all k l (spelled-counted j (c ∷ r) text es a (sends-counted s j))
+sends-counted (part {text} {es} j c r a l s) k =
+    let few : length r < most j = omega arith in
+    counted-all k few (spelled-counted j (c ∷ r) text es a (sends-counted s j))
 
 pub sends-row : {t : List ℕ} {es : List Entry} → Sends t es → Row scheme 0 es 0
 unfolding announced

@@ -57,7 +57,7 @@ unfolding character
 character-is v h =
     (let e : v + (64 - bitAnd (v + 1) 64) ≡ 63 + (v + 1) % 64 = omega (arith, and-high (v + 1) 1 6) in e) ∙ sym (characterOf-turned v h)
 
-unfoldable pub characters : ℕ → ℕ
+characters : ℕ → ℕ
 characters n = n + (0x4040404040404040 - bitAnd (n + 0x0101010101010101) 0x4040404040404040)
 
 module _ (d : ℕ → ℕ) (small : (k : ℕ) → d k < 64) where
@@ -114,10 +114,11 @@ module _ (v : ℕ) (h : v < 281474976710656) where
   unfolding eighths
   eighths-joined = ap (λ (n : ℕ). n + bitAnd n 1134924423669747648 * 3) quarters-are ∙ pairs-apart nth nth-small
 
-  pub eighths-spread : Spread v (characters eighths)
-  unfolding nth
-  eighths-spread k l =
-      ap (λ (n : ℕ). characters n / 2 ^ (56 - 8 * k) % 256) eighths-joined ∙ characters-bytes nth nth-small k l
+  pub eighths-spread : {one : ℕ} → one ≡ 0x0101010101010101 → Spread v (eighths + (0x4040404040404040 - bitAnd (eighths + one) 0x4040404040404040))
+  unfolding nth characters
+  eighths-spread is k l =
+      ap (λ (n : ℕ). (eighths + (0x4040404040404040 - bitAnd (eighths + n) 0x4040404040404040)) / 2 ^ (56 - 8 * k) % 256) is
+      ∙ ap (λ (n : ℕ). characters n / 2 ^ (56 - 8 * k) % 256) eighths-joined ∙ characters-bytes nth nth-small k l
 
   -- it takes two bits less than eight bytes
   pub eighths-small : eighths < 4611686018427387904

@@ -2,7 +2,7 @@
 use Prim.Native.Nat.{_+_}
 use native.Mathlib.Omega.{arith}
 use lib.Bits.{and-le-r}
-use Rattle.pseudo_binary_reader.proofs.Parting.{halves, quarters, eighths, characters, eighths-spread, eighths-small}
+use Rattle.pseudo_binary_reader.proofs.Parting.{halves, quarters, eighths, eighths-spread, eighths-small}
 use borrow.Author.Needs.{needs}
 use Rattle.pseudo_binary_reader.proofs.spread.Statement.{statement}
 use Rattle.pseudo_binary_reader.proofs.spread.Tie as tie
@@ -42,8 +42,8 @@ unfolding halves quarters eighths
 add-result c = omega (arith, eighths-small (c .args .values) (c .pre))
 
 returns : tie.Need-returns
-unfolding halves quarters eighths characters
-returns c = eighths-spread (c .args .values) (c .pre)
+unfolding halves quarters eighths
+returns c = eighths-spread (c .args .values) (c .pre) (omega arith)
 
 pub spread-spec : {M : Type 1} → statement M
 spread-spec =
