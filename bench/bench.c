@@ -13,9 +13,11 @@
 enum { MOST_ROUNDS = 101, IMPLEMENTATIONS = 3, LONG_TEXT = 12000 };
 
 typedef rosopyat_read_answer reader(const uint8_t *, size_t, uint8_t *, size_t);
+typedef rosopyat_read_answer mending_reader(uint32_t, const uint8_t *, size_t, uint8_t *, size_t);
 typedef rosopyat_write_answer writer(uint32_t, bool, const uint8_t *, size_t, uint8_t *, size_t);
 
 static reader *const readers[IMPLEMENTATIONS] = {rosopyat_read, independent_read, tuned_read};
+static mending_reader *const mending_readers[IMPLEMENTATIONS] = {rosopyat_read_mending, independent_read_mending, tuned_read_mending};
 static writer *const writers[IMPLEMENTATIONS] = {rosopyat_write, independent_write, tuned_write};
 
 static uint8_t source[LONG_TEXT + 400], packet[ROSOPYAT_MOST_PACKET], output[ROSOPYAT_MOST_TEXT], first_output[ROSOPYAT_MOST_TEXT];
@@ -112,7 +114,8 @@ static size_t part_for(unsigned format, size_t size)
 /* One row of the table. */
 
 struct job {
-    bool reads;
+    enum { READ, READ_MENDING, WRITE } call;
+    uint32_t mend; /* the header bits that are named */
     unsigned format;
     size_t text_length, packet_length;
     uint32_t refusal; /* that all must answer */
@@ -120,8 +123,10 @@ struct job {
 
 static uint32_t once(const struct job *job, int who)
 {
-    if (job->reads)
+    if (job->call == READ)
         return readers[who](packet, job->packet_length, output, sizeof output).refusal;
+    if (job->call == READ_MENDING)
+        return mending_readers[who](job->mend, packet, job->packet_length, output, sizeof output).refusal;
     return writers[who](job->format, true, source, job->text_length, output, sizeof output).refusal;
 }
 
@@ -194,6 +199,29 @@ static void print_heading(void)
     printf("|---|---|---|---|---|---|---|---|\n");
 }
 
+static void measure_wrong_headers(int rounds)
+{
+    static const struct {
+        const char *what;
+        int wrong;
+        uint32_t mend, refusal;
+    } rows[] = {{"read, 1 header bit wrong, 2 named", 1, 2, 0},
+                {"read, 2 header bits wrong, 2 named", 2, 2, 0},
+                {"refuse, 3 header bits wrong, 2 named", 3, 2, 2},
+                {"refuse, 2 header bits wrong, 1 named", 2, 1, 2}};
+    printf("\nWith wrong header bits. The library finds the bits to mend by four small tables, tuned C in one of 1,024 entries:\n\n");
+    print_heading();
+    for (int r = 0; r < 4; r++) {
+        struct job job = {.call = READ_MENDING, .mend = rows[r].mend, .refusal = rows[r].refusal};
+        state = 1;
+        make_open();
+        job.packet_length = tuned_write(0, true, source, 100, packet, sizeof packet).length;
+        for (int i = 0; i < rows[r].wrong; i++)
+            packet[i] ^= 4;
+        measure(rows[r].what, "Open", 100, &job, rounds);
+    }
+}
+
 int main(int count, char **words)
 {
     static const struct {
@@ -216,24 +244,13 @@ int main(int count, char **words)
         state = 1;
         formats[f].make();
         for (int s = 0; s < 3; s++) {
-            struct job job = {true, formats[f].format, part_for(formats[f].format, sizes[s]), 0, 0};
+            struct job job = {.call = READ, .format = formats[f].format, .text_length = part_for(formats[f].format, sizes[s])};
             job.packet_length = tuned_write(job.format, true, source, job.text_length, packet, sizeof packet).length;
             measure("read", formats[f].name, job.packet_length - 6, &job, rounds);
-            job.reads = false;
+            job.call = WRITE;
             measure("write", formats[f].name, job.packet_length - 6, &job, rounds);
         }
     }
-    printf("\nWith wrong header bits. The library finds the bits to mend by four small tables, tuned C in one of 1,024 entries:\n\n");
-    print_heading();
-    for (int wrong = 1; wrong <= 3; wrong++) {
-        static const char *const names[] = {"read, 1 header bit wrong", "read, 2 header bits wrong", "refuse, 3 header bits wrong"};
-        struct job job = {true, 0, 100, 0, wrong > 2 ? 2 : 0};
-        state = 1;
-        make_open();
-        job.packet_length = tuned_write(0, true, source, 100, packet, sizeof packet).length;
-        for (int i = 0; i < wrong; i++)
-            packet[i] ^= 4;
-        measure(names[wrong - 1], "Open", 100, &job, rounds);
-    }
+    measure_wrong_headers(rounds);
     return 0;
 }

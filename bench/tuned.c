@@ -7,6 +7,7 @@ enum { MOST_FULL_ASCII = 7112, MOST_NUMERIC = 8004, MOST_SHEF = 10668, NOT_MENDA
 #define EACH(byte) (0x0101010101010101u * (byte))
 #define likely(c) __builtin_expect(!!(c), 1)
 #define unlikely(c) __builtin_expect(!!(c), 0)
+#define ALWAYS_INLINE inline __attribute__((always_inline))
 
 static uint32_t checksum_table[256];
 static uint16_t check_table[4][256];   /* what each header byte leaves as remainder; the top bit of the first is no part of it */
@@ -215,7 +216,7 @@ static inline bool all_ones(uint64_t top, size_t rest)
 
 /* Compact Pseudo Binary: the data has two bytes of checksum behind it, so that two bytes can be read at any bit. */
 
-static bool measure_pseudo_binary(const uint8_t *data, size_t length, size_t *count, size_t *bad)
+static ALWAYS_INLINE bool measure_pseudo_binary(const uint8_t *data, size_t length, size_t *count, size_t *bad)
 {
     size_t bits = 8 * length, at = 0, characters = 0;
     for (;;) {
@@ -268,7 +269,7 @@ static inline uint64_t characters_of(uint64_t values)
     return ((values + EACH(1)) & EACH(63)) + EACH(63);
 }
 
-static void text_of_pseudo_binary(const uint8_t *data, size_t length, uint8_t *text, size_t count)
+static ALWAYS_INLINE void text_of_pseudo_binary(const uint8_t *data, size_t length, uint8_t *text, size_t count)
 {
     size_t at = 0, done = 0, readable = length + 2;
     while (done < count) {
@@ -305,7 +306,7 @@ static void text_of_pseudo_binary(const uint8_t *data, size_t length, uint8_t *t
 
 /* Compact Full ASCII: taken apart once, into memory of our own, since a refusal may change nothing. */
 
-static bool text_of_full_ascii(const uint8_t *data, size_t length, uint8_t *text, size_t *count, size_t *bad)
+static ALWAYS_INLINE bool text_of_full_ascii(const uint8_t *data, size_t length, uint8_t *text, size_t *count, size_t *bad)
 {
     size_t bits = 8 * length, at = 0, done = 0;
     while (bits - at >= 64) {
@@ -355,7 +356,7 @@ static bool text_of_full_ascii(const uint8_t *data, size_t length, uint8_t *text
  * states: nothing was put off before it, or one of the three. numeric_text has the characters of a byte in a state, the first lowest, and on top how many
  * they are; numeric_next[byte], shifted by a state times 8, the next state times 8, so that one shift leads from state to state. */
 
-static size_t text_of_numeric(const uint8_t *data, size_t length, uint8_t *text)
+static ALWAYS_INLINE size_t text_of_numeric(const uint8_t *data, size_t length, uint8_t *text)
 {
     size_t done = 0;
     uint32_t state = 0;
@@ -372,7 +373,7 @@ static size_t text_of_numeric(const uint8_t *data, size_t length, uint8_t *text)
 
 /* Compact SHEF: taken apart once, as Full ASCII. */
 
-static bool text_of_shef(const uint8_t *data, size_t length, uint8_t *text, size_t *count, size_t *bad)
+static ALWAYS_INLINE bool text_of_shef(const uint8_t *data, size_t length, uint8_t *text, size_t *count, size_t *bad)
 {
     size_t bits = 8 * length, at = 0, done = 0;
     while (bits - at >= 64) {
@@ -413,8 +414,11 @@ static bool text_of_shef(const uint8_t *data, size_t length, uint8_t *text, size
     return true;
 }
 
-rosopyat_read_answer tuned_read(const uint8_t *packet, size_t packet_length, uint8_t *text, size_t text_room)
+/* Both readers have a copy of all this, so that the number of bits to mend costs nothing where it is known. */
+static ALWAYS_INLINE rosopyat_read_answer read_packet(uint32_t mend, const uint8_t *packet, size_t packet_length, uint8_t *text, size_t text_room)
 {
+    if (mend > 2)
+        return refuse_reading(17, 0);
     if (packet_length < 4)
         return refuse_reading(1, 0);
     uint32_t header;
@@ -426,7 +430,7 @@ rosopyat_read_answer tuned_read(const uint8_t *packet, size_t packet_length, uin
         header ^= 0x80000000;
         mended++;
     }
-    if (mended > 2)
+    if (mended > mend)
         return refuse_reading(2, 0);
     unsigned flag = header >> 24, format = flag >> 2 & 7;
     if ((flag & 0x61) != 0x40 || format > 4)
@@ -474,6 +478,16 @@ rosopyat_read_answer tuned_read(const uint8_t *packet, size_t packet_length, uin
     }
     return (rosopyat_read_answer){
         .format = format, .sync = flag >> 1 & 1, .mended = mended, .data_length = length, .text_length = count, .used = length + 6};
+}
+
+rosopyat_read_answer tuned_read(const uint8_t *packet, size_t packet_length, uint8_t *text, size_t text_room)
+{
+    return read_packet(1, packet, packet_length, text, text_room);
+}
+
+rosopyat_read_answer tuned_read_mending(uint32_t mend, const uint8_t *packet, size_t packet_length, uint8_t *text, size_t text_room)
+{
+    return read_packet(mend, packet, packet_length, text, text_room);
 }
 
 static rosopyat_write_answer refuse_writing(uint32_t refusal, size_t number)

@@ -1,4 +1,4 @@
-/* The same two functions, tuned by hand: tables, a 64-bit buffer of bits, eight characters at a time. For the benchmark only. */
+/* The same functions, tuned by hand: tables, a 64-bit buffer of bits, eight characters at a time. For the benchmark only. */
 #ifndef TUNED_H
 #define TUNED_H
 
@@ -6,6 +6,7 @@
 
 void tuned_prepare(void); /* fills the tables; once, first */
 rosopyat_read_answer tuned_read(const uint8_t *packet, size_t packet_length, uint8_t *text, size_t text_room);
+rosopyat_read_answer tuned_read_mending(uint32_t mend, const uint8_t *packet, size_t packet_length, uint8_t *text, size_t text_room);
 rosopyat_write_answer tuned_write(uint32_t format, bool sync, const uint8_t *text, size_t text_length, uint8_t *packet, size_t packet_room);
 
 #endif

@@ -1,4 +1,5 @@
-/* Reads a packet from a file and prints its text: read_file FILE. Status 0: printed; 1: refused; 2: a file could not be read or written. */
+/* Reads a packet from a file and prints its text: read_file FILE. Status 0: printed; 1: refused; 2: a file could not be read or written. At most one wrong
+ * header bit is mended, as on a live channel; for a weak recording that is known to hold a packet call rosopyat_read_mending with 2. */
 #include "rosopyat.h"
 
 #include <stdio.h>

@@ -1,7 +1,7 @@
 /* Rosopyat: reads and writes single-packet messages of the GOES DCS binary protocol. This file is the manual.
  *
  * A packet is a flag byte, three bytes of length and check, 1 to 4,000 data bytes and two checksum bytes: 7 to 4,006 bytes. The data is a text in one of
- * five formats (rosopyat_format). Both functions answer a struct: `refusal` is 0 when the call succeeded, and else one of rosopyat_refusal, with
+ * five formats (rosopyat_format). All functions answer a struct: `refusal` is 0 when the call succeeded, and else one of rosopyat_refusal, with
  * `number` saying more where the refusal says so. Every other member of a refused answer is 0, and no byte of the lent buffer has changed.
  *
  *     uint8_t packet[ROSOPYAT_MOST_PACKET];
@@ -19,7 +19,7 @@
  * What a caller keeps to:
  *   - a pointer leads to as many bytes as the length beside it says; where that length is 0 any pointer will do, NULL too;
  *   - the two buffers of one call do not overlap.
- * Whatever else is handed over gets an answer: any bytes, any lengths, any number for a format.
+ * Whatever else is handed over gets an answer: any bytes, any lengths, any number for a format or of bits to mend.
  *
  * Nothing is allocated, kept or shared between calls: any number of threads may call at once, on buffers of their own.
  * Link with librosopyat_c.a (x86-64), which needs memset and nothing else of the C library.
@@ -61,25 +61,26 @@ enum rosopyat_format {
     ROSOPYAT_FULL_ASCII = 4     /* compacted: characters 32 to 63 (6 bits), 64 to 126 (7), HT, CR, LF, and CR with LF after it (9) */
 };
 
-/* Why a call was refused. The tests are made in the order given here for the reader, and in the order 12, 10, 9, 11, 8 for the writer; the first that
+/* Why a call was refused. The tests are made in the order 17, then 1 to 8 for the reader, and in the order 12, 10, 9, 11, 8 for the writer; the first that
  * matches answers. `number` is 0 unless a meaning stands here. */
 enum rosopyat_refusal {
     ROSOPYAT_ACCEPTED = 0,
     /* the reader's */
-    ROSOPYAT_SHORT = 1,        /* fewer than 4 bytes */
-    ROSOPYAT_NO_HEADER = 2,    /* no valid header within two bits of the one received */
-    ROSOPYAT_OTHER_TYPE = 3,   /* the header's type is none of the five formats, or its spare bit is 1 */
-    ROSOPYAT_OTHER_LENGTH = 4, /* the length is 0 or above 4,000 */
-    ROSOPYAT_CUT_OFF = 5,      /* fewer bytes than the length and 6 */
-    ROSOPYAT_CHECKSUM = 6,     /* the checksum of the data is not the one that follows it */
-    ROSOPYAT_MALFORMED = 7,    /* number: the data bit at which the first unreadable indicator, value or code starts */
+    ROSOPYAT_TOO_MANY_BITS = 17, /* tested first of all: the number of header bits to mend is not one of 0 to 2 */
+    ROSOPYAT_SHORT = 1,          /* fewer than 4 bytes */
+    ROSOPYAT_NO_HEADER = 2,      /* no valid header within the named number of bits of the one received; one bit where none is named */
+    ROSOPYAT_OTHER_TYPE = 3,     /* the header's type is none of the five formats, or its spare bit is 1 */
+    ROSOPYAT_OTHER_LENGTH = 4,   /* the length is 0 or above 4,000 */
+    ROSOPYAT_CUT_OFF = 5,        /* fewer bytes than the length and 6 */
+    ROSOPYAT_CHECKSUM = 6,       /* the checksum of the data is not the one that follows it */
+    ROSOPYAT_MALFORMED = 7,      /* number: the data bit at which the first unreadable indicator, value or code starts */
     /* both */
-    ROSOPYAT_NO_ROOM = 8,      /* the buffer is too short; number: the characters of the text (reader), or the bytes of the packet (writer) */
+    ROSOPYAT_NO_ROOM = 8,        /* the buffer is too short; number: the characters of the text (reader), or the bytes of the packet (writer) */
     /* the writer's */
-    ROSOPYAT_NO_CODE = 9,      /* number: the index of the first character that has no code in the format, where it stands */
-    ROSOPYAT_EMPTY = 10,       /* the text is empty */
-    ROSOPYAT_TOO_LONG = 11,    /* the data would have more than 4,000 bytes */
-    ROSOPYAT_OTHER_FORMAT = 12 /* the format is not one of 0 to 4 */
+    ROSOPYAT_NO_CODE = 9,        /* number: the index of the first character that has no code in the format, where it stands */
+    ROSOPYAT_EMPTY = 10,         /* the text is empty */
+    ROSOPYAT_TOO_LONG = 11,      /* the data would have more than 4,000 bytes */
+    ROSOPYAT_OTHER_FORMAT = 12   /* the format is not one of 0 to 4 */
 };
 
 typedef struct rosopyat_read_answer {
@@ -87,7 +88,7 @@ typedef struct rosopyat_read_answer {
     size_t number;      /* what the refusal says, or 0 */
     uint32_t format;    /* enum rosopyat_format */
     uint32_t sync;      /* 1: time synchronised since the last transmission */
-    uint32_t mended;    /* header bits that were put right: 0 to 2 */
+    uint32_t mended;    /* header bits that were put right: 0 up to the number named, or up to 1 where none is */
     size_t data_length; /* 1 to 4,000 */
     size_t text_length; /* bytes of `text` that were written */
     size_t used;        /* bytes of `packet` that belong to the packet: data_length and 6 */
@@ -100,8 +101,18 @@ typedef struct rosopyat_write_answer {
 } rosopyat_write_answer;
 
 /* Reads the packet that starts at packet[0] and writes its text to text[0..text_length]. Bytes behind the packet are not looked at, and bytes of
- * `text` behind the text stay as they were. A `text_room` of 0 asks for the text's length (refusal 8). */
+ * `text` behind the text stay as they were. A `text_room` of 0 asks for the text's length (refusal 8). At most one wrong header bit is mended. */
 rosopyat_read_answer rosopyat_read(const uint8_t *packet, size_t packet_length, uint8_t *text, size_t text_room);
+
+/* The same, but that at most `mend` wrong header bits are mended: 0, 1 or 2. All its 32 bits count, so any other number is refused (17). With 1 it answers
+ * just as rosopyat_read does. Which number to name:
+ *   - 1 on a live channel, which brings noise too;
+ *   - 2 for the replay of a weak recording that is known to hold packets;
+ *   - 0 where no header is to be guessed at.
+ * Of all 32-bit words of noise 1 in 2,048 is a valid header, 33 in 2,048 lie within one bit of one, but 529 in 2,048 within two: these would fill the list
+ * of a live channel with packets that nobody sent. As long as the flipped header bits and the number named are at most four together, no packet is read as
+ * another: with no more flipped bits than named its header is read as it was sent, with more it is refused (2). */
+rosopyat_read_answer rosopyat_read_mending(uint32_t mend, const uint8_t *packet, size_t packet_length, uint8_t *text, size_t text_room);
 
 /* Writes `text` as one packet to packet[0..length], in the fullest runs and the shortest codes. Bytes of `packet` behind it stay as they were.
  * A `packet_room` of 0 asks for the packet's length (refusal 8). `format` is one of rosopyat_format: all its 32 bits count, so any other number is

@@ -1,4 +1,4 @@
-// Calls the library from C++: a text is written and read back.
+// Calls the library from C++: a text is written and read back, also with two header bits flipped.
 #include "rosopyat.h"
 
 #include <string.h>
@@ -11,5 +11,9 @@ int main()
     const rosopyat_read_answer read = rosopyat_read(packet, written.length, back, sizeof back);
     const bool same = written.refusal == ROSOPYAT_ACCEPTED && read.refusal == ROSOPYAT_ACCEPTED && read.format == ROSOPYAT_PSEUDO_BINARY &&
                       read.sync == 1 && read.text_length == sizeof text && memcmp(text, back, sizeof text) == 0;
-    return same ? 0 : 1;
+    packet[0] ^= 0x81;
+    const bool mended = rosopyat_read_mending(2, packet, written.length, back, sizeof back).mended == 2 &&
+                        rosopyat_read_mending(3, packet, written.length, back, sizeof back).refusal == ROSOPYAT_TOO_MANY_BITS &&
+                        rosopyat_read(packet, written.length, back, sizeof back).refusal == ROSOPYAT_NO_HEADER;
+    return same && mended ? 0 : 1;
 }

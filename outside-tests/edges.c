@@ -1,5 +1,6 @@
-/* The published packets and messages (file given), the table of edges P1 to P15 and Q1 to Q3, edges of Numeric and SHEF, every unreadable ending and the
- * numbers of formats, through rosopyat.h: linked once with the independent implementation under the library's names, and once with the library. */
+/* The published packets and messages (file given), the table of edges P1 to P15 and Q1 to Q3, edges of Numeric and SHEF, every unreadable ending, the
+ * numbers of formats and of header bits to mend, through rosopyat.h: linked once with the independent implementation under the library's names, and once
+ * with the library. */
 #include "maker.h"
 #include "rosopyat.h"
 
@@ -17,16 +18,18 @@ _Static_assert(sizeof(rosopyat_write_answer) == 24 && offsetof(rosopyat_write_an
 /* The names of the refusals, as the library numbers them. */
 _Static_assert(ROSOPYAT_SHORT == 1 && ROSOPYAT_NO_HEADER == 2 && ROSOPYAT_OTHER_TYPE == 3 && ROSOPYAT_OTHER_LENGTH == 4 && ROSOPYAT_CUT_OFF == 5 &&
                    ROSOPYAT_CHECKSUM == 6 && ROSOPYAT_MALFORMED == 7 && ROSOPYAT_NO_ROOM == 8 && ROSOPYAT_NO_CODE == 9 && ROSOPYAT_EMPTY == 10 &&
-                   ROSOPYAT_TOO_LONG == 11 && ROSOPYAT_OTHER_FORMAT == 12,
+                   ROSOPYAT_TOO_LONG == 11 && ROSOPYAT_OTHER_FORMAT == 12 && ROSOPYAT_TOO_MANY_BITS == 17,
                "numbers of the refusals");
 _Static_assert(ROSOPYAT_ACCEPTED == 0 && ROSOPYAT_OPEN == 0 && ROSOPYAT_PSEUDO_BINARY == 1 && ROSOPYAT_NUMERIC == 2 && ROSOPYAT_SHEF == 3 &&
                    ROSOPYAT_FULL_ASCII == 4,
                "numbers of the formats");
 _Static_assert(ROSOPYAT_MOST_DATA == 4000 && ROSOPYAT_OVERHEAD == 6 && ROSOPYAT_MOST_PACKET == 4006 && ROSOPYAT_MOST_TEXT == 85328, "limits");
 
-/* What a caller names: a narrower type would cut a format to one of ours before the call. */
+/* What a caller names: a narrower type would cut a format, or a number of bits to mend, to one of ours before the call. */
 _Static_assert(_Generic(&rosopyat_write, rosopyat_write_answer(*)(uint32_t, bool, const uint8_t *, size_t, uint8_t *, size_t): 1, default: 0),
                "parameters of the writer");
+_Static_assert(_Generic(&rosopyat_read_mending, rosopyat_read_answer(*)(uint32_t, const uint8_t *, size_t, uint8_t *, size_t): 1, default: 0),
+               "parameters of the reader");
 
 static unsigned checked, failed;
 
@@ -44,10 +47,21 @@ static void expect_bytes(const char *what, const uint8_t *got, const uint8_t *wa
     expect(what, "bytes alike", memcmp(got, wanted, length) == 0, 1);
 }
 
-static void expect_reading(const char *what, const uint8_t *packet, size_t packet_length, unsigned format, unsigned mended, const uint8_t *text, size_t text_length)
+/* A reading names the most header bits to mend, or goes by the default. */
+enum { BY_DEFAULT = -1 };
+
+static rosopyat_read_answer read_naming(int64_t named, const uint8_t *packet, size_t packet_length, uint8_t *text, size_t text_room)
+{
+    if (named == BY_DEFAULT)
+        return rosopyat_read(packet, packet_length, text, text_room);
+    return rosopyat_read_mending(named, packet, packet_length, text, text_room);
+}
+
+static void expect_reading_naming(int64_t named, const char *what, const uint8_t *packet, size_t packet_length, unsigned format, unsigned mended,
+                                  const uint8_t *text, size_t text_length)
 {
     static uint8_t got[ROSOPYAT_MOST_TEXT];
-    rosopyat_read_answer answer = rosopyat_read(packet, packet_length, got, sizeof got);
+    rosopyat_read_answer answer = read_naming(named, packet, packet_length, got, sizeof got);
     expect(what, "refusal", answer.refusal, 0);
     expect(what, "number", answer.number, 0);
     expect(what, "format", answer.format, format);
@@ -59,13 +73,24 @@ static void expect_reading(const char *what, const uint8_t *packet, size_t packe
     expect_bytes(what, got, text, text_length);
 }
 
-static void expect_refused(const char *what, const uint8_t *packet, size_t packet_length, unsigned refusal, size_t number)
+static void expect_reading(const char *what, const uint8_t *packet, size_t packet_length, unsigned format, unsigned mended, const uint8_t *text, size_t text_length)
+{
+    expect_reading_naming(BY_DEFAULT, what, packet, packet_length, format, mended, text, text_length);
+}
+
+static void expect_refused_naming(int64_t named, const char *what, const uint8_t *packet, size_t packet_length, unsigned refusal, size_t number)
 {
     uint8_t text[16] = "as it was before", before[16] = "as it was before";
-    rosopyat_read_answer answer = rosopyat_read(packet, packet_length, text, sizeof text);
+    rosopyat_read_answer answer = read_naming(named, packet, packet_length, text, sizeof text);
     expect(what, "refusal", answer.refusal, refusal);
     expect(what, "number", answer.number, number);
+    expect(what, "every other member", answer.format | answer.sync | answer.mended | answer.data_length | answer.text_length | answer.used, 0);
     expect_bytes(what, text, before, sizeof text);
+}
+
+static void expect_refused(const char *what, const uint8_t *packet, size_t packet_length, unsigned refusal, size_t number)
+{
+    expect_refused_naming(BY_DEFAULT, what, packet, packet_length, refusal, number);
 }
 
 static void expect_not_written(const char *what, uint32_t format, const uint8_t *text, size_t text_length, unsigned refusal, size_t number)
@@ -124,9 +149,17 @@ static void expect_header(const char *what, unsigned format, const char *text, s
     expect_bytes(what, packet, (const uint8_t *)header, 4);
 }
 
+/* Open, with the header of P2 and one data byte. */
+static size_t make_x(uint8_t *packet)
+{
+    packet[4] = 'x';
+    size_t packet_length = maker_close(packet, MAKER_FLAG_OPEN, 1);
+    expect_bytes("P2", packet, (const uint8_t *)"\x40\x00\x04\xdd", 4);
+    return packet_length;
+}
+
 static void edges(void)
 {
-    uint8_t packet[64];
     char text[4000];
     memset(text, 'x', sizeof text);
 
@@ -135,14 +168,6 @@ static void edges(void)
     expect_header("P2", 0, text, 1, "\x40\x00\x04\xdd");
     expect_header("P3", 0, text, 4000, "\x40\x3e\x80\xd1");
     expect_header("P4", 4, "A", 1, "\xd0\x00\x04\x30");
-
-    packet[4] = 'x';
-    size_t packet_length = maker_close(packet, MAKER_FLAG_OPEN, 1);
-    expect_bytes("P2", packet, (const uint8_t *)"\x40\x00\x04\xdd", 4);
-    packet[0] = 0xc1;
-    expect_reading("P5", packet, packet_length, 0, 2, (const uint8_t *)"x", 1);
-    expect_refused("P6", (const uint8_t *)"\x40\x00\x04\xda", 4, 2, 0);
-    expect_refused("P7", (const uint8_t *)"\x00\x00\x00\x00", 4, 3, 0);
 
     expect_data("P8", 1, "AB", "\x81\x04\x2f", 3);
     expect_data("P9", 1, "////////////////", "\x7f", 1);
@@ -154,6 +179,64 @@ static void edges(void)
     expect_data("P13", 4, "A\r\n", "\x83\xff", 2);
     expect_data("P14", 4, "\r\n", "\xff\xff", 2);
     expect_malformed("P15", 4, "\xff", 1, 0);
+}
+
+/* P5 to P7, which are 2, more than 2, and 1 bit away from a valid header. */
+static void wrong_headers(void)
+{
+    static const struct {
+        const char *what;
+        int64_t named;
+        unsigned p5, p6, p7; /* the refusal, or 0 */
+    } namings[] = {{"with 0 named", 0, 2, 2, 2}, {"with 1 named", 1, 2, 2, 3}, {"with 2 named", 2, 0, 2, 3}, {"by default", BY_DEFAULT, 2, 2, 3}};
+    uint8_t packet[64];
+    size_t packet_length = make_x(packet);
+    packet[0] = 0xc1;
+    for (unsigned i = 0; i < sizeof namings / sizeof *namings; i++) {
+        char what[32];
+        sprintf(what, "P5 to P7 %s", namings[i].what);
+        if (namings[i].p5 == 0)
+            expect_reading_naming(namings[i].named, what, packet, packet_length, 0, 2, (const uint8_t *)"x", 1);
+        else
+            expect_refused_naming(namings[i].named, what, packet, packet_length, namings[i].p5, 0);
+        expect_refused_naming(namings[i].named, what, (const uint8_t *)"\x40\x00\x04\xda", 4, namings[i].p6, 0);
+        expect_refused_naming(namings[i].named, what, (const uint8_t *)"\x00\x00\x00\x00", 4, namings[i].p7, 0);
+    }
+}
+
+/* With no bit to mend only a header as it was sent will do: neither the parity bit nor any other may be wrong. */
+static void none_to_mend(void)
+{
+    uint8_t packet[64];
+    size_t packet_length = make_x(packet);
+    expect_reading_naming(0, "none to mend", packet, packet_length, 0, 0, (const uint8_t *)"x", 1);
+    for (unsigned bit = 0; bit < 32; bit++) {
+        char what[32];
+        sprintf(what, "none to mend, bit %u wrong", bit);
+        packet[bit / 8] ^= 0x80 >> bit % 8;
+        expect_refused_naming(0, what, packet, packet_length, 2, 0);
+        expect_reading_naming(1, what, packet, packet_length, 0, 1, (const uint8_t *)"x", 1);
+        packet[bit / 8] ^= 0x80 >> bit % 8;
+    }
+}
+
+/* All numbers of bits but three are refused, whatever their low bits say, before the packet or the room is looked at. */
+static void too_many_bits(void)
+{
+    static const uint32_t above[] = {3, 4, 255, 256, 257, 258, 65536, 65537, 65538, 0x80000000, 0xffffffff};
+    uint8_t packet[64];
+    size_t packet_length = make_x(packet);
+    for (unsigned i = 0; i < sizeof above / sizeof *above; i++) {
+        char what[32];
+        sprintf(what, "%u bits to mend", (unsigned)above[i]);
+        expect_refused_naming(above[i], what, NULL, 0, 17, 0);
+        for (size_t length = 0; length <= packet_length; length++)
+            expect_refused_naming(above[i], what, packet, length, 17, 0);
+        rosopyat_read_answer answer = rosopyat_read_mending(above[i], packet, packet_length, NULL, 0);
+        expect(what, "refusal with no room", answer.refusal, 17);
+        expect(what, "number with no room", answer.number, 0);
+    }
+    expect_refused_naming(2, "no bytes", NULL, 0, 1, 0);
 }
 
 static void value_63(void)
@@ -394,6 +477,7 @@ static void published_packet(const char *title, uint8_t *packet, size_t packet_l
         expect_writing(title, format, text, text_length, packet, packet_length);
         text[text_length++] = ' ';
     }
+    expect_reading_naming(2, title, packet, packet_length, format, 0, text, text_length); /* an old recording */
     expect_reading(title, packet, packet_length, format, 0, text, text_length);
     expect_writing(title, format, text, text_length, packet, packet_length);
 }
@@ -481,6 +565,9 @@ int main(int count, char **words)
         return 2;
     }
     edges();
+    wrong_headers();
+    none_to_mend();
+    too_many_bits();
     value_63();
     numeric();
     shef();

@@ -58,7 +58,7 @@ impl TryFrom<u32> for Format {
 pub struct Reading<'a> {
     pub format: Format,
     pub sync: bool,
-    /// Header bits that were put right: 0 to 2.
+    /// Header bits that were put right: 0 up to the number named, or up to 1 where none is.
     pub mended: u32,
     pub data_length: usize,
     /// Bytes that belong to the packet: `data_length` and 6.
@@ -69,9 +69,11 @@ pub struct Reading<'a> {
 /// Why a packet was not read. The text buffer has not changed.
 #[derive(Clone, Copy, Debug, PartialEq, Eq)]
 pub enum ReadRefusal {
+    /// 17, tested first of all: the number of header bits to mend is not one of 0 to 2
+    TooManyBits,
     /// 1: fewer than 4 bytes
     Short,
-    /// 2: no valid header within two bits of the one received
+    /// 2: no valid header within the named number of bits of the one received; one bit where none is named
     NoHeader,
     /// 3: the header's type is none of the five formats, or its spare bit is 1
     OtherType,
@@ -103,9 +105,10 @@ pub enum WriteRefusal {
 }
 
 impl ReadRefusal {
-    /// The number of the refusal, 1 to 8.
+    /// The number of the refusal, 1 to 8 or 17.
     pub fn number(self) -> u32 {
         match self {
+            ReadRefusal::TooManyBits => 17,
             ReadRefusal::Short => 1,
             ReadRefusal::NoHeader => 2,
             ReadRefusal::OtherType => 3,
@@ -135,8 +138,9 @@ impl fmt::Display for ReadRefusal {
     fn fmt(&self, to: &mut fmt::Formatter) -> fmt::Result {
         write!(to, "refused {}: ", self.number())?;
         match self {
+            ReadRefusal::TooManyBits => write!(to, "the number of header bits to mend is not one of 0 to 2"),
             ReadRefusal::Short => write!(to, "fewer than 4 bytes"),
-            ReadRefusal::NoHeader => write!(to, "no valid header within two bits of the one received"),
+            ReadRefusal::NoHeader => write!(to, "no valid header within the named number of bits of the one received"),
             ReadRefusal::OtherType => write!(to, "the header's type is none of the five formats, or its spare bit is 1"),
             ReadRefusal::OtherLength => write!(to, "the length is 0 or above 4,000"),
             ReadRefusal::CutOff => write!(to, "fewer bytes than the length and 6"),
@@ -163,10 +167,21 @@ impl fmt::Display for WriteRefusal {
 impl Error for ReadRefusal {}
 impl Error for WriteRefusal {}
 
-/// Reads the packet that starts at `packet[0]` into `text`. Bytes behind the packet are not looked at.
+/// Reads the packet that starts at `packet[0]` into `text`. Bytes behind the packet are not looked at. At most one wrong header bit is mended.
 pub fn read<'a>(packet: &[u8], text: &'a mut [u8]) -> Result<Reading<'a>, ReadRefusal> {
     // Slices of their own lengths, which cannot overlap: all that the library asks for.
     let answer = unsafe { library::rosopyat_read(packet.as_ptr(), packet.len(), text.as_mut_ptr(), text.len()) };
+    reading_of(answer, text)
+}
+
+/// The same, but that at most `mend` wrong header bits are mended: 0, 1 or 2. See `include/rosopyat.h` for which to name: 1, as `read` does, on a live
+/// channel; 2 for the replay of a weak recording that is known to hold packets; 0 where no header is to be guessed at.
+pub fn read_mending<'a>(mend: u32, packet: &[u8], text: &'a mut [u8]) -> Result<Reading<'a>, ReadRefusal> {
+    let answer = unsafe { library::rosopyat_read_mending(mend, packet.as_ptr(), packet.len(), text.as_mut_ptr(), text.len()) };
+    reading_of(answer, text)
+}
+
+fn reading_of<'a>(answer: library::ReadAnswer, text: &'a [u8]) -> Result<Reading<'a>, ReadRefusal> {
     match answer.refusal {
         0 => Ok(Reading {
             format: Format::try_from(answer.format).unwrap_or_else(|_| unknown("format", answer.format)),
@@ -184,6 +199,7 @@ pub fn read<'a>(packet: &[u8], text: &'a mut [u8]) -> Result<Reading<'a>, ReadRe
         6 => Err(ReadRefusal::Checksum),
         7 => Err(ReadRefusal::Malformed(answer.number)),
         8 => Err(ReadRefusal::NoRoom(answer.number)),
+        17 => Err(ReadRefusal::TooManyBits),
         other => unknown("the reader's refusal", other),
     }
 }
@@ -231,6 +247,7 @@ mod library {
     #[link(name = "rosopyat_c", kind = "static")]
     extern "C" {
         pub fn rosopyat_read(packet: *const u8, packet_length: usize, text: *mut u8, text_room: usize) -> ReadAnswer;
+        pub fn rosopyat_read_mending(mend: u32, packet: *const u8, packet_length: usize, text: *mut u8, text_room: usize) -> ReadAnswer;
         pub fn rosopyat_write(format: u32, sync: bool, text: *const u8, text_length: usize, packet: *mut u8, packet_room: usize) -> WriteAnswer;
     }
 }

@@ -4,7 +4,7 @@
 #[cfg(not(as_crate))]
 mod rosopyat;
 
-use rosopyat::{read, write, Format, ReadRefusal, WriteRefusal, MOST_DATA, MOST_PACKET, MOST_TEXT};
+use rosopyat::{read, read_mending, write, Format, ReadRefusal, WriteRefusal, MOST_DATA, MOST_PACKET, MOST_TEXT};
 
 fn there_and_back(format: Format, sync: bool, text: &[u8]) -> usize {
     comes_back_as(format, sync, text, text)
@@ -45,10 +45,47 @@ fn read_refusals() {
     assert_eq!(text, [0; 8]);
 
     let mut mended = open.clone();
-    mended[0] ^= 0x81;
+    mended[0] ^= 0x80;
     mended.push(7);
     let reading = read(&mended, &mut text).unwrap();
-    assert_eq!((reading.mended, reading.used, reading.text), (2, 7, &b"\xff"[..]));
+    assert_eq!((reading.mended, reading.used, reading.text), (1, 7, &b"\xff"[..]));
+}
+
+/// As it was sent, with one and with two header bits flipped (P5 of the table of edges): for each number, how many bits are mended or why not.
+fn named_numbers() {
+    let mut buffer = [0; 64];
+    let sent = write(Format::Open, false, b"x", &mut buffer).unwrap().to_vec();
+    let mended = |named: Option<u32>, flip: u8| {
+        let mut packet = sent.clone();
+        packet[0] ^= flip;
+        let mut text = [0; 1];
+        let reading = match named {
+            Some(mend) => read_mending(mend, &packet, &mut text),
+            None => read(&packet, &mut text),
+        };
+        reading.map(|reading| {
+            assert_eq!((reading.format, reading.sync, reading.data_length, reading.used, reading.text), (Format::Open, false, 1, 7, &b"x"[..]));
+            reading.mended
+        })
+    };
+    let refused = Err(ReadRefusal::NoHeader);
+    for (named, outcomes) in [
+        (Some(0), [Ok(0), refused, refused]),
+        (Some(1), [Ok(0), Ok(1), refused]),
+        (Some(2), [Ok(0), Ok(1), Ok(2)]),
+        (Some(3), [Err(ReadRefusal::TooManyBits); 3]),
+        (Some(u32::MAX), [Err(ReadRefusal::TooManyBits); 3]),
+        (None, [Ok(0), Ok(1), refused]),
+    ] {
+        assert_eq!([0x00, 0x80, 0x81].map(|flip| mended(named, flip)), outcomes, "named {:?}", named);
+    }
+    let mut text = [5; 8];
+    for number in [3, 256, 65_538, u32::MAX] {
+        assert_eq!(read_mending(number, &[], &mut text), Err(ReadRefusal::TooManyBits));
+        assert_eq!(read_mending(number, &sent, &mut text), Err(ReadRefusal::TooManyBits));
+    }
+    assert_eq!(read_mending(2, &[], &mut text), Err(ReadRefusal::Short));
+    assert_eq!(text, [5; 8]);
 }
 
 fn write_refusals() {
@@ -77,8 +114,8 @@ fn formats() {
 
 fn numbers_and_words() {
     use ReadRefusal::*;
-    let read = [Short, NoHeader, OtherType, OtherLength, CutOff, Checksum, Malformed(70), NoRoom(80)];
-    assert_eq!(read.map(ReadRefusal::number), [1, 2, 3, 4, 5, 6, 7, 8]);
+    let read = [TooManyBits, Short, NoHeader, OtherType, OtherLength, CutOff, Checksum, Malformed(70), NoRoom(80)];
+    assert_eq!(read.map(ReadRefusal::number), [17, 1, 2, 3, 4, 5, 6, 7, 8]);
     let write = [WriteRefusal::NoRoom(80), WriteRefusal::NoCode(90), WriteRefusal::Empty, WriteRefusal::TooLong, WriteRefusal::OtherFormat];
     assert_eq!(write.map(WriteRefusal::number), [8, 9, 10, 11, 12]);
     for refusal in read {
@@ -111,6 +148,7 @@ fn main() {
     assert_eq!(comes_back_as(Format::Shef, false, b"A\rB\n", b"A\r\nB\r\n"), 9);
     assert_eq!(there_and_back(Format::FullAscii, false, b"Stage 1.23 m\r\n\t~"), 19);
     read_refusals();
+    named_numbers();
     write_refusals();
     formats();
     numbers_and_words();
@@ -120,5 +158,7 @@ fn main() {
     let mut text = [0; 4096];
     let reading = read(&packet, &mut text).unwrap();
     assert_eq!((reading.format, reading.data_length, reading.text.len()), (Format::FullAscii, 259, 306));
+    let mut again = [0; 4096];
+    assert_eq!(read_mending(2, &packet, &mut again), Ok(reading));
     println!("Rust, the module {}: all as it should be", if cfg!(as_crate) { "as a crate" } else { "in one file" });
 }

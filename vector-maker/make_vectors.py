@@ -3,7 +3,7 @@
 
 Written from docs/RULES.md and document 001 alone. For the published packets of 001's section 5 (outside-tests/vectors/section5.txt) the expectation is
 the published packet and the message beside it; for the edges P1 to P15 and Q1 to Q3 it is the line of RULES, Edges; for all others it is worked out
-here, in the plainest way: bits are strings of 0 and 1, a header is mended by trying every pattern of at most two bits.
+here, in the plainest way: bits are strings of 0 and 1, a header is mended by trying every pattern of at most as many bits as are named.
 
     python3 vector-maker/make_vectors.py            writes both files
     python3 vector-maker/make_vectors.py --check    writes nothing: are they what would be written?
@@ -21,6 +21,8 @@ OPEN, PSEUDO, NUMERIC, SHEF, ASCII = range(5)
 FORMATS = range(5)
 COMPACT = FORMATS[1:]
 LONGEST = 4000
+MOST_MENDED = 2
+DEFAULT = None  # no number of header bits to mend is named: it is one
 
 
 # ---- the header and the checksum
@@ -50,9 +52,9 @@ def is_valid(word):
     return ones(flag) % 2 == 1 and check_bits((flag & 0x7F) << 14 | word >> 10 & 0x3FFF) == word & 0x3FF
 
 
-def mend(word):
-    """The valid header at most two bits away, and how many; or None."""
-    for count in range(3):
+def mend(word, most):
+    """The valid header at most so many bits away, and how many; or None."""
+    for count in range(most + 1):
         for places in itertools.combinations(range(32), count):
             other = word
             for place in places:
@@ -266,10 +268,16 @@ def uncoded(format, text):
 
 # ---- the reader and the writer: (answer, the number beside it, what is written into the buffer)
 
-def read(received, room):
+def most_bits(named):
+    return 1 if named is DEFAULT else named
+
+
+def read(received, room, named):
+    if most_bits(named) > MOST_MENDED:
+        return "refused 17", 0, b""
     if len(received) < 4:
         return "refused 1", 0, b""
-    mended = mend(int.from_bytes(received[:4], "big"))
+    mended = mend(int.from_bytes(received[:4], "big"), most_bits(named))
     if mended is None:
         return "refused 2", 0, b""
     word, count = mended
@@ -315,30 +323,33 @@ STDIN, STDOUT = bytearray(), []
 COUNT = 0
 
 
-def case(kind, format, sync, room, given, answer):
-    """One case: what is handed over, and what must be printed."""
+def case(kind, named, sync, room, given, answer):
+    """One case: what is handed over, and what must be printed. What is named is the writer's format, or the reader's number of header bits to mend."""
     global COUNT, STDIN
     COUNT += 1
     line, beside, put = answer
     assert len(put) <= room, (line, room)
-    STDIN += kind + bytes([sync]) + b"".join(number.to_bytes(3, "big") for number in (format, room, len(given))) + given
+    STDIN += kind + bytes([sync]) + b"".join(number.to_bytes(3, "big") for number in (named, room, len(given))) + given
     lent = put + bytes(i % 251 + 5 for i in range(len(put), room))
     STDOUT.append(f"{line}\n{beside} {zlib.adler32(lent):08x} {lent[:512].hex()}\n")
 
 
-def examined(received, answer):
+def examined(received, answer, named):
     """What is found out without a buffer: what the reader answers, given the room for the text."""
     line, beside, _ = answer
     if line == "refused 8":
-        line, beside, _ = read(received, beside)
+        line, beside, _ = read(received, beside, named)
         assert line.startswith("ok "), (line, beside)
     return f"{line} {beside}\n".replace("ok", "readable")
 
 
-def reads(received, room, answer=None):
-    answer = answer or read(received, room)
-    STDOUT.append(examined(received, answer))
-    case(b"r", 0, 0, room, received, answer)
+def reads(received, room, answer=None, named=MOST_MENDED):
+    answer = answer or read(received, room, named)
+    STDOUT.append(examined(received, answer, named))
+    if named is DEFAULT:
+        case(b"d", 0, 0, room, received, answer)
+    else:
+        case(b"r", named, 0, room, received, answer)
 
 
 def writes(format, text, room, sync=0, answer=None):
@@ -502,10 +513,12 @@ def line_ends_and_pairs():
         reads(packet_of(SHEF, bytes.fromhex(sent)), 10, ("refused 7", place, b""))
 
 
+SMALL = (OPEN, b"\x37", 0), (PSEUDO, bytes.fromhex("81042F"), 1), (ASCII, b"\x83\x0b", 0), (NUMERIC, b"\x1e\xe2", 1), (SHEF, b"\x82\x1f", 0)
+
+
 def headers():
     """Headers 0 to 3 bits off."""
-    sent_data = (OPEN, b"\x37", 0), (PSEUDO, bytes.fromhex("81042F"), 1), (ASCII, b"\x83\x0b", 0), (NUMERIC, b"\x1e\xe2", 1), (SHEF, b"\x82\x1f", 0)
-    for format, sent, sync in sent_data:
+    for format, sent, sync in SMALL:
         whole = packet_of(format, sent, sync)
         text = READ[format](sent)
         for places in [()] + list(itertools.combinations(range(32), 1)) + (list(itertools.combinations(range(32), 2)) if format == PSEUDO else []):
@@ -680,9 +693,63 @@ def texts():
         reads(whole + generator.randbytes(generator.randrange(3)), len(normal(format, text)) + generator.randrange(-1, 3))
 
 
+def as_sent(named, flips):
+    """Whether a packet with so many header bits flipped is read as it was sent; if not, no other may be read in its place."""
+    assert flips <= most_bits(named) or flips + most_bits(named) <= 4
+    return flips <= most_bits(named)
+
+
+def edges_named():
+    """P5 to P7 and the packets of section 5, with fewer bits named than two."""
+    for named in 0, 1, DEFAULT:
+        reads(bytes.fromhex("C10004DD") + b"\x37" + checksum(b"\x37"), 3, ("refused 2", 0, b""), named)  # P5
+        reads(bytes.fromhex("400004DA"), 3, ("refused 2", 0, b""), named)  # P6
+        reads(bytes(4), 3, ("refused 2" if named == 0 else "refused 3", 0, b""), named)  # P7
+        for sent, message in sections().values():
+            format, length = sent[0] >> 2 & 7, len(sent) - 6
+            text = sent[4:-2] if format == OPEN else message + b" " * (format == NUMERIC)
+            reads(sent, len(text), (f"ok {format} 0 0 {length} {len(text)}", len(sent), text), named)
+            reads(sent, len(text) - 1, ("refused 8", len(text), b""), named)
+            reads(sent[:-1], len(text), ("refused 5", 0, b""), named)
+        for length in range(4):
+            reads(bytes.fromhex("400004DD")[:length], 4, ("refused 1", 0, b""), named)
+
+
+def flipped_headers():
+    """One to four header bits flipped, where what must come of it is known from the making: each bit alone, and others spread over the header."""
+    several = [(place, (place + 5 * step) % 32, (place + 11 + step) % 32, (place + 18 + step) % 32) for place in range(0, 32, 8) for step in (1, 2)]
+    patterns = [(place,) for place in range(32)] + [places[:flips] for flips in (2, 3, 4) for places in several]
+    ways = {1: (0, 1, DEFAULT), 2: (0, 1, 2, DEFAULT), 3: (0, 1, DEFAULT), 4: (0,)}
+    for (format, sent, sync), places in itertools.product(SMALL, patterns):
+        flips, whole, text = len(set(places)), packet_of(format, sent, sync), READ[format](sent)
+        ok = (f"ok {format} {sync} {flips} {len(sent)} {len(text)}", len(whole), text)
+        for named in ways[flips]:
+            reads(flipped(whole, places), len(text), ok if as_sent(named, flips) else ("refused 2", 0, b""), named)
+
+
+def tests_behind():
+    """What the tests behind the header's refuse, with the header as sent and with a bit of it flipped."""
+    wrong = [(header(1, 0, 0, 0, 1), 3), (header(2, 5, 0, 0, 1), 3), (header(2, 0, 0, 1, 1), 3), (header(2, 0, 0, 0, 0), 4), (header(2, 0, 0, 0, 4001), 4)]
+    cases = [(packet(word, b"\x83"), refusal) for word, refusal in wrong]
+    for format, sent, sync in SMALL:
+        whole = packet_of(format, sent, sync)
+        cases += [(whole[:-1], 5), (whole[:-1] + bytes([whole[-1] ^ 1]), 6), (whole[:4] + bytes([whole[4] ^ 0x80]) + whole[5:], 6)]
+    for (received, refusal), places, named in itertools.product(cases, ((), (30,)), (0, 1, DEFAULT)):
+        reads(flipped(received, places), 9, (f"refused {refusal if as_sent(named, len(places)) else 2}", 0, b""), named)
+
+
+def too_many_bits():
+    """A number above two is refused before the packet is looked at, whatever its low bits say."""
+    for named in 3, 4, 255, 256, 257, 258, 65536, 65537, 65538, 0xFFFFFF:
+        for length in range(5):
+            reads(bytes.fromhex("400004DD")[:length], 4, ("refused 17", 0, b""), named)
+        for format, sent, sync in SMALL:
+            reads(packet_of(format, sent, sync), 0 if format == OPEN else 9, ("refused 17", 0, b""), named)
+
+
 def make():
     for group in (published, messages, edges, sixty_threes, line_ends_and_pairs, headers, reader_refusals, endings, compact_data, longest, writer_refusals,
-                  texts):
+                  texts, edges_named, flipped_headers, tests_behind, too_many_bits):
         before = COUNT
         group()
         print(f"{group.__name__}: {COUNT - before} cases")

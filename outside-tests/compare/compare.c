@@ -20,7 +20,7 @@
 #include <time.h>
 #include <unistd.h>
 
-enum { MEANT_CASES = 20000, GUARD = 32, REGION = 28 * 4096, LONG_TEXT = 100000, LONG_TAIL = 8192 };
+enum { MEANT_CASES = 20000, GUARD = 32, REGION = 28 * 4096, LONG_TEXT = 100000, LONG_TAIL = 8192, MOST_MENDED = 2, MOST_FLIPPED = 4 };
 
 /* Random numbers: one row for each case. */
 
@@ -59,11 +59,16 @@ static void random_bytes(uint8_t *to, size_t length)
 /* Outcomes. */
 
 enum outcome {
-    READ_REFUSED, /* and its number, up to 8 */
-    MENDED_0 = READ_REFUSED + 9,
+    READ_REFUSED, /* and its number, up to 17 */
+    TOO_MANY_SHORT = READ_REFUSED + 18,
+    TOO_MANY_LOW_8_OURS,
+    TOO_MANY_LOW_16_OURS,
+    MENDED_0,
     MENDED_1,
     MENDED_2,
-    READ_SYNC_0,
+    MENDED_NAMED, /* and three times the number named, and the number mended */
+    MENDED_BY_DEFAULT = MENDED_NAMED + 9, /* and the number mended */
+    READ_SYNC_0 = MENDED_BY_DEFAULT + 2,
     READ_SYNC_1,
     READ_DATA_1,
     READ_DATA_4000,
@@ -79,9 +84,9 @@ enum outcome {
     DAMAGED, /* and its kind */
     DAMAGED_MENDED = DAMAGED + 4, /* and the header bits flipped beside it */
     NO_ROOM_ONE_SHORT = DAMAGED_MENDED + 3,
-    FLIPPED_3,
-    FLIPPED_4,
-    WRITE_REFUSED, /* and its number, 8 to 12 */
+    FLIPPED_NAMED, /* and five times the number named, and the header bits flipped */
+    FLIPPED_BY_DEFAULT = FLIPPED_NAMED + 15, /* and the header bits flipped */
+    WRITE_REFUSED = FLIPPED_BY_DEFAULT + 5, /* and its number, 8 to 12 */
     WRITE_LOW_8_OURS = WRITE_REFUSED + 13,
     WRITE_LOW_16_OURS,
     WRITE_NO_PAIR,
@@ -109,9 +114,21 @@ static const char *const outcome_name[OUTCOMES] = {
     [READ_REFUSED + 6] = "reader refused 6, checksum",
     [READ_REFUSED + 7] = "reader refused 7, malformed",
     [READ_REFUSED + 8] = "reader refused 8, no room",
+    [READ_REFUSED + 17] = "reader refused 17, too many bits",
+    [TOO_MANY_SHORT] = "  with a packet of fewer than 4 bytes",
+    [TOO_MANY_LOW_8_OURS] = "  whose low 8 bits may be named",
+    [TOO_MANY_LOW_16_OURS] = "  whose low 16 bits may be named",
     [MENDED_0] = "reader accepted, with 0 bits mended",
     [MENDED_1] = "  with 1 bit mended",
     [MENDED_2] = "  with 2 bits mended",
+    [MENDED_NAMED + 0] = "  with 0 bits named and 0 mended",
+    [MENDED_NAMED + 3] = "  with 1 bit named and 0 mended",
+    [MENDED_NAMED + 4] = "  with 1 bit named and 1 mended",
+    [MENDED_NAMED + 6] = "  with 2 bits named and 0 mended",
+    [MENDED_NAMED + 7] = "  with 2 bits named and 1 mended",
+    [MENDED_NAMED + 8] = "  with 2 bits named and 2 mended",
+    [MENDED_BY_DEFAULT + 0] = "  by default and 0 mended",
+    [MENDED_BY_DEFAULT + 1] = "  by default and 1 mended",
     [READ_SYNC_0] = "  with sync 0",
     [READ_SYNC_1] = "  with sync 1",
     [READ_DATA_1] = "  with 1 data byte",
@@ -133,8 +150,18 @@ static const char *const outcome_name[OUTCOMES] = {
     [DAMAGED_MENDED + 1] = "  under a header with 1 bit flipped",
     [DAMAGED_MENDED + 2] = "  under a header with 2 bits flipped",
     [NO_ROOM_ONE_SHORT] = "text buffer one byte too short",
-    [FLIPPED_3] = "read under a header with 3 bits flipped",
-    [FLIPPED_4] = "read under a header with 4 bits flipped",
+    [FLIPPED_NAMED + 1] = "refused 2 with 0 bits named and 1 flipped",
+    [FLIPPED_NAMED + 2] = "refused 2 with 0 bits named and 2 flipped",
+    [FLIPPED_NAMED + 3] = "refused 2 with 0 bits named and 3 flipped",
+    [FLIPPED_NAMED + 4] = "refused 2 with 0 bits named and 4 flipped",
+    [FLIPPED_NAMED + 7] = "refused 2 with 1 bit named and 2 flipped",
+    [FLIPPED_NAMED + 8] = "refused 2 with 1 bit named and 3 flipped",
+    [FLIPPED_BY_DEFAULT + 2] = "refused 2 by default and 2 flipped",
+    [FLIPPED_BY_DEFAULT + 3] = "refused 2 by default and 3 flipped",
+    [FLIPPED_NAMED + 9] = "answered alike with 1 bit named and 4 flipped",
+    [FLIPPED_NAMED + 13] = "answered alike with 2 bits named and 3 flipped",
+    [FLIPPED_NAMED + 14] = "answered alike with 2 bits named and 4 flipped",
+    [FLIPPED_BY_DEFAULT + 4] = "answered alike by default and 4 flipped",
     [WRITE_REFUSED + 8] = "writer refused 8, no room",
     [WRITE_REFUSED + 9] = "writer refused 9, no code",
     [WRITE_REFUSED + 10] = "writer refused 10, empty",
@@ -163,7 +190,7 @@ static uint64_t outcomes[OUTCOMES];
 
 /* Answers in each format: accepted (0), or refused. Those that must occur are named by a bit each. */
 
-enum { FORMATS = 5, REFUSALS = 13 };
+enum { FORMATS = 5, REFUSALS = 18 };
 
 static const struct {
     const char *name;
@@ -326,11 +353,13 @@ static size_t some_room(size_t needed)
 struct made {
     uint8_t packet[ROSOPYAT_MOST_PACKET + LONG_TAIL];
     size_t length;
-    bool known;   /* the outcome is known from the making: this format, sync, number of mended bits, and text */
+    bool headed;  /* it starts with a valid header, but for so many flipped bits; what follows holds where that header is found */
+    unsigned flipped;
+    bool known;   /* the outcome is known from the making: this format, sync and text */
     bool damaged; /* known too: refused by checksum, for a damage of this kind */
     unsigned kind;
-    unsigned format, sync, mended;
-    unsigned flag; /* that the header says, unless more than two bits of it were flipped */
+    unsigned format, sync;
+    unsigned flag; /* that the header says */
     size_t data_length, text_length;
 };
 
@@ -555,8 +584,8 @@ static void flip(uint8_t *bytes, size_t bit)
 
 static void damage_header(void)
 {
-    unsigned dice = below(100), flips = dice < 40 ? 0 : dice < 60 ? 1 : dice < 80 ? 2 : dice < 90 ? 3 : 4;
-    unsigned done[4];
+    unsigned dice = below(100), flips = dice < 50 ? 0 : dice < 68 ? 1 : dice < 86 ? 2 : dice < 93 ? 3 : MOST_FLIPPED;
+    unsigned done[MOST_FLIPPED];
     for (unsigned i = 0; i < flips; i++) {
         bool again;
         do {
@@ -567,13 +596,7 @@ static void damage_header(void)
         } while (again);
         flip(made.packet, done[i]);
     }
-    made.mended = flips;
-    outcomes[FLIPPED_3] += flips == 3;
-    outcomes[FLIPPED_4] += flips == 4;
-    if (flips > 2) {
-        made.known = false;
-        made.flag = 0;
-    }
+    made.flipped = flips;
 }
 
 /* Only a data byte or two neighbouring ones, or only one or both checksum bytes, each made any other. */
@@ -635,7 +658,7 @@ static unsigned some_format(void)
 static void make_packet(void)
 {
     made.known = true;
-    made.damaged = false;
+    made.headed = made.damaged = false;
     made.flag = 0;
     made.text_length = 0;
     if (chance(4)) { /* any bytes at all */
@@ -649,6 +672,7 @@ static void make_packet(void)
     made.data_length = make_data(made.format, made.packet + 4);
     unsigned flag = made.flag = 0x40 | made.format << 2 | made.sync << 1;
     made.length = maker_close(made.packet, flag, made.data_length);
+    made.headed = true;
     if (chance(10))
         other_header(flag);
     damage_header();
@@ -662,21 +686,101 @@ static void make_packet(void)
         add_tail();
 }
 
+/* Reading: the most header bits to mend, as the caller names them, or one by the default. */
+
+struct naming {
+    uint32_t mend;
+    bool by_default;
+};
+
+/* Mostly one that may be named; or near them; or one that only its upper bits tell from them; or any. */
+static uint32_t some_mend(void)
+{
+    static const uint32_t others[] = {3, 255, 256, 257, 258, 65536, 65537, 65538, 0x80000000, 0xffffffff};
+    switch (below(50)) {
+    case 0:
+        return between(3, 16);
+    case 1:
+        return others[below(10)];
+    case 2:
+        return below(3) | random_64() << (chance(50) ? 8 : 16);
+    case 3:
+        return random_64();
+    default:
+        return chance(20) ? 0 : chance(25) ? 1 : 2;
+    }
+}
+
+static struct naming some_naming(void)
+{
+    bool by_default = chance(25);
+    return (struct naming){by_default ? 1 : some_mend(), by_default};
+}
+
+static rosopyat_read_answer read_by_library(struct naming naming, const uint8_t *packet, size_t length, uint8_t *text, size_t room)
+{
+    if (naming.by_default)
+        return rosopyat_read(packet, length, text, room);
+    return rosopyat_read_mending(naming.mend, packet, length, text, room);
+}
+
+static rosopyat_read_answer read_independently(struct naming naming, const uint8_t *packet, size_t length, uint8_t *text, size_t room)
+{
+    if (naming.by_default)
+        return independent_read(packet, length, text, room);
+    return independent_read_mending(naming.mend, packet, length, text, room);
+}
+
+static bool may_be_named(uint32_t mend)
+{
+    return mend <= MOST_MENDED;
+}
+
+/* Whether the header that was made must be found. */
+static bool is_found(uint32_t mend)
+{
+    return made.headed && may_be_named(mend) && made.flipped <= mend;
+}
+
+/* Whether none may be found: two valid headers differ in at least five bits. */
+static bool is_lost(uint32_t mend)
+{
+    return made.headed && made.flipped > mend && made.flipped + mend < 5;
+}
+
+static bool same_read_answer(rosopyat_read_answer a, rosopyat_read_answer b)
+{
+    return a.refusal == b.refusal && a.number == b.number && a.format == b.format && a.sync == b.sync && a.mended == b.mended &&
+           a.data_length == b.data_length && a.text_length == b.text_length && a.used == b.used;
+}
+
 static bool read_as_made(rosopyat_read_answer answer, const uint8_t *text)
 {
-    return answer.refusal == 0 && answer.format == made.format && answer.sync == made.sync && answer.mended == made.mended &&
+    return answer.refusal == 0 && answer.format == made.format && answer.sync == made.sync && answer.mended == made.flipped &&
            answer.data_length == made.data_length && answer.used == made.data_length + 6 && answer.text_length == made.text_length &&
            memcmp(text, made_text, made.text_length) == 0;
 }
 
-/* What is known from the making, whatever the two implementations say; NULL where it is so. */
-static const char *compare_making(rosopyat_read_answer answer, const uint8_t *text, size_t room)
+/* Nothing but the refusal is told. */
+static bool only_refused(rosopyat_read_answer answer, uint32_t refusal)
 {
+    return same_read_answer(answer, (rosopyat_read_answer){.refusal = refusal});
+}
+
+/* What is known from the making, whatever the two implementations say; NULL where it is so. */
+static const char *compare_making(uint32_t mend, rosopyat_read_answer answer, const uint8_t *text, size_t room)
+{
+    if (!may_be_named(mend))
+        return only_refused(answer, 17) ? NULL : "the number of bits to mend is not refused";
+    if (is_lost(mend) && made.length >= 4)
+        return only_refused(answer, 2) ? NULL : "the header is not refused";
+    if (!is_found(mend))
+        return NULL;
     if (made.damaged) {
-        if (answer.refusal != 6 || answer.number != 0)
+        if (!only_refused(answer, 6))
             return "the damage is not refused by checksum";
         outcomes[DAMAGED + made.kind]++;
-        outcomes[DAMAGED_MENDED + made.mended]++;
+        outcomes[DAMAGED_MENDED + made.flipped]++;
     }
     if (!made.known)
         return NULL;
@@ -689,23 +793,48 @@ static const char *compare_making(rosopyat_read_answer answer, const uint8_t *te
     return NULL;
 }
 
-static bool same_read_answer(rosopyat_read_answer a, rosopyat_read_answer b)
+/* The default's answer and text once more, by naming one bit. */
+static const char *compare_default(rosopyat_read_answer by_default, struct place packet, struct place text)
 {
-    return a.refusal == b.refusal && a.number == b.number && a.format == b.format && a.sync == b.sync && a.mended == b.mended &&
-           a.data_length == b.data_length && a.text_length == b.text_length && a.used == b.used;
+    memcpy(library_output + text.start, untouched + text.start, by_default.text_length);
+    rosopyat_read_answer named = rosopyat_read_mending(1, at_place(input, packet), packet.length, at_place(library_output, text), text.length);
+    const char *wrong = compare_input(packet);
+    if (!wrong && !same_read_answer(by_default, named))
+        wrong = "the default is not the answer with one bit named";
+    return wrong ? wrong : compare_outputs(text, named.text_length);
 }
 
-static void count_reading(rosopyat_read_answer answer, size_t room)
+static void count_refusal(struct naming naming, rosopyat_read_answer answer, size_t room)
 {
-    if (answer.refusal > 3 && made.flag >> 5 == 2 && (made.flag >> 2 & 7) < FORMATS)
+    bool too_many = answer.refusal == 17;
+    outcomes[READ_REFUSED + answer.refusal]++;
+    outcomes[TOO_MANY_SHORT] += too_many && made.length < 4;
+    outcomes[TOO_MANY_LOW_8_OURS] += too_many && may_be_named(naming.mend & 0xff);
+    outcomes[TOO_MANY_LOW_16_OURS] += too_many && may_be_named(naming.mend & 0xffff);
+    outcomes[NO_ROOM_ONE_SHORT] += answer.refusal == 8 && room + 1 == answer.number;
+    if (is_found(naming.mend) && answer.refusal > 3 && made.flag >> 5 == 2 && (made.flag >> 2 & 7) < FORMATS)
         read_answers[made.flag >> 2 & 7][answer.refusal]++;
+}
+
+/* With more bits flipped than named. */
+static void count_flipped(struct naming naming)
+{
+    if (!made.headed || made.length < 4 || made.flipped <= naming.mend)
+        return;
+    outcomes[naming.by_default ? FLIPPED_BY_DEFAULT + made.flipped : FLIPPED_NAMED + 5 * naming.mend + made.flipped]++;
+}
+
+static void count_reading(struct naming naming, rosopyat_read_answer answer, size_t room)
+{
+    if (may_be_named(naming.mend))
+        count_flipped(naming);
     if (answer.refusal != 0) {
-        outcomes[READ_REFUSED + answer.refusal]++;
-        outcomes[NO_ROOM_ONE_SHORT] += answer.refusal == 8 && room + 1 == answer.number;
+        count_refusal(naming, answer, room);
         return;
     }
     read_answers[answer.format][0]++;
     outcomes[MENDED_0 + answer.mended]++;
+    outcomes[naming.by_default ? MENDED_BY_DEFAULT + answer.mended : MENDED_NAMED + 3 * naming.mend + answer.mended]++;
     outcomes[READ_SYNC_0 + answer.sync]++;
     outcomes[READ_DATA_1] += answer.data_length == 1;
     outcomes[READ_DATA_4000] += answer.data_length == 4000;
@@ -720,15 +849,18 @@ static void count_reading(rosopyat_read_answer answer, size_t room)
 
 static bool reader_case(void)
 {
+    struct naming naming = some_naming();
     make_packet();
+    if (!may_be_named(naming.mend) && chance(20)) /* 17 comes before 1 */
+        made.length = below(4);
     struct place packet = place_input(made.packet, made.length);
-    rosopyat_read_answer needed = independent_read(input + packet.start, packet.length, untouched + REGION, 0);
+    rosopyat_read_answer needed = read_independently(naming, input + packet.start, packet.length, untouched + REGION, 0);
     size_t room = some_room(needed.refusal == 8 ? needed.number : below(100));
     struct place text = new_place(room);
 
-    rosopyat_read_answer ours = rosopyat_read(at_place(input, packet), packet.length, at_place(library_output, text), room);
+    rosopyat_read_answer ours = read_by_library(naming, at_place(input, packet), packet.length, at_place(library_output, text), room);
     const char *wrong = compare_input(packet);
-    rosopyat_read_answer theirs = independent_read(input + packet.start, packet.length, independent_output + text.start, room);
+    rosopyat_read_answer theirs = read_independently(naming, input + packet.start, packet.length, independent_output + text.start, room);
     if (!wrong)
         wrong = compare_input(packet);
     if (!wrong && !same_read_answer(ours, theirs))
@@ -736,11 +868,13 @@ static bool reader_case(void)
     if (!wrong)
         wrong = compare_outputs(text, ours.text_length);
     if (!wrong)
-        wrong = compare_making(ours, library_output + text.start, room);
+        wrong = compare_making(naming.mend, ours, library_output + text.start, room);
+    if (!wrong && naming.by_default)
+        wrong = compare_default(ours, packet, text);
     if (wrong) {
         printf("differs: reader: %s\n", wrong);
         dump_case();
-        printf("text room %zu\n", room);
+        printf("%" PRIu32 " bits to mend%s, text room %zu\n", naming.mend, naming.by_default ? " by default" : "", room);
         dump_read_answer("library    ", ours);
         dump_read_answer("independent", theirs);
         dump_bytes("packet", input_copy + packet.start, packet.length);
@@ -750,7 +884,7 @@ static bool reader_case(void)
         return false;
     }
     put_back(text, ours.text_length);
-    count_reading(ours, room);
+    count_reading(naming, ours, room);
     return true;
 }
 

@@ -62,16 +62,21 @@ static bool valid_header(uint32_t header)
     return remainder_of(word) == 0 && ones(header >> 24) % 2 == 1;
 }
 
-static bool mend(uint32_t received, uint32_t *header)
+/* The valid header that is reached by turning over no bit, or one, or two, where as many are named. */
+static bool find_header(uint32_t received, uint32_t mend, uint32_t *header)
 {
     *header = received;
     if (valid_header(*header))
         return true;
+    if (mend == 0)
+        return false;
     for (int i = 0; i < 32; i++) {
         *header = received ^ 1u << i;
         if (valid_header(*header))
             return true;
     }
+    if (mend == 1)
+        return false;
     for (int i = 0; i < 32; i++)
         for (int j = 0; j < i; j++) {
             *header = received ^ 1u << i ^ 1u << j;
@@ -291,13 +296,15 @@ static rosopyat_read_answer refuse_reading(uint32_t refusal, size_t number)
     return answer;
 }
 
-rosopyat_read_answer independent_read(const uint8_t *packet, size_t packet_length, uint8_t *text, size_t text_room)
+rosopyat_read_answer independent_read_mending(uint32_t mend, const uint8_t *packet, size_t packet_length, uint8_t *text, size_t text_room)
 {
+    if (mend > 2)
+        return refuse_reading(17, 0);
     if (packet_length < 4)
         return refuse_reading(1, 0);
     uint32_t received = (uint32_t)packet[0] << 24 | (uint32_t)packet[1] << 16 | (uint32_t)packet[2] << 8 | packet[3];
     uint32_t header;
-    if (!mend(received, &header))
+    if (!find_header(received, mend, &header))
         return refuse_reading(2, 0);
     unsigned mended = ones(received ^ header);
 
@@ -329,6 +336,11 @@ rosopyat_read_answer independent_read(const uint8_t *packet, size_t packet_lengt
     answer.text_length = count;
     answer.used = length + 6;
     return answer;
+}
+
+rosopyat_read_answer independent_read(const uint8_t *packet, size_t packet_length, uint8_t *text, size_t text_room)
+{
+    return independent_read_mending(1, packet, packet_length, text, text_room);
 }
 
 /* Writing. */

@@ -1,4 +1,4 @@
--- Demand 1 holds, under all terms that may be named.
+-- Demand 1 holds, whatever number of bits is named.
 -- Assumes nothing.
 use mathlib.Core.Bool.{Bool}
 use mathlib.Core.List.{List, [], _∷_, _++_}
@@ -25,7 +25,7 @@ use Rattle.formats.proofs.Formats.{carries-coded, back-coded, readable, never-u
 use Rattle.refusals.specs.declared.ExamineRefusal.{ExamineRefusal}
 use Rattle.refusals.specs.declared.ReadRefusal.{ReadRefusal}
 use Rattle.refusals.specs.declared.WriteRefusal.{WriteRefusal}
-use Rattle.refusals.specs.Match.{FirstMatch, byNumber, writerTurn}
+use Rattle.refusals.specs.Match.{FirstMatch, readerTurn, writerTurn}
 use Rattle.refusals.specs.Refusals.{Told, examineTold, readTold, writeTold}
 use Rattle.refusals.proofs.Refused.{numbered}
 use Rattle.terms.specs.declared.Terms.{Terms}
@@ -38,7 +38,7 @@ use Rattle.writer.specs.declared.WriteAnswer.the-variants.{Refused as NotWritte
 use Rattle.reader.specs.Examine.{Fault, Examines}
 use Rattle.packet.specs.Packet.{packetOf, headerFor}
 use Rattle.reader.specs.Reader.{ReadFault, Reads}
-use Rattle.terms.specs.Terms.{MayBeNamed}
+use Rattle.terms.specs.Terms.{OnePacket}
 use Rattle.writer.specs.Writer.{WriteFault, Writes, ourPacket}
 use Rattle.reader.proofs.ExamineOnce.{examines-one}
 use Rattle.reader.proofs.ReadOnce.{reads-one}
@@ -60,16 +60,16 @@ our-length format sync text =
     let header = headerFor format sync (length carried) in
     omega (arith, length-append (bytesOf header) (carried ++ checksumBytes carried), length-append carried (checksumBytes carried), checksum-bytes-length carried)
 
-module _ (terms : Terms) (named : MayBeNamed terms) where
+module _ (terms : Terms) (bytes : OnePacket (terms .most)) where
   pub demand-1 : Demand1 terms
   demand-1 = record {
     examine-refuses = λ packet answer examines.
-        exactly ExamineRefusal examineTold (Fault terms packet) byNumber (λ refusal. answer ≡ NotReadable refusal)
-        (λ r e. subst (Examines terms packet) e examines) (λ r f. examines-one terms named packet answer (NotReadable r) examines f);
+        exactly ExamineRefusal examineTold (Fault terms packet) readerTurn (λ refusal. answer ≡ NotReadable refusal)
+        (λ r e. subst (Examines terms packet) e examines) (λ r f. examines-one terms bytes packet answer (NotReadable r) examines f);
     read-refuses = λ packet entry exit answer reads.
-        exactly ReadRefusal readTold (ReadFault terms packet (length entry)) byNumber (λ refusal. answer ≡ NotRead refusal)
+        exactly ReadRefusal readTold (ReadFault terms packet (length entry)) readerTurn (λ refusal. answer ≡ NotRead refusal)
         (λ r e. subst (λ (a : ReadAnswer). Reads terms packet entry a exit) e reads .0)
-        (λ r f. reads-one terms named packet entry answer (NotRead r) exit entry reads (f, refl) .0);
+        (λ r f. reads-one terms bytes packet entry answer (NotRead r) exit entry reads (f, refl) .0);
     write-refuses = λ number sync text entry exit answer writes.
         exactly WriteRefusal writeTold (WriteFault terms number text (length entry)) writerTurn (λ refusal. answer ≡ NotWritten refusal)
         (λ r e. subst (λ (a : WriteAnswer). Writes terms number sync text entry a exit) e writes .0)

@@ -18,7 +18,8 @@ use Rattle.distance.specs.Distance.{distance}
 use Rattle.checksum.specs.Checksum.{checksumBytes}
 use Rattle.formats.specs.Data.{Carries, AllCoded, comesBack, dataOf}
 use Rattle.formats.proofs.Formats.{carries-coded, carries-kept, carries-some, data-some, no-fewer, writer-carries}
-use Rattle.refusals.specs.declared.WriteRefusal.the-variants.{Empty}
+use Rattle.refusals.specs.declared.WriteRefusal.{WriteRefusal}
+use Rattle.refusals.specs.declared.WriteRefusal.the-variants.{OtherFormat, Empty, NoCode, TooLong, NoRoom}
 use Rattle.terms.specs.declared.Terms.{Terms}
 use Rattle.reader.specs.declared.Reading.{Reading}
 use Rattle.reader.specs.declared.ExamineAnswer.{ExamineAnswer}
@@ -31,7 +32,7 @@ use Rattle.reader.specs.Examine.{Allowed, readingOf, Accepts, Examines}
 use Rattle.packet.specs.Packet.{received, dataIn, packetOf, headerFor}
 use Rattle.reader.specs.Reader.{Reads}
 use Rattle.terms.specs.Terms.{MayBeNamed}
-use Rattle.writer.specs.Writer.{ourPacket, Writes}
+use Rattle.writer.specs.Writer.{ourPacket, WriteFault, Writes}
 use Rattle.reader.proofs.ExamineOnce.{examines-one}
 use Rattle.reader.proofs.ReadOnce.{reads-one}
 use Rattle.packet.proofs.Sent.{header-valid}
@@ -55,6 +56,31 @@ in-front : (format : Format) (sync : Bool) (text after : List ℕ)
     → ourPacket format sync text ++ after ≡ arriving (headerFor format sync (length (dataOf format text))) (ourPacket format sync text) after
 unfolding arriving ourPacket packetOf bytesOf
 in-front format sync text after = refl
+
+-- ---- what the writer promises names no number of bits
+
+fault-alike : (s t : Terms) → s .most ≡ t .most → (number : ℕ) (text : List ℕ) (room : ℕ) (r : WriteRefusal) → WriteFault s number text room r
+    → WriteFault t number text room r
+fault-alike s t e number text room OtherFormat f = f
+fault-alike s t e number text room Empty f = f
+fault-alike s t e number text room (NoCode index) f = f
+fault-alike s t e number text room TooLong (format, is, long) = (format, is, subst (λ (n : ℕ). n < length (dataOf format text)) e long)
+fault-alike s t e number text room (NoRoom needed) f = f
+
+writes-alike : (s t : Terms) → s .most ≡ t .most → (number : ℕ) (sync : Bool) (text entry exit : List ℕ) (answer : WriteAnswer)
+    → Writes s number sync text entry answer exit → Writes t number sync text entry answer exit
+writes-alike s t e number sync text entry exit (Written n) (format, a, is) = (
+  format,
+  record { named = a .named; some = a .some; coded = a .coded; few = omega (arith, e, a .few); fits = a .fits; held = a .held },
+  is,
+)
+writes-alike s t e number sync text entry exit (NotWritten r) (p, same) = (
+  record {
+    fault = fault-alike s t e number text (length entry) r (p .fault);
+    first = λ other lt f. p .first other lt (fault-alike t s (sym e) number text (length entry) other f);
+  },
+  same,
+)
 
 module _ (terms : Terms) (named : MayBeNamed terms) where
   -- ---- text that has codes and fits is written, and reads back
@@ -118,13 +144,13 @@ module _ (terms : Terms) (named : MayBeNamed terms) where
   allowed-readable : (packet : List ℕ) (answer : ExamineAnswer) → Examines terms packet answer → (format : Format) (header : ℕ) (text : List ℕ)
       → Allowed terms packet format header text → answer ≡ Readable (readingOf format header (received packet) text)
   allowed-readable packet answer examines format header text a =
-      examines-one terms named packet answer (Readable (readingOf format header (received packet) text)) examines (text, accepts-of packet format header text a)
+      examines-one terms (named .bytes) packet answer (Readable (readingOf format header (received packet) text)) examines (text, accepts-of packet format header text a)
 
   allowed-accepted : (packet entry exit : List ℕ) (answer : ReadAnswer) → Reads terms packet entry answer exit
       → (format : Format) (header : ℕ) (text : List ℕ) → Allowed terms packet format header text → length text ≤ length entry
       → (answer ≡ Accepted (readingOf format header (received packet) text)) × StandsInFront text entry exit
   allowed-accepted packet entry exit answer reads format header text a held =
-      reads-one terms named packet entry answer (Accepted (readingOf format header (received packet) text)) exit (text ++ drop (length text) entry) reads
+      reads-one terms (named .bytes) packet entry answer (Accepted (readingOf format header (received packet) text)) exit (text ++ drop (length text) entry) reads
       (text, accepts-of packet format header text a, held, refl)
 
   accepted-exactly : (packet entry exit : List ℕ) (answer : ReadAnswer) → Reads terms packet entry answer exit
@@ -280,6 +306,7 @@ module _ (terms : Terms) (named : MayBeNamed terms) where
 
   pub demand-2 : Demand2 terms
   demand-2 = record {
+    written-whatever-named = λ other e. writes-alike other terms e;
     written = written;
     written-is-made = written-is-made;
     reads-back = reads-back;

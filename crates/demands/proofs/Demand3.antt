@@ -10,25 +10,37 @@ use lib.ListN.{length, drop}
 use Rattle.bits.specs.Row.{Bytes}
 use Rattle.header.specs.declared.Format.{Format}
 use Rattle.header.specs.Fields.{bytesOf}
-use Rattle.distance.specs.Distance.{distance}
+use Rattle.header.specs.Valid.{Valid}
+use Rattle.header.proofs.Bytes.{word-bytes}
+use Rattle.distance.specs.Distance.{ValidWithin, distance}
+use Rattle.distance.proofs.Unique.{none-near}
 use Rattle.checksum.specs.Alike.{AlikeBut}
 use Rattle.checksum.specs.Checksum.{checksumOf, checksumBytes}
 use Rattle.checksum.proofs.Detect.{checksum-bytes-detect}
 use Rattle.formats.specs.Data.{comesBack}
-use Rattle.refusals.specs.declared.ExamineRefusal.the-variants.{Checksum}
+use Rattle.refusals.specs.declared.ExamineRefusal.the-variants.{NoHeader, Checksum}
 use Rattle.refusals.specs.declared.ReadRefusal.the-variants.{Packet}
 use Rattle.terms.specs.declared.Terms.{Terms}
+use Rattle.reader.specs.declared.ExamineAnswer.{ExamineAnswer}
+use Rattle.reader.specs.declared.ExamineAnswer.the-variants.{Refused as NotReadable}
 use Rattle.reader.specs.declared.ReadAnswer.{ReadAnswer}
 use Rattle.reader.specs.declared.ReadAnswer.the-variants.{Accepted, Refused}
-use Rattle.reader.specs.Examine.{readingOf, Refuses}
+use Rattle.reader.specs.Examine.{readingOf, Refuses, Examines}
 use Rattle.packet.specs.Packet.{received, packetOf, headerFor}
 use Rattle.reader.specs.Reader.{Reads}
 use Rattle.terms.specs.Terms.{MayBeNamed}
+use Rattle.reader.proofs.ExamineOnce.{examines-one}
+use Rattle.reader.proofs.ExamineStages.{clear-two}
 use Rattle.reader.proofs.ReadOnce.{reads-one, refused-packet}
 use Rattle.packet.proofs.Sent.{arrived, received-is, header-valid}
 use Rattle.reader.proofs.Sent.{sent-allowed, sent-reading, sent-refused}
 use Rattle.demands.specs.Demand3.{RefusedByChecksum, Demand3}
-use Rattle.demands.specs.Makers.{Made, Flipped, arriving, readingWith}
+use Rattle.demands.specs.Makers.{Made, Flipped, FlippedBeyond, arriving, readingWith}
+
+-- whatever stands behind four bytes, their word is received
+received-front : (word : ℕ) (behind : List ℕ) → word < 2 ^ 32 → received (bytesOf word ++ behind) ≡ word
+unfolding received bytesOf
+received-front word behind bits = word-bytes word bits
 
 module _ (terms : Terms) (named : MayBeNamed terms) (format : Format) (sync : Bool) (text packet : List ℕ) (made : Made terms format sync text packet) where
   small : length (made .carried) < 2 ^ 14
@@ -67,7 +79,7 @@ module _ (terms : Terms) (named : MayBeNamed terms) (format : Format) (sync : Bo
         let allowed =
         sent-allowed terms named format sync word (made .carried) low high after (made .some) (made .few) (flipped .bits) (near word flipped) refl back (made .carries) in
         let once =
-        reads-one terms named came entry answer (Accepted (readingOf format header (received came) back)) exit (back ++ drop (length back) entry)
+        reads-one terms (named .bytes) came entry answer (Accepted (readingOf format header (received came) back)) exit (back ++ drop (length back) entry)
         (subst (λ (p : List ℕ). Reads terms p entry answer exit) (arrives word after) reads)
         (back, record { format = format; header = header; allowed = allowed; is = refl }, held, refl) in (
           once .0
@@ -80,7 +92,7 @@ module _ (terms : Terms) (named : MayBeNamed terms) (format : Format) (sync : Bo
     -- what is refused by its checksum is handed out nothing of
     refused : (came : List ℕ) → Refuses terms came Checksum → Reads terms came entry answer exit → RefusedByChecksum entry answer exit
     refused came refuses reads =
-        reads-one terms named came entry answer (Refused (Packet Checksum)) exit entry reads (refused-packet terms came (length entry) Checksum refuses, refl)
+        reads-one terms (named .bytes) came entry answer (Refused (Packet Checksum)) exit entry reads (refused-packet terms came (length entry) Checksum refuses, refl)
 
     pub damaged-data : (place : ℕ) (other : List ℕ) → Bytes (made .carried) → Bytes other → AlikeBut place other (made .carried) → other ≢ made .carried
         → Reads terms (bytesOf word ++ (other ++ (checksumBytes (made .carried) ++ after))) entry answer exit → RefusedByChecksum entry answer exit
@@ -102,5 +114,30 @@ module _ (terms : Terms) (named : MayBeNamed terms) (format : Format) (sync : Bo
         refused (arrived word (made .carried) low high after)
         (sent-refused terms named format sync word (made .carried) low high after (made .some) (made .few) (flipped .bits) (near word flipped) differs) reads
 
+  -- ---- more bits flipped than named
+
+  module _ (word : ℕ) (flipped : FlippedBeyond terms packet word) (behind : List ℕ) where
+    abbrev came : List ℕ
+    came = bytesOf word ++ behind
+
+    four : 4 ≤ length came
+    unfolding bytesOf
+    four = omega arith
+
+    far : (header : ℕ) → ValidWithin (terms .mend) (received came) header → ⊥
+    far =
+        subst (λ (w : ℕ). (header : ℕ) → ValidWithin (terms .mend) w header → ⊥) (sym (received-front word behind (flipped .bits)))
+        (none-near (terms .mend) word (received packet) (subst Valid (sym packet-header) (header-valid format sync (length (made .carried)) small)) (flipped .more) (omega (arith, flipped .few)))
+
+    no-header : Refuses terms came NoHeader
+    no-header = record { fault = far; first = clear-two terms came (named .bits) four }
+
+    pub beyond : (entry exit : List ℕ) (answer : ReadAnswer) → Reads terms came entry answer exit → (answer ≡ Refused (Packet NoHeader)) × (exit ≡ entry)
+    beyond entry exit answer reads =
+        reads-one terms (named .bytes) came entry answer (Refused (Packet NoHeader)) exit entry reads (refused-packet terms came (length entry) NoHeader no-header, refl)
+
+    pub beyond-examined : (answer : ExamineAnswer) → Examines terms came answer → answer ≡ NotReadable NoHeader
+    beyond-examined answer examines = examines-one terms (named .bytes) came answer (NotReadable NoHeader) examines no-header
+
 pub demand-3 : (terms : Terms) → MayBeNamed terms → Demand3 terms
-demand-3 terms named = record { intact = intact terms named; damaged-data = damaged-data terms named; damaged-sum = damaged-sum terms named }
+demand-3 terms named = record { intact = intact terms named; damaged-data = damaged-data terms named; damaged-sum = damaged-sum terms named; beyond = beyond terms named; beyond-examined = beyond-examined terms named }

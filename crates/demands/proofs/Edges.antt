@@ -53,14 +53,15 @@ use Rattle.pseudo_binary.proofs.Table as pseudo-table
 use Rattle.shef.specs.Table as shef
 use Rattle.shef.specs.Writer as shef-writer
 use Rattle.shef.proofs.Table as shef-table
-use Rattle.refusals.specs.declared.ExamineRefusal.the-variants.{NoHeader, OtherType}
+use Rattle.refusals.specs.declared.ExamineRefusal.the-variants.{TooManyBits, NoHeader, OtherType}
 use Rattle.formats.specs.Data.{Carries, Unreadable, coded, dataOf, comesBack}
 use Rattle.packet.specs.Packet.{received, headerFor}
-use Rattle.reader.specs.Examine.{Refuses}
+use Rattle.terms.specs.Terms.{MayMend, naming}
 use Rattle.packet.proofs.Sent.{header-valid, header-typed, header-length, header-sync}
+use Rattle.reader.proofs.ExamineOnce.{too-many}
 use Rattle.reader.proofs.ExamineStages.{clear-two, clear-three}
 use Rattle.reader.proofs.ReadOnce.{refused-packet}
-use Rattle.demands.specs.Edges.{Edge, checks, heads, reads, hopeless, foreign, writes, carries, stops, lacks, mending, Holds, edges, Every}
+use Rattle.demands.specs.Edges.{Edge, checks, heads, reads, hopeless, foreign, unnamed, writes, carries, stops, lacks, Naming, RefusesAll, Holds, edges, Every}
 
 -- ---- that no valid header lies near a word, as one computed test
 
@@ -149,22 +150,32 @@ front-word (a ∷ b ∷ []) after e = absurd (let no′ : ⊥ = omega arith in n
 front-word (a ∷ []) after e = absurd (let no′ : ⊥ = omega arith in no′)
 front-word [] after e = absurd (let no′ : ⊥ = omega arith in no′)
 
-module _ (mend : ℕ) (head : List ℕ) (four : length head ≡ 4) (after : List ℕ) (room : ℕ) where
-  enough : 4 ≤ length (head ++ after)
-  enough = omega (arith, length-append head after)
+module _ (mend : ℕ) (bits : MayMend mend) (head : List ℕ) (four : length head ≡ 4) where
+  enough : (after : List ℕ) → 4 ≤ length (head ++ after)
+  enough after = omega (arith, length-append head after)
 
-  refuses-hopeless : ((header : ℕ) → ValidWithin mend (received head) header → ⊥) → Refuses (mending mend) (head ++ after) NoHeader
-  refuses-hopeless far =
-      record {
+  refuses-hopeless : ((header : ℕ) → ValidWithin mend (received head) header → ⊥) → RefusesAll mend head NoHeader
+  refuses-hopeless far after room =
+      refused-packet (naming mend) (head ++ after) room NoHeader
+      (record {
         fault = λ header near. far header (subst (λ (w : ℕ). ValidWithin mend w header) (front-word head after four) near);
-        first = clear-two (mending mend) (head ++ after) enough;
-      }
+        first = clear-two (naming mend) (head ++ after) bits (enough after);
+      })
 
   refuses-foreign : (header : ℕ) → ValidWithin mend (received head) header → ((format : Format) → HasFormat (fieldsIn header) format → ⊥)
-      → Refuses (mending mend) (head ++ after) OtherType
-  refuses-foreign header near none =
+      → RefusesAll mend head OtherType
+  refuses-foreign header near none after room =
       let near′ : ValidWithin mend (received (head ++ after)) header = subst (λ (w : ℕ). ValidWithin mend w header) (sym (front-word head after four)) near in
-      record { fault = (header, near′, none); first = clear-three (mending mend) (head ++ after) enough header near′ }
+      refused-packet (naming mend) (head ++ after) room OtherType
+      (record { fault = (header, near′, none); first = clear-three (naming mend) (head ++ after) bits (enough after) header near′ })
+
+-- what a test says of each number, it says whichever is named
+whichever : (test : ℕ → Bool) (Said : ℕ → Type 0) → ((mend : ℕ) → T (test mend) → Said mend) → (numbers : List ℕ) → T (every test numbers)
+    → Naming numbers Said
+unfolding every
+whichever test Said says [] t = tt
+whichever test Said says (mend ∷ numbers) t =
+    (says mend (and-left (test mend) (every test numbers) t), whichever test Said says numbers (and-right (test mend) (every test numbers) t))
 
 -- ---- data, by a reading that computes
 
@@ -221,13 +232,16 @@ tests (checks flag length check bytes) =
     let h = received (flag ∷ bytes) in
     ltb h (2 ^ 32) ∷ valid h ∷ eqb (flagIn h) flag ∷ eqb (lengthIn h) length ∷ eqb (checkIn h) check ∷ []
 tests (heads format sync length bytes) = same (bytesOf (headerFor format sync length)) bytes ∷ []
-tests (reads mend head format sync length mended) =
-    let d = distance (received head) (headerFor format sync length) in ltb length (2 ^ 14) ∷ _&&_ (leb d mend) (eqb mended d) ∷ []
-tests (hopeless mend head) = eqb (length head) 4 ∷ ltb (received head) (2 ^ 32) ∷ none mend (received head) ∷ []
-tests (foreign mend head header mended) =
+tests (reads numbers head format sync length mended) =
+    let d = distance (received head) (headerFor format sync length) in
+    ltb length (2 ^ 14) ∷ every (λ (mend : ℕ). _&&_ (leb d mend) (eqb mended d)) numbers ∷ []
+tests (hopeless numbers head) =
+    eqb (length head) 4 ∷ ltb (received head) (2 ^ 32) ∷ every (λ (mend : ℕ). _&&_ (leb mend 2) (none mend (received head))) numbers ∷ []
+tests (foreign numbers head header mended) =
     let h = received header in
     let d = distance (received head) h in
-    eqb (length head) 4 ∷ ltb h (2 ^ 32) ∷ valid h ∷ _&&_ (leb d mend) (eqb mended d) ∷ other (fieldsIn h) ∷ []
+    eqb (length head) 4 ∷ ltb h (2 ^ 32) ∷ valid h ∷ every (λ (mend : ℕ). _&&_ (leb mend 2) (_&&_ (leb d mend) (eqb mended d))) numbers ∷ other (fieldsIn h) ∷ []
+tests (unnamed numbers) = every (ltb 2) numbers ∷ []
 tests (writes format text carried) = same (dataOf format text) carried ∷ comes-to (reading format carried) (comesBack format text) ∷ []
 tests (carries format text carried) = comes-to (reading format carried) text ∷ []
 tests (stops format carried bit) = stuck-at (reading format carried) bit ∷ []
@@ -250,20 +264,39 @@ row-holds (checks flag length check bytes) (small, (v, (f, (l, (c, t))))) =
     let h = received (flag ∷ bytes) in
     (valid-by-test h (ltb→lt h (2 ^ 32) small) v, eqb→eq (flagIn h) flag f, eqb→eq (lengthIn h) length l, eqb→eq (checkIn h) check c)
 row-holds (heads format sync length bytes) (p, t) = same-is (bytesOf (headerFor format sync length)) bytes p
-row-holds (reads mend head format sync length mended) (small, (near, t)) =
+row-holds (reads numbers head format sync length mended) (small, (near, t)) =
     let few = ltb→lt length (2 ^ 14) small in
-    let header = headerFor format sync length in (
-      mends-by-test mend (received head) header mended (header-valid format sync length few) near,
+    let header = headerFor format sync length in
+    let d = distance (received head) header in (
+      whichever (λ (mend : ℕ). _&&_ (leb d mend) (eqb mended d)) (λ (mend : ℕ). MendsWithin mend (received head) (Mended header mended))
+          (λ mend. mends-by-test mend (received head) header mended (header-valid format sync length few)) numbers near,
       header-typed format sync length few,
       header-sync format sync length few,
       header-length format sync length few,
     )
-row-holds (hopeless mend head) (four, (small, (far, t))) = λ after room.
-    refused-packet (mending mend) (head ++ after) room NoHeader (refuses-hopeless mend head (eqb→eq (length head) 4 four) after room (none-near mend (received head) (ltb→lt (received head) (2 ^ 32) small) far))
-row-holds (foreign mend head header mended) (four, (small, (v, (near, (none, t))))) =
+row-holds (hopeless numbers head) (four, (small, (far, t))) =
+    whichever (λ (mend : ℕ). _&&_ (leb mend 2) (none mend (received head))) (λ (mend : ℕ). RefusesAll mend head NoHeader)
+    (λ mend p.
+    refuses-hopeless mend (leb→le mend 2 (and-left (leb mend 2) (none mend (received head)) p)) head (eqb→eq (length head) 4 four)
+    (none-near mend (received head) (ltb→lt (received head) (2 ^ 32) small) (and-right (leb mend 2) (none mend (received head)) p)))
+    numbers far
+row-holds (foreign numbers head header mended) (four, (small, (v, (near, (none, t))))) =
     let h = received header in
-    let mends = mends-by-test mend (received head) h mended (valid-by-test h (ltb→lt h (2 ^ 32) small) v) near in
-    (mends, λ after room. refused-packet (mending mend) (head ++ after) room OtherType (refuses-foreign mend head (eqb→eq (length head) 4 four) after room h (mends .0) (other-none (fieldsIn h) none)))
+    let d = distance (received head) h in
+    whichever (λ (mend : ℕ). _&&_ (leb mend 2) (_&&_ (leb d mend) (eqb mended d)))
+    (λ (mend : ℕ). MendsWithin mend (received head) (Mended h mended) × RefusesAll mend head OtherType)
+    (λ mend p.
+    let mends =
+    mends-by-test mend (received head) h mended (valid-by-test h (ltb→lt h (2 ^ 32) small) v) (and-right (leb mend 2) (_&&_ (leb d mend) (eqb mended d)) p) in (
+      mends,
+      refuses-foreign mend (leb→le mend 2 (and-left (leb mend 2) (_&&_ (leb d mend) (eqb mended d)) p)) head (eqb→eq (length head) 4 four) h (mends .0) (other-none (fieldsIn h) none),
+    ))
+    numbers near
+row-holds (unnamed numbers) (many, t) =
+    whichever (ltb 2) (λ (mend : ℕ). RefusesAll mend [] TooManyBits)
+    (λ mend p after room.
+    refused-packet (naming mend) after room TooManyBits (too-many (naming mend) after (λ few. omega (arith, few, ltb→lt 2 mend p))))
+    numbers many
 row-holds (writes format text carried) (made, (read, t)) = (same-is (dataOf format text) carried made, carries-by-test format (comesBack format text) carried read)
 row-holds (carries format text carried) (read, t) = carries-by-test format text carried read
 row-holds (stops format carried bit) (read, t) = stops-by-test format carried bit read
@@ -296,7 +329,7 @@ unfolding Passed every-row every-test tests same other ours reading comes-to stu
     numeric-writer.sentFor numeric-writer.ours numeric-writer.comesBack shef.table shef-writer.coded shef-writer.own shef-writer.ours
     ascii.six ascii.seven ascii.special ascii.pair ascii.table ascii-writer.own ascii-writer.ours
 computed =
-    (tt, (tt, (tt, (tt, (tt, (tt, (tt, (tt, (tt, (tt, (tt, (tt, (tt, (tt, (tt, (tt, (tt, (tt, (tt, (tt, (tt, (tt, (tt, (tt, (tt, (tt, (tt, (tt, (tt, (tt, (tt, (tt, (tt, (tt, (tt, (tt, (tt, (tt, (tt, (tt, (tt, (tt, (tt, (tt, (tt, (tt, tt))))))))))))))))))))))))))))))))))))))))))))))
+    (tt, (tt, (tt, (tt, (tt, (tt, (tt, (tt, (tt, (tt, (tt, (tt, (tt, (tt, (tt, (tt, (tt, (tt, (tt, (tt, (tt, (tt, (tt, (tt, (tt, (tt, (tt, (tt, (tt, (tt, (tt, (tt, (tt, (tt, (tt, (tt, (tt, (tt, (tt, (tt, (tt, (tt, (tt, (tt, (tt, (tt, (tt, (tt, (tt, (tt, (tt, (tt, tt))))))))))))))))))))))))))))))))))))))))))))))))))))
 
 -- the one statement: every row of the table
 pub edges-hold : Every edges

@@ -5,6 +5,7 @@ use mathlib.Core.List.{List, [], _∷_, _++_}
 use mathlib.Core.Logic.{_⊎_, _↔_}
 use mathlib.Core.Path.{_≡_, refl, sym, ap, ap₂, _∙_, subst}
 use Prim.Native.Nat.{ℕ, _+_, _≤_, _<_}
+use native.Mathlib.Decide.{decLe}
 use native.Mathlib.Omega.{arith}
 use lib.ListN.{length, getD, take, drop, length-append, length-drop, List·getD-append}
 use lib.Seq.{take-append-le, drop-append-le}
@@ -19,24 +20,23 @@ use Rattle.pseudo_binary.proofs.Makers as pseudo-makers
 use Rattle.shef.proofs.Writer as shef-writer
 use Rattle.formats.specs.Data.{Carries, Unreadable}
 use Rattle.refusals.specs.declared.ExamineRefusal.{ExamineRefusal}
-use Rattle.refusals.specs.declared.ExamineRefusal.the-variants.{Short, NoHeader, OtherType, OtherLength, CutOff, Checksum, Malformed}
+use Rattle.refusals.specs.declared.ExamineRefusal.the-variants.{TooManyBits, Short, NoHeader, OtherType, OtherLength, CutOff, Checksum, Malformed}
 use Rattle.refusals.specs.declared.ReadRefusal.{ReadRefusal}
 use Rattle.refusals.specs.declared.ReadRefusal.the-variants.{Packet, NoRoom}
-use Rattle.refusals.proofs.Known.{examine-numbers}
 use Rattle.terms.specs.declared.Terms.{Terms}
 use Rattle.reader.specs.declared.Reading.{Reading}
 use Rattle.reader.specs.declared.ExamineAnswer.{ExamineAnswer}
 use Rattle.reader.specs.declared.ExamineAnswer.the-variants.{Readable, Refused as NotReadable}
 use Rattle.reader.specs.declared.ReadAnswer.{ReadAnswer}
 use Rattle.reader.specs.declared.ReadAnswer.the-variants.{Accepted, Refused as NotRead}
-use Rattle.reader.specs.Examine.{Fault, Refuses, Framed, Allowed, readingOf, Accepts, Examines}
+use Rattle.reader.specs.Examine.{Fault, Refuses, Allowed, readingOf, Accepts, Examines}
 use Rattle.packet.specs.Packet.{received, dataIn, sumIn}
 use Rattle.reader.specs.Reader.{ReadFault, Reads}
-use Rattle.terms.specs.Terms.{MayBeNamed}
-use Rattle.reader.proofs.ExamineOnce.{examines-one}
+use Rattle.terms.specs.Terms.{OnePacket, MayBeNamed}
+use Rattle.reader.proofs.ExamineOnce.{examined-too-many, examines-one}
 use Rattle.reader.proofs.Headers.{one-header, under}
 use Rattle.reader.proofs.ReadAnswers.{no-room, read-into}
-use Rattle.reader.proofs.ReadOnce.{reads-one, refused-packet, packet-refused}
+use Rattle.reader.proofs.ReadOnce.{refused-packet, packet-refused, read-too-many, reads-one}
 use Rattle.writer.proofs.WriteOnce.{writes-one}
 use Rattle.demands.specs.OneAnswer.{OneAnswer, OneBuilding, Buildings, Agreement, NothingAfter}
 
@@ -46,9 +46,9 @@ one-building = record { in-numeric = numeric-writer.one-building; in-shef = shef
 pub buildings : Buildings
 buildings = record { in-pseudo-binary = pseudo-makers.builds-back }
 
-module _ (terms : Terms) (named : MayBeNamed terms) where
+module _ (terms : Terms) (bytes : OnePacket (terms .most)) where
   pub one-answer : OneAnswer terms
-  one-answer = record { examines-one = examines-one terms named; reads-one = reads-one terms named; writes-one = writes-one terms }
+  one-answer = record { examines-one = examines-one terms bytes; reads-one = reads-one terms bytes; writes-one = writes-one terms }
 
   -- ---- examined and read
 
@@ -56,11 +56,11 @@ module _ (terms : Terms) (named : MayBeNamed terms) where
       → (refusal : ExamineRefusal) → (examined ≡ NotReadable refusal) ↔ (read ≡ NotRead (Packet refusal))
   both-refuse packet entry exit examined read examines reads r = (
     λ e.
-        reads-one terms named packet entry read (NotRead (Packet r)) exit entry reads
+        reads-one terms bytes packet entry read (NotRead (Packet r)) exit entry reads
         (refused-packet terms packet (length entry) r (subst (Examines terms packet) e examines), refl)
         .0,
     λ e.
-        examines-one terms named packet examined (NotReadable r) examines
+        examines-one terms bytes packet examined (NotReadable r) examines
         (packet-refused terms packet (length entry) r (subst (λ (a : ReadAnswer). Reads terms packet entry a exit) e reads .0)),
   )
 
@@ -69,12 +69,12 @@ module _ (terms : Terms) (named : MayBeNamed terms) where
     both-refuse = both-refuse;
     room-decides = λ packet entry exit reading read examines reads. (
       λ held.
-          reads-one terms named packet entry read (Accepted reading) exit (examines .0 ++ drop (length (examines .0)) entry) reads
+          reads-one terms bytes packet entry read (Accepted reading) exit (examines .0 ++ drop (length (examines .0)) entry) reads
           (read-into terms packet entry reading (examines .0) (examines .1) held)
           .0,
       λ short.
-          reads-one terms named packet entry read (NotRead (NoRoom (reading .«text_length»))) exit entry reads
-          (no-room terms packet named entry reading (examines .0) (examines .1) (reading .«text_length») refl short)
+          reads-one terms bytes packet entry read (NotRead (NoRoom (reading .«text_length»))) exit entry reads
+          (no-room terms packet (record { bits = examines .1 .allowed .framed .bits; bytes = bytes }) entry reading (examines .0) (examines .1) (reading .«text_length») refl short)
           .0,
     );
   }
@@ -86,6 +86,7 @@ module _ (terms : Terms) (named : MayBeNamed terms) (p q : List ℕ) (header : �
     (near′ : ValidWithin (terms .mend) (received q) header) (whole : lengthIn header + 6 ≤ length p) (same-data : dataIn header q ≡ dataIn header p)
     (same-sum : sumIn header q ≡ sumIn header p) where
   moves : (r : ExamineRefusal) → Fault terms p r → Fault terms q r
+  moves TooManyBits f = f
   moves Short f = absurd (let no′ : ⊥ = omega arith in no′)
   moves NoHeader f = absurd (f header near)
   moves OtherType f = (header, near′, under terms named p (λ (h : ℕ). (k : Format) → HasFormat (fieldsIn h) k → ⊥) header near f)
@@ -151,6 +152,7 @@ module _ (terms : Terms) (named : MayBeNamed terms) (packet after : List ℕ) (h
   allowed-behind format text a =
       record {
         framed = record {
+          bits = a .framed .bits;
           near = near-behind;
           typed = a .framed .typed;
           some = a .framed .some;
@@ -190,10 +192,24 @@ module _ (terms : Terms) (named : MayBeNamed terms) (packet after : List ℕ) (h
     e,
   )
 
-pub nothing-after : (terms : Terms) → MayBeNamed terms → NothingAfter terms
-nothing-after terms named = record {
-  examined-alone = λ packet after header near whole a b p q.
-      examines-one terms named (packet ++ after) a b (examined-behind terms named packet after header near whole a p) q;
-  read-alone = λ packet after header near whole entry x y a b p q.
-      reads-one terms named (packet ++ after) entry a b x y (read-behind terms named packet after header near whole entry x a p) q;
-}
+pub nothing-after : (terms : Terms) → OnePacket (terms .most) → NothingAfter terms
+nothing-after terms bytes = pick (decLe (terms .mend) 2)
+  where
+    pick : Dec (terms .mend ≤ 2) → NothingAfter terms
+    pick (yes bits) =
+        let named : MayBeNamed terms = record { bits = bits; bytes = bytes } in
+        record {
+          examined-alone = λ packet after header near whole a b p q.
+              examines-one terms bytes (packet ++ after) a b (examined-behind terms named packet after header near whole a p) q;
+          read-alone = λ packet after header near whole entry x y a b p q.
+              reads-one terms bytes (packet ++ after) entry a b x y (read-behind terms named packet after header near whole entry x a p) q;
+        }
+    pick (no many) =
+        record {
+          examined-alone = λ packet after header near whole a b p q.
+              examined-too-many terms packet many a p ∙ sym (examined-too-many terms (packet ++ after) many b q);
+          read-alone = λ packet after header near whole entry x y a b p q.
+              let alone = read-too-many terms packet entry many a x p in
+              let behind = read-too-many terms (packet ++ after) entry many b y q in
+              (alone .0 ∙ sym (behind .0), alone .1 ∙ sym (behind .1));
+        }

@@ -1,26 +1,30 @@
--- What was promised holds under all terms that may be named, and so under those that the entry points name.
+-- What was promised holds whatever number of bits is named, and so where none is named.
 -- Assumes nothing.
+use Prim.Native.Nat.{ℕ}
+use native.Mathlib.Omega.{arith}
 use Rattle.terms.specs.declared.Terms.{Terms}
-use Rattle.terms.specs.Terms.{MayBeNamed, usual}
-use Rattle.terms.proofs.Usual.{usual-named}
+use Rattle.terms.specs.Terms.{OnePacket, naming, usual}
 use Rattle.demands.specs.Promised.{Promised}
 use Rattle.demands.proofs.Demand1 as first
 use Rattle.demands.proofs.Demand2 as second
 use Rattle.demands.proofs.Demand3 as third
 use Rattle.demands.proofs.OneAnswer as beside
 
-pub kept : (terms : Terms) → MayBeNamed terms → Promised terms
-kept terms named = record {
-  demand-1 = first.demand-1 terms named;
+pub kept : (terms : Terms) → OnePacket (terms .most) → Promised terms
+kept terms bytes = record {
+  demand-1 = first.demand-1 terms bytes;
   conditions = first.conditions terms;
-  demand-2 = second.demand-2 terms named;
-  demand-3 = third.demand-3 terms named;
-  one-answer = beside.one-answer terms named;
+  demand-2 = λ bits. second.demand-2 terms (record { bits = bits; bytes = bytes });
+  demand-3 = λ bits. third.demand-3 terms (record { bits = bits; bytes = bytes });
+  one-answer = beside.one-answer terms bytes;
   one-building = beside.one-building;
   buildings = beside.buildings;
-  agreement = beside.agreement terms named;
-  nothing-after = beside.nothing-after terms named;
+  agreement = beside.agreement terms bytes;
+  nothing-after = beside.nothing-after terms bytes;
 }
 
+pub kept-naming : (mend : ℕ) → Promised (naming mend)
+kept-naming mend = kept (naming mend) (omega arith)
+
 pub kept-usually : Promised usual
-kept-usually = kept usual usual-named
+kept-usually = kept-naming 1

@@ -1,6 +1,7 @@
 -- Demand 1. Every entry point takes what it is handed, at any length, and ends. Each kind of bad input has one refusal number, given under its stated
 -- condition and under no other. A refusal changes no byte of a lent buffer; an accepted call writes only the bytes that it counts.
--- The first sentence is what a check says of each function that requires nothing, as `reader::examine`, `reader::read` and `writer::write`.
+-- The first sentence is what a check says of each function that requires nothing, as `reader::examine`, `reader::read`, `reader::examine_mending`,
+-- `reader::read_mending` and `writer::write`. The rest holds whatever number of bits is named.
 -- Assumes nothing.
 use mathlib.Core.Bool.{Bool}
 use mathlib.Core.List.{List}
@@ -19,7 +20,7 @@ use Rattle.formats.specs.Data.{Carries, Unreadable, AllCoded, Uncoded, comesBac
 use Rattle.refusals.specs.declared.ExamineRefusal.{ExamineRefusal}
 use Rattle.refusals.specs.declared.ReadRefusal.{ReadRefusal}
 use Rattle.refusals.specs.declared.WriteRefusal.{WriteRefusal}
-use Rattle.refusals.specs.Match.{ToldAs, byNumber, writerTurn}
+use Rattle.refusals.specs.Match.{ToldAs, readerTurn, writerTurn}
 use Rattle.refusals.specs.Refusals.{Told, examineTold, readTold, writeTold}
 use Rattle.terms.specs.declared.Terms.{Terms}
 use Rattle.reader.specs.declared.Reading.{Reading}
@@ -49,12 +50,12 @@ StuckAt Shef carried bit = DataGives shef.scheme carried (stuck bit)
 StuckAt FullAscii carried bit = DataGives ascii.scheme carried (stuck bit)
 
 pub record Demand1 (terms : Terms) : Type 0 where
-  -- Each kind of bad input has one refusal number, given under its stated condition and under no other: 1 to 7 in this order,
+  -- Each kind of bad input has one refusal number, given under its stated condition and under no other: 17, then 1 to 7,
   pub examine-refuses : (packet : List ℕ) (answer : ExamineAnswer) → Examines terms packet answer
-      → RefusedExactly ExamineRefusal examineTold (Fault terms packet) byNumber (λ refusal. answer ≡ NotReadable refusal)
-  -- 1 to 8,
+      → RefusedExactly ExamineRefusal examineTold (Fault terms packet) readerTurn (λ refusal. answer ≡ NotReadable refusal)
+  -- 17, then 1 to 8,
   pub read-refuses : (packet entry exit : List ℕ) (answer : ReadAnswer) → Reads terms packet entry answer exit
-      → RefusedExactly ReadRefusal readTold (ReadFault terms packet (length entry)) byNumber (λ refusal. answer ≡ NotRead refusal)
+      → RefusedExactly ReadRefusal readTold (ReadFault terms packet (length entry)) readerTurn (λ refusal. answer ≡ NotRead refusal)
   -- 12, 10, 9, 11, 8.
   pub write-refuses : (number : ℕ) (sync : Bool) (text entry exit : List ℕ) (answer : WriteAnswer) → Writes terms number sync text entry answer exit
       → RefusedExactly WriteRefusal writeTold (WriteFault terms number text (length entry)) writerTurn (λ refusal. answer ≡ NotWritten refusal)

@@ -1,8 +1,9 @@
 -- Demand 2. Packets and text agree with document 001. Text that has codes and fits is written in the named format and sync bit and reads back character
--- for character with both (as what it comes back as: RULES, Formats); empty text is refused. A packet is accepted exactly when its header is no
--- more bits from a valid one than are mended, the document and our limits allow the packet with that header in one of our formats, and the buffer holds
+-- for character with both (as what it comes back as: RULES, Formats); empty text is refused. A packet is accepted exactly when its header is at
+-- most the named number of bits from a valid one, the document and our limits allow the packet with that header in one of our formats, and the buffer holds
 -- its text. Writing that text again in its format gives a packet that reads the same in text and format, room given.
--- The first sentence is what the definitions say, held against the document, and what the published packets show.
+-- The first sentence is what the definitions say, held against the document, and what the published packets show. The rest holds for each number of bits
+-- that may be named.
 -- Assumes nothing.
 use mathlib.Core.Bool.{Bool}
 use mathlib.Core.List.{List, [], _++_}
@@ -49,6 +50,9 @@ abbrev pub StandsInFront : List ℕ → List ℕ → List ℕ → Type 0
 StandsInFront text entry exit = exit ≡ text ++ drop (length text) entry
 
 pub record Demand2 (terms : Terms) : Type 0 where
+  -- (What the writer promises is the same whatever number of bits a reader names.)
+  pub written-whatever-named : (other : Terms) → other .most ≡ terms .most → (number : ℕ) (sync : Bool) (text entry exit : List ℕ) (answer : WriteAnswer)
+      → Writes other number sync text entry answer exit → Writes terms number sync text entry answer exit
   -- Text that has codes and fits is written in the named format and sync bit
   pub written : (format : Format) (sync : Bool) (text entry exit : List ℕ) (answer : WriteAnswer) → Writable terms format text
       → packetLength format text ≤ length entry → Writes terms (formatNumber format) sync text entry answer exit
@@ -68,8 +72,8 @@ pub record Demand2 (terms : Terms) : Type 0 where
   pub empty-refused : (format : Format) (sync : Bool) (entry exit : List ℕ) (answer : WriteAnswer)
       → Writes terms (formatNumber format) sync [] entry answer exit → (answer ≡ NotWritten Empty) × (exit ≡ entry)
   pub empty-never-written : (number : ℕ) (sync : Bool) (entry exit : List ℕ) (n : ℕ) → Writes terms number sync [] entry (Written n) exit → ⊥
-  -- A packet is accepted exactly when its header is no more bits from a valid one than are mended, the document and our limits allow the packet with that
-  -- header in one of our formats, and the buffer holds its text;
+  -- A packet is accepted exactly when its header is at most the named number of bits from a valid one, the document and our limits allow the packet with
+  -- that header in one of our formats, and the buffer holds its text;
   pub accepted-exactly : (packet entry exit : List ℕ) (answer : ReadAnswer) → Reads terms packet entry answer exit
       → ((reading : Reading) × (answer ≡ Accepted reading))
       ↔ ((format : Format) × (header : ℕ) × (text : List ℕ) × Allowed terms packet format header text × (length text ≤ length entry))

@@ -1,7 +1,8 @@
--- Demand 3. Take a packet that any maker could have built under our rules, runs and line ends cut as that maker liked, and flip no more of its 32 header
--- bits than are mended. With data and checksum intact and room for the text, the reader returns exactly the sent text (as what it comes back as:
+-- Demand 3. Take a packet that any maker could have built under our rules, runs and line ends cut as that maker liked, and flip up to the named number of
+-- its 32 header bits. With data and checksum intact and room for the text, the reader returns exactly the sent text (as what it comes back as:
 -- RULES, Formats), format and sync bit, with the true number of mended bits. If instead only one data byte or two neighbouring ones changed, or only one
--- or both checksum bytes, it refuses by checksum and hands out nothing.
+-- or both checksum bytes, it refuses by checksum and hands out nothing. And with more header bits flipped than named, but together with the named number at
+-- most four, the answer is refusal 2, never another reading. All this holds for each number that may be named.
 -- Assumes nothing.
 use mathlib.Core.Bool.{Bool}
 use mathlib.Core.List.{List, [], _∷_, _++_}
@@ -16,14 +17,17 @@ use Rattle.distance.specs.Distance.{distance}
 use Rattle.checksum.specs.Alike.{AlikeBut}
 use Rattle.checksum.specs.Checksum.{checksumBytes}
 use Rattle.formats.specs.Data.{comesBack}
-use Rattle.refusals.specs.declared.ExamineRefusal.the-variants.{Checksum}
+use Rattle.refusals.specs.declared.ExamineRefusal.the-variants.{NoHeader, Checksum}
 use Rattle.refusals.specs.declared.ReadRefusal.the-variants.{Packet}
 use Rattle.terms.specs.declared.Terms.{Terms}
+use Rattle.reader.specs.declared.ExamineAnswer.{ExamineAnswer}
+use Rattle.reader.specs.declared.ExamineAnswer.the-variants.{Refused as NotReadable}
 use Rattle.reader.specs.declared.ReadAnswer.{ReadAnswer}
 use Rattle.reader.specs.declared.ReadAnswer.the-variants.{Accepted, Refused}
 use Rattle.packet.specs.Packet.{received}
+use Rattle.reader.specs.Examine.{Examines}
 use Rattle.reader.specs.Reader.{Reads}
-use Rattle.demands.specs.Makers.{Made, Flipped, arriving, readingWith}
+use Rattle.demands.specs.Makers.{Made, Flipped, FlippedBeyond, arriving, readingWith}
 
 -- what the reader does with the packet in its slice: it refuses by checksum, and the buffer is as it was
 abbrev pub RefusedByChecksum : List ℕ → ReadAnswer → List ℕ → Type 0
@@ -48,3 +52,12 @@ pub record Demand3 (terms : Terms) : Type 0 where
       → Flipped terms packet word → (after entry exit : List ℕ) (answer : ReadAnswer) (low high : ℕ) → low ∷ high ∷ [] ≢ checksumBytes (made .carried)
       → Reads terms (bytesOf word ++ (made .carried ++ (low ∷ high ∷ after))) entry answer exit
       → RefusedByChecksum entry answer exit
+  -- With more header bits flipped than named, but together with the named number at most four, whatever stands behind the header: refusal 2, and nothing
+  -- handed out;
+  pub beyond : (format : Format) (sync : Bool) (text packet : List ℕ) → Made terms format sync text packet → (word : ℕ) → FlippedBeyond terms packet word
+      → (behind entry exit : List ℕ) (answer : ReadAnswer) → Reads terms (bytesOf word ++ behind) entry answer exit
+      → (answer ≡ Refused (Packet NoHeader)) × (exit ≡ entry)
+  -- also without a buffer.
+  pub beyond-examined : (format : Format) (sync : Bool) (text packet : List ℕ) → Made terms format sync text packet → (word : ℕ)
+      → FlippedBeyond terms packet word → (behind : List ℕ) (answer : ExamineAnswer) → Examines terms (bytesOf word ++ behind) answer
+      → answer ≡ NotReadable NoHeader

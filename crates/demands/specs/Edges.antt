@@ -14,24 +14,25 @@ use Rattle.mending.specs.declared.Mending.the-variants.{Mended}
 use Rattle.mending.specs.Mends.{MendsWithin}
 use Rattle.formats.specs.Data.{Carries, Unreadable, Uncoded, dataOf, comesBack}
 use Rattle.refusals.specs.declared.ExamineRefusal.{ExamineRefusal}
-use Rattle.refusals.specs.declared.ExamineRefusal.the-variants.{NoHeader, OtherType}
+use Rattle.refusals.specs.declared.ExamineRefusal.the-variants.{TooManyBits, NoHeader, OtherType}
 use Rattle.refusals.specs.declared.ReadRefusal.the-variants.{Packet}
-use Rattle.terms.specs.declared.Terms.{Terms}
 use Rattle.packet.specs.Packet.{received, headerFor}
 use Rattle.reader.specs.Reader.{ReadRefuses}
-use Rattle.terms.specs.Terms.{usual}
+use Rattle.terms.specs.Terms.{naming}
 
 pub data Edge : Type 0 where
   -- the check bits of a flag and a length, and the three bytes that follow the flag
   checks : (flag length check : ℕ) → List ℕ → Edge
   -- the header that we send for a format, a sync bit and a length
   heads : Format → (sync : Bool) (length : ℕ) → List ℕ → Edge
-  -- where so many bits may be mended, a received header is read as this format, sync bit and length, with so many bits mended
-  reads : (mend : ℕ) → List ℕ → Format → (sync : Bool) (length mended : ℕ) → Edge
-  -- a received header is too far from any valid one: refusal 2, whatever follows it
-  hopeless : (mend : ℕ) → List ℕ → Edge
-  -- a received header is mended to one, with so many bits, whose type is none of ours: refusal 3, whatever follows it
-  foreign : (mend : ℕ) (head header : List ℕ) (mended : ℕ) → Edge
+  -- whichever of these numbers of bits is named, a received header is read as this format, sync bit and length, with so many bits mended
+  reads : (numbers : List ℕ) → List ℕ → Format → (sync : Bool) (length mended : ℕ) → Edge
+  -- whichever is named, a received header is too far from any valid one: refusal 2, whatever follows it
+  hopeless : (numbers : List ℕ) → List ℕ → Edge
+  -- whichever is named, a received header is mended to one, with so many bits, whose type is none of ours: refusal 3, whatever follows it
+  foreign : (numbers : List ℕ) (head header : List ℕ) (mended : ℕ) → Edge
+  -- none of these numbers may be named: refusal 17, whatever the packet is
+  unnamed : (numbers : List ℕ) → Edge
   -- our writer makes this data of the text, and the data carries what the text comes back as
   writes : Format → (text carried : List ℕ) → Edge
   -- the data carries the text
@@ -41,25 +42,27 @@ pub data Edge : Type 0 where
   -- the first character of the text that has no code is this one
   lacks : Format → (text : List ℕ) (index : ℕ) → Edge
 
--- terms that name so many bits to mend
-abbrev pub mending : ℕ → Terms
-mending mend = record { mend = mend; most = usual .most }
+-- it is so whichever of the numbers is named
+abbrev pub Naming : List ℕ → (ℕ → Type 0) → Type 0
+Naming [] Said = Unit {0}
+Naming (mend ∷ numbers) Said = Said mend × Naming numbers Said
 
 -- a packet that starts with these bytes is refused, whatever follows and whatever the room
 abbrev pub RefusesAll : ℕ → List ℕ → ExamineRefusal → Type 0
-RefusesAll mend head refusal = (after : List ℕ) (room : ℕ) → ReadRefuses (mending mend) (head ++ after) room (Packet refusal)
+RefusesAll mend head refusal = (after : List ℕ) (room : ℕ) → ReadRefuses (naming mend) (head ++ after) room (Packet refusal)
 
 abbrev pub Holds : Edge → Type 0
 Holds (checks flag length check bytes) =
     let header = received (flag ∷ bytes) in
     Valid header × (flagIn header ≡ flag) × (lengthIn header ≡ length) × (checkIn header ≡ check)
 Holds (heads format sync length bytes) = bytesOf (headerFor format sync length) ≡ bytes
-Holds (reads mend head format sync length mended) =
+Holds (reads numbers head format sync length mended) =
     let header = headerFor format sync length in
-    MendsWithin mend (received head) (Mended header mended) × HasFormat (fieldsIn header) format × (fieldsIn header .sync ≡ sync) × (lengthIn header ≡ length)
-Holds (hopeless mend head) = RefusesAll mend head NoHeader
-Holds (foreign mend head header mended) =
-    MendsWithin mend (received head) (Mended (received header) mended) × RefusesAll mend head OtherType
+    Naming numbers (λ mend. MendsWithin mend (received head) (Mended header mended)) × HasFormat (fieldsIn header) format × (fieldsIn header .sync ≡ sync) × (lengthIn header ≡ length)
+Holds (hopeless numbers head) = Naming numbers (λ mend. RefusesAll mend head NoHeader)
+Holds (foreign numbers head header mended) =
+    Naming numbers (λ mend. MendsWithin mend (received head) (Mended (received header) mended) × RefusesAll mend head OtherType)
+Holds (unnamed numbers) = Naming numbers (λ mend. RefusesAll mend [] TooManyBits)
 Holds (writes format text carried) = (dataOf format text ≡ carried) × Carries format (comesBack format text) carried
 Holds (carries format text carried) = Carries format text carried
 Holds (stops format carried bit) = Unreadable format carried bit
@@ -75,11 +78,19 @@ edges =
     ∷ heads Open false 4000 (0x40 ∷ 0x3E ∷ 0x80 ∷ 0xD1 ∷ [])
     ∷ heads FullAscii false 1 (0xD0 ∷ 0x00 ∷ 0x04 ∷ 0x30 ∷ [])
     -- P5
-    ∷ reads 2 (0xC1 ∷ 0x00 ∷ 0x04 ∷ 0xDD ∷ []) Open false 1 2
+    ∷ reads (2 ∷ []) (0xC1 ∷ 0x00 ∷ 0x04 ∷ 0xDD ∷ []) Open false 1 2
+    ∷ hopeless (0 ∷ 1 ∷ []) (0xC1 ∷ 0x00 ∷ 0x04 ∷ 0xDD ∷ [])
     -- P6
-    ∷ hopeless 2 (0x40 ∷ 0x00 ∷ 0x04 ∷ 0xDA ∷ [])
+    ∷ hopeless (0 ∷ 1 ∷ 2 ∷ []) (0x40 ∷ 0x00 ∷ 0x04 ∷ 0xDA ∷ [])
     -- P7
-    ∷ foreign 2 (0x00 ∷ 0x00 ∷ 0x00 ∷ 0x00 ∷ []) (0x80 ∷ 0x00 ∷ 0x00 ∷ 0x00 ∷ []) 1
+    ∷ foreign (1 ∷ 2 ∷ []) (0x00 ∷ 0x00 ∷ 0x00 ∷ 0x00 ∷ []) (0x80 ∷ 0x00 ∷ 0x00 ∷ 0x00 ∷ []) 1
+    ∷ hopeless (0 ∷ []) (0x00 ∷ 0x00 ∷ 0x00 ∷ 0x00 ∷ [])
+    -- M1
+    ∷ unnamed (3 ∷ 4 ∷ 256 ∷ 65536 ∷ 4294967295 ∷ [])
+    -- M2
+    ∷ reads (0 ∷ 1 ∷ 2 ∷ []) (0x40 ∷ 0x00 ∷ 0x04 ∷ 0xDD ∷ []) Open false 1 0
+    ∷ reads (1 ∷ 2 ∷ []) (0xC0 ∷ 0x00 ∷ 0x04 ∷ 0xDD ∷ []) Open false 1 1
+    ∷ hopeless (0 ∷ []) (0xC0 ∷ 0x00 ∷ 0x04 ∷ 0xDD ∷ [])
     -- P8
     ∷ writes PseudoBinary (65 ∷ 66 ∷ []) (0x81 ∷ 0x04 ∷ 0x2F ∷ [])
     -- P9

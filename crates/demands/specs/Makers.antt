@@ -24,10 +24,16 @@ pub record Made (terms : Terms) (format : Format) (sync : Bool) (text packet : L
   pub few : length carried ≤ terms .most
   pub is : packet ≡ packetOf (headerFor format sync (length carried)) carried
 
--- 32 bits that differ from the packet's header in no more than are mended
+-- 32 bits that differ from the packet's header in no more than the named number
 pub record Flipped (terms : Terms) (packet : List ℕ) (word : ℕ) : Type 0 where
   pub bits : word < 2 ^ 32
   pub few : distance word (received packet) ≤ terms .mend
+
+-- 32 bits that differ from it in more, but so that these and the number that is named are four at most
+pub record FlippedBeyond (terms : Terms) (packet : List ℕ) (word : ℕ) : Type 0 where
+  pub bits : word < 2 ^ 32
+  pub more : terms .mend < distance word (received packet)
+  pub few : terms .mend + distance word (received packet) ≤ 4
 
 -- the packet with those for its header, and whatever follows it
 unfoldable pub arriving : ℕ → List ℕ → List ℕ → List ℕ

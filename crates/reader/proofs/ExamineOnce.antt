@@ -2,8 +2,8 @@
 -- Assumes nothing.
 use mathlib.Core.List.{List}
 use mathlib.Core.Path.{_≡_, refl, sym, ap, _∙_, subst, subst₂}
-use Prim.Native.Nat.{ℕ}
-use native.Mathlib.Omega.{arith}
+use Prim.Native.Nat.{ℕ, _≤_}
+use native.Mathlib.Decide.{decLe}
 use Rattle.header.specs.declared.Format.{Format}
 use Rattle.header.specs.Fields.{fieldsIn}
 use Rattle.header.specs.Formats.{HasFormat}
@@ -11,19 +11,19 @@ use Rattle.header.proofs.Formats.{one-format}
 use Rattle.formats.specs.Data.{Carries, Unreadable}
 use Rattle.formats.proofs.Formats.{carries-one, unreadable-one}
 use Rattle.refusals.specs.declared.ExamineRefusal.{ExamineRefusal}
-use Rattle.refusals.specs.declared.ExamineRefusal.the-variants.{Short, NoHeader, OtherType, OtherLength, CutOff, Checksum, Malformed}
-use Rattle.refusals.specs.Match.{byNumber}
+use Rattle.refusals.specs.declared.ExamineRefusal.the-variants.{TooManyBits, Short, NoHeader, OtherType, OtherLength, CutOff, Checksum, Malformed}
+use Rattle.refusals.specs.Match.{turnIn, readerTurn}
 use Rattle.refusals.specs.Refusals.{numberIn, valueIn, examineTold}
-use Rattle.refusals.proofs.Known.{examineFrom, examineKnown, examine-numbers}
-use Rattle.refusals.proofs.Refused.{match-one}
+use Rattle.refusals.proofs.Known.{examineFrom, examineKnown, examine-at-turn, examine-one-number, before-room}
+use Rattle.refusals.proofs.Refused.{match-one, first-of-all}
 use Rattle.terms.specs.declared.Terms.{Terms}
 use Rattle.reader.specs.declared.Reading.{Reading}
 use Rattle.reader.specs.declared.ExamineAnswer.{ExamineAnswer}
 use Rattle.reader.specs.declared.ExamineAnswer.the-variants.{Readable, Refused}
 use Rattle.reader.specs.Examine.{Fault, Refuses, readingOf, Accepts, Examines}
 use Rattle.packet.specs.Packet.{received, dataIn}
-use Rattle.terms.specs.Terms.{MayBeNamed}
-use Rattle.reader.proofs.ExamineStages.{clear-eight}
+use Rattle.terms.specs.Terms.{MayMend, OnePacket, MayBeNamed}
+use Rattle.reader.proofs.ExamineStages.{clear-seventeen, clear-eight}
 use Rattle.reader.proofs.Headers.{one-header, under}
 
 module _ (terms : Terms) (named : MayBeNamed terms) (packet : List ℕ) where
@@ -37,6 +37,7 @@ module _ (terms : Terms) (named : MayBeNamed terms) (packet : List ℕ) where
   one-value : (r : ExamineRefusal) (v : ℕ) → Fault terms packet r → Fault terms packet (examineFrom (numberIn (examineTold r)) v)
       → valueIn (examineTold r) ≡ valueIn (examineTold (examineFrom (numberIn (examineTold r)) v))
   unfolding examineFrom
+  one-value TooManyBits v f g = refl
   one-value Short v f g = refl
   one-value NoHeader v f g = refl
   one-value OtherType v f g = refl
@@ -46,13 +47,13 @@ module _ (terms : Terms) (named : MayBeNamed terms) (packet : List ℕ) where
   one-value (Malformed i) v f g = places i v f g
 
   pub refuses-one : (r s : ExamineRefusal) → Refuses terms packet r → Refuses terms packet s → r ≡ s
-  refuses-one = match-one examineKnown (Fault terms packet) byNumber (λ r s e. e) one-value
+  refuses-one = match-one examineKnown (Fault terms packet) readerTurn examine-one-number one-value
 
   -- what is accepted meets no refusal's condition
   pub accepts-no-fault : (reading : Reading) (text : List ℕ) → Accepts terms packet reading text → (r : ExamineRefusal) → Fault terms packet r → ⊥
   accepts-no-fault reading text a r f =
       clear-eight terms packet named (a .header) (a .format) (a .allowed .framed) (a .allowed .summed) text (a .allowed .carries) r
-      (omega (arith, examine-numbers r .1)) f
+      (before-room r) f
 
   -- and has one text and one reading
   module _ (a b : Reading) (t u : List ℕ) (p : Accepts terms packet a t) (q : Accepts terms packet b u) where
@@ -71,9 +72,39 @@ module _ (terms : Terms) (named : MayBeNamed terms) (packet : List ℕ) where
     accepts-one-reading =
         p .is ∙ (λ i. readingOf (same-format i) (same-header i) (received packet) (accepts-one-text i)) ∙ sym (q .is)
 
-  -- one answer
-  pub examines-one : (a b : ExamineAnswer) → Examines terms packet a → Examines terms packet b → a ≡ b
-  examines-one (Readable a) (Readable b) (t, p) (u, q) = ap {B = ExamineAnswer} Readable (accepts-one-reading a b t u p q)
-  examines-one (Readable a) (Refused s) (t, p) q = absurd (accepts-no-fault a t p s (q .fault))
-  examines-one (Refused r) (Readable b) p (u, q) = absurd (accepts-no-fault b u q r (p .fault))
-  examines-one (Refused r) (Refused s) p q = ap {B = ExamineAnswer} Refused (refuses-one r s p q)
+-- ---- where more bits are named than may be
+
+module _ (terms : Terms) (packet : List ℕ) (many : MayMend (terms .mend) → ⊥) where
+  -- the packet is refused for that, first of all
+  pub too-many : Refuses terms packet TooManyBits
+  too-many = record { fault = many; first = clear-seventeen terms packet }
+
+  -- for nothing else,
+  pub only-too-many : (r : ExamineRefusal) → Refuses terms packet r → r ≡ TooManyBits
+  unfolding examineFrom turnIn
+  only-too-many r p =
+      let number = examine-at-turn r 0 (first-of-all examineKnown (Fault terms packet) readerTurn r TooManyBits refl many p) in
+      sym (examineKnown .back r) ∙ ap (λ (n : ℕ). examineFrom n (valueIn (examineTold r))) number
+
+  -- and not accepted
+  pub never-accepted : (reading : Reading) (text : List ℕ) → Accepts terms packet reading text → ⊥
+  never-accepted reading text a = many (a .allowed .framed .bits)
+
+  pub examined-too-many : (answer : ExamineAnswer) → Examines terms packet answer → answer ≡ Refused TooManyBits
+  examined-too-many (Readable reading) (text, a) = absurd (never-accepted reading text a)
+  examined-too-many (Refused r) p = ap {B = ExamineAnswer} Refused (only-too-many r p)
+
+-- ---- one answer, whatever number is named
+
+pub examines-one : (terms : Terms) → OnePacket (terms .most) → (packet : List ℕ) (a b : ExamineAnswer) → Examines terms packet a → Examines terms packet b → a ≡ b
+examines-one terms bytes packet a b p q = pick (decLe (terms .mend) 2)
+  where
+    same : MayBeNamed terms → (a b : ExamineAnswer) → Examines terms packet a → Examines terms packet b → a ≡ b
+    same named (Readable a) (Readable b) (t, p) (u, q) = ap {B = ExamineAnswer} Readable (accepts-one-reading terms named packet a b t u p q)
+    same named (Readable a) (Refused s) (t, p) q = absurd (accepts-no-fault terms named packet a t p s (q .fault))
+    same named (Refused r) (Readable b) p (u, q) = absurd (accepts-no-fault terms named packet b u q r (p .fault))
+    same named (Refused r) (Refused s) p q = ap {B = ExamineAnswer} Refused (refuses-one terms named packet r s p q)
+
+    pick : Dec (terms .mend ≤ 2) → a ≡ b
+    pick (yes bits) = same (record { bits = bits; bytes = bytes }) a b p q
+    pick (no many) = examined-too-many terms packet many a p ∙ sym (examined-too-many terms packet many b q)

@@ -1,11 +1,11 @@
--- The tests of a packet, one after the other: after each, no condition of a lower number holds.
+-- The tests of a packet, one after the other: before each, no condition of an earlier turn holds.
 -- Assumes nothing.
 use mathlib.Core.List.{List}
 use mathlib.Core.Logic.{_⊎_, ⊎-elim}
-use mathlib.Core.Path.{_≡_, refl, subst}
+use mathlib.Core.Path.{_≡_, refl, _∙_, subst}
 use Prim.Native.Nat.{ℕ, suc, _+_, _≤_, _<_}
 use native.Mathlib.Omega.{arith}
-use lib.ListN.{length}
+use lib.ListN.{length, getD}
 use Rattle.header.specs.declared.Format.{Format}
 use Rattle.header.specs.Fields.{fieldsIn}
 use Rattle.header.specs.Formats.{HasFormat}
@@ -15,48 +15,55 @@ use Rattle.distance.specs.Distance.{ValidWithin}
 use Rattle.checksum.specs.Checksum.{checksumBytes}
 use Rattle.formats.specs.Data.{Carries, Unreadable}
 use Rattle.formats.proofs.Formats.{never-unreadable}
-use Rattle.refusals.specs.Match.{byNumber}
-use Rattle.refusals.proofs.Known.{examineFrom, examineKnown, examine-numbers}
+use Rattle.refusals.specs.Match.{turnIn, readerOrder, readerTurn}
+use Rattle.refusals.proofs.Known.{examineFrom, examineKnown, examine-at-turn}
 use Rattle.refusals.proofs.Refused as refused
 use Rattle.terms.specs.declared.Terms.{Terms}
 use Rattle.reader.specs.Examine.{Fault, Framed}
 use Rattle.packet.specs.Packet.{received, dataIn, sumIn}
-use Rattle.terms.specs.Terms.{MayBeNamed}
+use Rattle.terms.specs.Terms.{MayMend, MayBeNamed}
 use Rattle.reader.proofs.Headers.{under}
 
 module _ (terms : Terms) (packet : List ℕ) where
-  -- no condition of a lower number holds
+  -- no condition that is tested before that of this number holds
   abbrev pub Clear : ℕ → Type 0
-  Clear = refused.Clear examineKnown (Fault terms packet) byNumber
+  Clear = refused.Clear examineKnown (Fault terms packet) readerTurn
 
-  next : (k : ℕ) → Clear k → ((v : ℕ) → Fault terms packet (examineFrom k v) → ⊥) → Clear (suc k)
-  next k = refused.clear-next examineKnown (Fault terms packet) byNumber k (suc k) (λ r e. e) refl
+  next : (k l : ℕ) → getD readerOrder (readerTurn k) 0 ≡ k → readerTurn l ≡ suc (readerTurn k) → Clear k
+      → ((v : ℕ) → Fault terms packet (examineFrom k v) → ⊥) → Clear l
+  next k l there =
+      refused.clear-next examineKnown (Fault terms packet) readerTurn k l (λ r e. examine-at-turn r (readerTurn k) e ∙ there)
 
-  pub clear-one : Clear 1
-  clear-one other lt f = omega (arith, examine-numbers other .0)
+  pub clear-seventeen : Clear 17
+  unfolding turnIn
+  clear-seventeen other lt f = omega arith
 
-  pub clear-two : 4 ≤ length packet → Clear 2
-  unfolding examineFrom
-  clear-two four = next 1 clear-one (λ v f. omega arith)
+  pub clear-one : MayMend (terms .mend) → Clear 1
+  unfolding examineFrom turnIn
+  clear-one bits = next 17 1 refl refl clear-seventeen (λ v f. f bits)
 
-  pub clear-three : 4 ≤ length packet → (header : ℕ) → ValidWithin (terms .mend) (received packet) header → Clear 3
-  unfolding examineFrom
-  clear-three four header near = next 2 (clear-two four) (λ v f. f header near)
+  pub clear-two : MayMend (terms .mend) → 4 ≤ length packet → Clear 2
+  unfolding examineFrom turnIn
+  clear-two bits four = next 1 2 refl refl (clear-one bits) (λ v f. omega arith)
+
+  pub clear-three : MayMend (terms .mend) → 4 ≤ length packet → (header : ℕ) → ValidWithin (terms .mend) (received packet) header → Clear 3
+  unfolding examineFrom turnIn
+  clear-three bits four header near = next 2 3 refl refl (clear-two bits four) (λ v f. f header near)
 
   module _ (named : MayBeNamed terms) where
     -- under the header that the packet is read as
     module _ (header : ℕ) (near : ValidWithin (terms .mend) (received packet) header) (four : 4 ≤ length packet) (format : Format)
         (typed : HasFormat (fieldsIn header) format) where
       pub clear-four : Clear 4
-      unfolding examineFrom
+      unfolding examineFrom turnIn
       clear-four =
-          next 3 (clear-three four header near)
+          next 3 4 refl refl (clear-three (named .bits) four header near)
           (λ v f. under terms named packet (λ (h : ℕ). (k : Format) → HasFormat (fieldsIn h) k → ⊥) header near f format typed)
 
       pub clear-five : 1 ≤ lengthIn header → lengthIn header ≤ terms .most → Clear 5
-      unfolding examineFrom
+      unfolding examineFrom turnIn
       clear-five some few =
-          next 4 clear-four
+          next 4 5 refl refl clear-four
           (λ v f.
           ⊎-elim (λ none. omega arith) (λ many. omega arith)
           (under terms named packet (λ (h : ℕ). (lengthIn h ≡ 0) ⊎ (terms .most < lengthIn h)) header near f))
@@ -64,23 +71,23 @@ module _ (terms : Terms) (packet : List ℕ) where
     -- tests 1 to 5 are passed
     module _ (header : ℕ) (format : Format) (framed : Framed terms packet format header) where
       pub clear-six : Clear 6
-      unfolding examineFrom
+      unfolding examineFrom turnIn
       clear-six =
-          next 5 (clear-five header (framed .near) (omega (arith, framed .whole)) format (framed .typed) (framed .some) (framed .few))
+          next 5 6 refl refl (clear-five header (framed .near) (omega (arith, framed .whole)) format (framed .typed) (framed .some) (framed .few))
           (λ v f.
           let short = under terms named packet (λ (h : ℕ). length packet < lengthIn h + 6) header (framed .near) f in omega (arith, framed .whole))
 
       pub clear-seven : sumIn header packet ≡ checksumBytes (dataIn header packet) → Clear 7
-      unfolding examineFrom
+      unfolding examineFrom turnIn
       clear-seven summed =
-          next 6 clear-six
+          next 6 7 refl refl clear-six
           (λ v f.
           under terms named packet (λ (h : ℕ). sumIn h packet ≡ checksumBytes (dataIn h packet) → ⊥) header (framed .near) f summed)
 
       pub clear-eight : sumIn header packet ≡ checksumBytes (dataIn header packet) → (text : List ℕ) → Carries format text (dataIn header packet) → Clear 8
-      unfolding examineFrom
+      unfolding examineFrom turnIn
       clear-eight summed text carries =
-          next 7 (clear-seven summed)
+          next 7 8 refl refl (clear-seven summed)
           (λ v f.
           let other =
           under terms named packet (λ (h : ℕ). (k : Format) × HasFormat (fieldsIn h) k × Unreadable k (dataIn h packet) v) header (framed .near) f in

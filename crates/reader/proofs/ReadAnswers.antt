@@ -13,6 +13,7 @@ use Rattle.formats.specs.Steps.Text.{HasRoom, PutsText}
 use Rattle.formats.proofs.Formats.{carries-one}
 use Rattle.refusals.specs.declared.ReadRefusal.{ReadRefusal}
 use Rattle.refusals.specs.declared.ReadRefusal.the-variants.{Packet, NoRoom}
+use Rattle.refusals.specs.Match.{readerTurn}
 use Rattle.refusals.specs.Refusals.{numberIn, readTold}
 use Rattle.terms.specs.declared.Terms.{Terms}
 use Rattle.reader.specs.declared.Reading.{Reading}
@@ -30,8 +31,8 @@ module _ (terms : Terms) (packet : List ℕ) where
   long reading text a = ap (λ (r : Reading). r .«text_length») (a .is)
 
   module _ (named : MayBeNamed terms) where
-    before : (reading : Reading) (text : List ℕ) → Accepts terms packet reading text → (room : ℕ) (other : ReadRefusal) → numberIn (readTold other) < 8
-        → ReadFault terms packet room other → ⊥
+    before : (reading : Reading) (text : List ℕ) → Accepts terms packet reading text → (room : ℕ) (other : ReadRefusal)
+        → readerTurn (numberIn (readTold other)) < readerTurn 8 → ReadFault terms packet room other → ⊥
     before reading text a room (Packet r) lt f = accepts-no-fault terms named packet reading text a r f
     before reading text a room (NoRoom n) lt f = omega arith
 

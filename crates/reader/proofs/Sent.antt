@@ -42,6 +42,7 @@ module _ (terms : Terms) (named : MayBeNamed terms) (format : Format) (sync : Bo
   framed : Framed terms packet format header
   framed =
       record {
+        bits = named .bits;
         near = header-near;
         typed = header-typed format sync (length carried) small;
         some = omega (arith, long);

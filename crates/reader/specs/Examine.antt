@@ -1,5 +1,5 @@
--- What is found out about a packet without a text buffer (RULES, Refusals: 1 to 7): the stated condition of each refusal, tested in the order of the
--- numbers, first match answers; and when a packet is accepted, with what.
+-- What is found out about a packet without a text buffer (RULES, Refusals: 17, then 1 to 7): the stated condition of each refusal, tested in this order,
+-- first match answers; and when a packet is accepted, with what.
 -- Assumes nothing.
 use mathlib.Core.List.{List}
 use mathlib.Core.Logic.{_⊎_}
@@ -14,10 +14,11 @@ use Rattle.distance.specs.Distance.{ValidWithin, distance}
 use Rattle.checksum.specs.Checksum.{checksumBytes}
 use Rattle.formats.specs.Data.{Carries, Unreadable}
 use Rattle.refusals.specs.declared.ExamineRefusal.{ExamineRefusal}
-use Rattle.refusals.specs.declared.ExamineRefusal.the-variants.{Short, NoHeader, OtherType, OtherLength, CutOff, Checksum, Malformed}
-use Rattle.refusals.specs.Match.{FirstMatch, byNumber}
+use Rattle.refusals.specs.declared.ExamineRefusal.the-variants.{TooManyBits, Short, NoHeader, OtherType, OtherLength, CutOff, Checksum, Malformed}
+use Rattle.refusals.specs.Match.{FirstMatch, readerTurn}
 use Rattle.refusals.specs.Refusals.{examineTold}
 use Rattle.terms.specs.declared.Terms.{Terms}
+use Rattle.terms.specs.Terms.{MayMend}
 use Rattle.reader.specs.declared.Reading.{Reading}
 use Rattle.reader.specs.declared.ExamineAnswer.{ExamineAnswer}
 use Rattle.reader.specs.declared.ExamineAnswer.the-variants.{Readable, Refused}
@@ -29,6 +30,7 @@ UnderHeader terms packet Condition = (header : ℕ) × ValidWithin (terms .mend)
 
 -- the stated condition of each refusal
 abbrev pub Fault : Terms → List ℕ → ExamineRefusal → Type 0
+Fault terms packet TooManyBits = MayMend (terms .mend) → ⊥
 Fault terms packet Short = length packet < 4
 Fault terms packet NoHeader = (header : ℕ) → ValidWithin (terms .mend) (received packet) header → ⊥
 Fault terms packet OtherType = UnderHeader terms packet (λ header. (format : Format) → HasFormat (fieldsIn header) format → ⊥)
@@ -38,12 +40,13 @@ Fault terms packet Checksum = UnderHeader terms packet (λ header. sumIn header 
 Fault terms packet (Malformed bit) =
     UnderHeader terms packet (λ header. (format : Format) × HasFormat (fieldsIn header) format × Unreadable format (dataIn header packet) bit)
 
--- tested in the order 1 to 7
+-- tested in the order 17, 1 to 7
 abbrev pub Refuses : Terms → List ℕ → ExamineRefusal → Type 0
-Refuses terms packet = FirstMatch ExamineRefusal examineTold (Fault terms packet) byNumber
+Refuses terms packet = FirstMatch ExamineRefusal examineTold (Fault terms packet) readerTurn
 
--- a valid header near enough, of this format, of our lengths; and bytes enough
+-- a number of bits that may be named; a valid header near enough, of this format, of our lengths; and bytes enough
 pub record Framed (terms : Terms) (packet : List ℕ) (format : Format) (header : ℕ) : Type 0 where
+  pub bits : MayMend (terms .mend)
   pub near : ValidWithin (terms .mend) (received packet) header
   pub typed : HasFormat (fieldsIn header) format
   pub some : 1 ≤ lengthIn header

@@ -1,4 +1,4 @@
--- What the reader answers (RULES, Refusals: 1 to 8), and what stands in the text buffer afterwards.
+-- What the reader answers (RULES, Refusals: 17, then 1 to 8), and what stands in the text buffer afterwards.
 -- Assumes nothing.
 use mathlib.Core.List.{List, _++_}
 use mathlib.Core.Path.{_≡_}
@@ -10,7 +10,7 @@ use Rattle.header.specs.Formats.{HasFormat}
 use Rattle.formats.specs.Data.{Carries}
 use Rattle.refusals.specs.declared.ReadRefusal.{ReadRefusal}
 use Rattle.refusals.specs.declared.ReadRefusal.the-variants.{Packet, NoRoom}
-use Rattle.refusals.specs.Match.{FirstMatch, byNumber}
+use Rattle.refusals.specs.Match.{FirstMatch, readerTurn}
 use Rattle.refusals.specs.Refusals.{readTold}
 use Rattle.terms.specs.declared.Terms.{Terms}
 use Rattle.reader.specs.declared.ReadAnswer.{ReadAnswer}
@@ -27,9 +27,9 @@ ReadFault terms packet room (NoRoom needed) =
     (format : Format) × HasFormat (fieldsIn header) format
     × ((text : List ℕ) × Carries format text (dataIn header packet) × (length text ≡ needed) × (room < needed)))
 
--- tested in the order 1 to 8
+-- tested in the order 17, 1 to 8
 abbrev pub ReadRefuses : Terms → List ℕ → ℕ → ReadRefusal → Type 0
-ReadRefuses terms packet room = FirstMatch ReadRefusal readTold (ReadFault terms packet room) byNumber
+ReadRefuses terms packet room = FirstMatch ReadRefusal readTold (ReadFault terms packet room) readerTurn
 
 -- the answer, and the text buffer afterwards: as it was on refusal; on acceptance the text, and behind it as it was
 abbrev pub Reads : Terms → List ℕ → List ℕ → ReadAnswer → List ℕ → Type 0

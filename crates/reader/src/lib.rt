@@ -1,4 +1,4 @@
-// What is found out about a packet, and the reader: the entry points `examine` and `read`.
+// What is found out about a packet, and the reader: the entry points `examine` and `read`, and those that name the bits to mend.
 use codes::Outcome;
 use header::Format;
 use header::Header;
@@ -7,7 +7,7 @@ use mending::Mending;
 use refusals::ExamineRefusal;
 use refusals::ReadRefusal;
 use terms::Terms;
-ghost use Rattle.terms.specs.Terms.{MayBeNamed, usual};
+ghost use Rattle.terms.specs.Terms.{OnePacket, MayBeNamed, naming, usual};
 ghost use Rattle.reader.specs.declared.ExamineAnswer.the-variants.{Readable};
 ghost use Rattle.reader.specs.Examine.{Examines};
 ghost use Rattle.reader.specs.Reader.{Reads};
@@ -39,12 +39,15 @@ enum HeaderAnswer {
     Refused(ExamineRefusal),
 }
 
-// Tests 1 to 5: the header that the packet is read as, its type and length, and bytes enough. The members of the answer are put together here, all but
+// Tests 17 and 1 to 5: the header that the packet is read as, its type and length, and bytes enough. The members of the answer are put together here, all but
 // the text's length.
 fn find_header(terms: Terms, packet: &[u8]) -> HeaderAnswer
-    requires { ⌜ MayBeNamed terms ⌝ }
+    requires { ⌜ OnePacket (terms .most) ⌝ }
     ensures { λ r. ⌜ FindsHeader terms (now (packet .entry)) r ⌝ }
 {
+    if Terms::MOST_MENDED < terms.mend {
+        return HeaderAnswer::Refused(ExamineRefusal::TooManyBits); // tested first of all
+    }
     if packet.len() < 4 {
         return HeaderAnswer::Refused(ExamineRefusal::Short);
     }
@@ -105,7 +108,7 @@ fn examine_data(terms: Terms, found: Reading, packet: &[u8]) -> ExamineAnswer
 
 // What is found out about the packet at the front of a slice, under terms.
 fn examine_under(terms: Terms, packet: &[u8]) -> ExamineAnswer
-    requires { ⌜ MayBeNamed terms ⌝ }
+    requires { ⌜ OnePacket (terms .most) ⌝ }
     ensures { λ r. ⌜ Examines terms (now (packet .entry)) r ⌝ }
 {
     let header = find_header(terms, packet);
@@ -132,7 +135,7 @@ fn read_text(terms: Terms, reading: Reading, packet: &[u8], text: &mut [u8]) -> 
 
 // The packet at the front of a slice read into a text buffer, under terms.
 fn read_under(terms: Terms, packet: &[u8], text: &mut [u8]) -> ReadAnswer
-    requires { ⌜ MayBeNamed terms ⌝ }
+    requires { ⌜ OnePacket (terms .most) ⌝ }
     ensures { λ r. ⌜ Reads terms (now (packet .entry)) (now (text .entry)) r (now (text .exit)) ⌝ }
 {
     let examined = examine_under(terms, packet);
@@ -142,14 +145,29 @@ fn read_under(terms: Terms, packet: &[u8], text: &mut [u8]) -> ReadAnswer
     }
 }
 
-// Finds out about the packet at the front of a slice all but its text. Bytes after the packet's checksum are not looked at.
+// Finds out about the packet at the front of a slice all but its text, at most so many header bits mended. Bytes after the packet's checksum are not
+// looked at.
+pub fn examine_mending(mend: u32, packet: &[u8]) -> ExamineAnswer
+    ensures { λ r. ⌜ Examines (naming mend) (now (packet .entry)) r ⌝ }
+{
+    examine_under(Terms::naming(mend), packet)
+}
+
+// The same, at most one header bit mended.
 pub fn examine(packet: &[u8]) -> ExamineAnswer
     ensures { λ r. ⌜ Examines usual (now (packet .entry)) r ⌝ }
 {
     examine_under(Terms::usual(), packet)
 }
 
-// Reads the packet at the front of a slice into a text buffer.
+// Reads the packet at the front of a slice into a text buffer, at most so many header bits mended.
+pub fn read_mending(mend: u32, packet: &[u8], text: &mut [u8]) -> ReadAnswer
+    ensures { λ r. ⌜ Reads (naming mend) (now (packet .entry)) (now (text .entry)) r (now (text .exit)) ⌝ }
+{
+    read_under(Terms::naming(mend), packet, text)
+}
+
+// The same, at most one header bit mended.
 pub fn read(packet: &[u8], text: &mut [u8]) -> ReadAnswer
     ensures { λ r. ⌜ Reads usual (now (packet .entry)) (now (text .entry)) r (now (text .exit)) ⌝ }
 {

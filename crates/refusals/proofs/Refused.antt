@@ -1,18 +1,31 @@
 -- A refusal is its number and its value, and the first match is one; over the refusals of any entry point.
 -- Assumes nothing.
+use mathlib.Core.List.{List}
 use mathlib.Core.Logic.{⊎-elim, _↔_}
 use mathlib.Core.Path.{_≡_, refl, sym, ap, _∙_, subst, subst₂}
 use Prim.Native.Nat.{ℕ, suc, _<_}
 use native.Mathlib.Decide.{decLt}
 use native.Mathlib.Nat.{eq-or-lt-of-le, le-of-suc-le-suc}
 use native.Mathlib.Omega.{arith}
-use Rattle.refusals.specs.Match.{ToldAs, FirstMatch}
+use lib.ListN.{getD}
+use Rattle.refusals.specs.Match.{ToldAs, FirstMatch, turnIn}
 use Rattle.refusals.specs.Refusals.{Told, numberIn, valueIn}
 
 -- a refusal is known by what it is told as
 pub record Known (Refusal : Type 0) (told : Refusal → Told) : Type 0 where
   pub from : ℕ → ℕ → Refusal
   pub back : (r : Refusal) → from (numberIn (told r)) (valueIn (told r)) ≡ r
+
+-- each refusal's number stands in the order of the tests, so the turn tells the number
+pub record Ordered (Refusal : Type 0) (told : Refusal → Told) (order : List ℕ) : Type 0 where
+  pub stands : (r : Refusal) → numberIn (told r) ≡ getD order (turnIn order (numberIn (told r))) 0
+
+module _ {Refusal : Type 0} {told : Refusal → Told} {order : List ℕ} (ordered : Ordered Refusal told order) where
+  pub at-turn : (r : Refusal) (turn : ℕ) → turnIn order (numberIn (told r)) ≡ turn → numberIn (told r) ≡ getD order turn 0
+  at-turn r turn e = ordered .stands r ∙ ap (λ (k : ℕ). getD order k 0) e
+
+  pub one-number : (r s : Refusal) → turnIn order (numberIn (told r)) ≡ turnIn order (numberIn (told s)) → numberIn (told r) ≡ numberIn (told s)
+  one-number r s e = at-turn r (turnIn order (numberIn (told s))) e ∙ sym (ordered .stands s)
 
 module _ {Refusal : Type 0} {told : Refusal → Told} (known : Known Refusal told) (Fault : Refusal → Type 0) (turn : ℕ → ℕ) where
   -- no condition holds that is tested before that of this number
@@ -29,6 +42,14 @@ module _ {Refusal : Type 0} {told : Refusal → Told} (known : Known Refusal tol
   clear-next k l alone next clear none other lt f =
       ⊎-elim (λ e. none (valueIn (told other)) (by-value k other (alone other e) f)) (λ less. clear other less f)
       (eq-or-lt-of-le (le-of-suc-le-suc (subst (λ (n : ℕ). turn (numberIn (told other)) < n) next lt)))
+
+  -- where the condition that is tested first of all holds, the first match is of that turn
+  pub first-of-all : (r s : Refusal) → turn (numberIn (told s)) ≡ 0 → Fault s → FirstMatch Refusal told Fault turn r → turn (numberIn (told r)) ≡ 0
+  first-of-all r s e f p = pick (decLt (turn (numberIn (told s))) (turn (numberIn (told r))))
+    where
+      pick : Dec (turn (numberIn (told s)) < turn (numberIn (told r))) → turn (numberIn (told r)) ≡ 0
+      pick (yes lt) = absurd (p .first s lt f)
+      pick (no ge) = omega (arith, e)
 
   -- two first matches are of one turn; they are the same where one turn has one number, and one number one value
   pub match-one : ((r s : Refusal) → turn (numberIn (told r)) ≡ turn (numberIn (told s)) → numberIn (told r) ≡ numberIn (told s))

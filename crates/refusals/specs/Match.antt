@@ -16,14 +16,17 @@ pub record FirstMatch (Refusal : Type 0) (told : Refusal → Told) (Fault : Refu
   pub fault : Fault refusal
   pub first : (other : Refusal) → turn (numberIn (told other)) < turn (numberIn (told refusal)) → Fault other → ⊥
 
--- tested in the order of the numbers
-abbrev pub byNumber : ℕ → ℕ
-byNumber number = number
-
 -- the turn of a number where tests are made in this order: how many come before it
 unfoldable pub turnIn : List ℕ → ℕ → ℕ
 turnIn [] number = 0
 turnIn (other ∷ order) number = cond (eqb other number) 0 (suc (turnIn order number))
+
+-- the reader's order
+abbrev pub readerOrder : List ℕ
+readerOrder = 17 ∷ 1 ∷ 2 ∷ 3 ∷ 4 ∷ 5 ∷ 6 ∷ 7 ∷ 8 ∷ []
+
+abbrev pub readerTurn : ℕ → ℕ
+readerTurn = turnIn readerOrder
 
 -- the writer's order
 abbrev pub writerOrder : List ℕ

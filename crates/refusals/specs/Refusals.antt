@@ -2,7 +2,7 @@
 -- Assumes nothing.
 use Prim.Native.Nat.{ℕ}
 use Rattle.refusals.specs.declared.ExamineRefusal.{ExamineRefusal}
-use Rattle.refusals.specs.declared.ExamineRefusal.the-variants.{Short, NoHeader, OtherType, OtherLength, CutOff, Checksum, Malformed}
+use Rattle.refusals.specs.declared.ExamineRefusal.the-variants.{TooManyBits, Short, NoHeader, OtherType, OtherLength, CutOff, Checksum, Malformed}
 use Rattle.refusals.specs.declared.ReadRefusal.{ReadRefusal}
 use Rattle.refusals.specs.declared.ReadRefusal.the-variants.{Packet, NoRoom}
 use Rattle.refusals.specs.declared.WriteRefusal.{WriteRefusal}
@@ -18,9 +18,10 @@ numberIn told = told .0
 abbrev pub valueIn : Told → ℕ
 valueIn told = told .1
 
--- of a packet: fewer than 4 bytes; no valid header near; another type; another length; fewer bytes than the length asks for; the checksum; malformed
--- data, with the bit
+-- of a packet: more header bits to mend than may be named; fewer than 4 bytes; no valid header within the named number of bits; another type; another
+-- length; fewer bytes than the length asks for; the checksum; malformed data, with the bit
 abbrev pub examineTold : ExamineRefusal → Told
+examineTold TooManyBits = (17, 0)
 examineTold Short = (1, 0)
 examineTold NoHeader = (2, 0)
 examineTold OtherType = (3, 0)

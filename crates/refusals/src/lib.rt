@@ -3,6 +3,7 @@ ghost use Rattle.refusals.specs.Refusals.{numberIn, valueIn, examineTold
 
 // Why a packet cannot be read, whatever the room for its text. The numbers are in specs/Refusals.antt.
 pub enum ExamineRefusal {
+    TooManyBits,
     Short,
     NoHeader,
     OtherType,
@@ -32,6 +33,7 @@ impl ExamineRefusal {
         ensures { λ r. ⌜ r ≡ numberIn (examineTold self) ⌝ }
     {
         match self {
+            ExamineRefusal::TooManyBits => 17,
             ExamineRefusal::Short => 1,
             ExamineRefusal::NoHeader => 2,
             ExamineRefusal::OtherType => 3,
@@ -48,6 +50,7 @@ impl ExamineRefusal {
     {
         match self {
             ExamineRefusal::Malformed(bit) => bit,
+            ExamineRefusal::TooManyBits => 0,
             ExamineRefusal::Short => 0,
             ExamineRefusal::NoHeader => 0,
             ExamineRefusal::OtherType => 0,

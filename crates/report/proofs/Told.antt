@@ -13,7 +13,7 @@ use Rattle.reader.specs.declared.ReadAnswer.{ReadAnswer}
 use Rattle.reader.specs.declared.ReadAnswer.the-variants.{Accepted, Refused}
 use Rattle.refusals.specs.Refusals.{numberIn, readTold}
 use Rattle.reader.specs.Reader.{Reads}
-use Rattle.terms.specs.Terms.{usual}
+use Rattle.terms.specs.Terms.{naming}
 use Rattle.report.specs.Line.{ok, refused, line, lineOf}
 use Rattle.report.specs.Steps.Put.{PutsLine}
 
@@ -35,11 +35,12 @@ told-refused refusal number e = ap (λ (n : ℕ). line refused (n ∷ [])) e
 
 -- ---- a packet's line
 
-pub reported : {packet out out′ : List ℕ} {r : ℕ} (entry exit : List ℕ) (answer : ReadAnswer) (long : ℕ) → Reads usual packet entry answer exit
+pub reported : {packet out out′ : List ℕ} {r : ℕ} (entry exit : List ℕ) (answer : ReadAnswer) (long mend : ℕ)
+    → Reads (naming mend) packet entry answer exit → mend ≡ 2
     → Fronted (lineOf answer) out out′ long → length entry ≡ 65536 → r ≡ long → PutsLine packet out out′ r
-reported {packet} {out} {out′} {r} entry exit answer long reads fronted lent e =
+reported {packet} {out} {out′} {r} entry exit answer long mend reads named fronted lent e =
     record {
       line = lineOf answer;
-      prints = record { entry = entry; exit = exit; answer = answer; lent = lent; reads = reads; is = refl };
+      prints = record { entry = entry; exit = exit; answer = answer; lent = lent; reads = subst (λ (m : ℕ). Reads (naming m) packet entry answer exit) named reads; is = refl };
       front = subst (λ (n : ℕ). Fronted (lineOf answer) out out′ n) (sym e) fronted;
     }

@@ -1,5 +1,5 @@
--- What the reading program prints of a packet (RULES, Reading program): the line of the reader's answer for a text buffer of 65,536 bytes, whatever these
--- bytes are.
+-- What the reading program prints of a packet (RULES, Reading program): the line of the reader's answer where two header bits are named, for a text buffer
+-- of 65,536 bytes, whatever these bytes are.
 -- Assumes nothing.
 use mathlib.Core.Path.{_≡_}
 use mathlib.Core.List.{List}
@@ -7,7 +7,7 @@ use Prim.Native.Nat.{ℕ}
 use lib.ListN.{length}
 use Rattle.reader.specs.declared.ReadAnswer.{ReadAnswer}
 use Rattle.reader.specs.Reader.{Reads}
-use Rattle.terms.specs.Terms.{usual}
+use Rattle.terms.specs.Terms.{naming}
 use Rattle.report.specs.Line.{lineOf}
 
 pub record Prints (packet line : List ℕ) : Type 0 where
@@ -15,5 +15,5 @@ pub record Prints (packet line : List ℕ) : Type 0 where
   pub exit : List ℕ
   pub answer : ReadAnswer
   pub lent : length entry ≡ 65536
-  pub reads : Reads usual packet entry answer exit
+  pub reads : Reads (naming 2) packet entry answer exit
   pub is : line ≡ lineOf answer

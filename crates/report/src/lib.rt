@@ -7,7 +7,9 @@ ghost use Rattle.report.specs.Line.{decimal, spaced, line as lineWith, l
 ghost use Rattle.codes.specs.Steps.Laid.{Fronted};
 ghost use Rattle.report.specs.Steps.Put.{room, PutsRow, PutsLine};
 
-// The room for the text (RULES, Reading program).
+// The header bits to mend at most, and the room for the text (RULES, Reading program).
+const MEND: u32 = 2;
+
 const TEXT: usize = 65536;
 
 // A number in decimal, from place `at` on; the place behind it.
@@ -77,5 +79,5 @@ pub fn packet_line(packet: &[u8], out: &mut [u8]) -> usize
     ensures { λ r. ⌜ PutsLine (now (packet .entry)) (now (out .entry)) (now (out .exit)) r ⌝ }
 {
     let mut text = [0u8; TEXT];
-    line(reader::read(packet, &mut text), out)
+    line(reader::read_mending(MEND, packet, &mut text), out)
 }

@@ -4,17 +4,18 @@ use mathlib.Core.Bool.{Bool}
 use mathlib.Core.List.{List}
 use mathlib.Core.Path.{_≡_, sym, ap, _∙_}
 use Prim.Native.Nat.{ℕ}
-use Rattle.terms.specs.Terms.{usual}
+use native.Mathlib.Omega.{arith}
+use Rattle.terms.specs.Terms.{naming, usual}
 use Rattle.reader.proofs.ReadOnce.{reads-one}
-use Rattle.terms.proofs.Usual.{usual-named}
 use Rattle.writer.proofs.WriteOnce.{writes-one}
 use Rattle.rosopyat_c.specs.Replies.{readReply, writeReply, RepliesToRead, RepliesToWrite}
 use Rattle.rosopyat_c.specs.declared.ReadReply.{ReadReply}
 use Rattle.rosopyat_c.specs.declared.WriteReply.{WriteReply}
 
-pub read-once : (packet entry : List ℕ) (a b : ReadReply) (x y : List ℕ) → RepliesToRead packet entry a x → RepliesToRead packet entry b y → (a ≡ b) × (x ≡ y)
-read-once packet entry a b x y p q =
-    let same = reads-one usual usual-named packet entry (p .answer) (q .answer) x y (p .reads) (q .reads) in
+pub read-once : (mend : ℕ) (packet entry : List ℕ) (a b : ReadReply) (x y : List ℕ) → RepliesToRead (naming mend) packet entry a x
+    → RepliesToRead (naming mend) packet entry b y → (a ≡ b) × (x ≡ y)
+read-once mend packet entry a b x y p q =
+    let same = reads-one (naming mend) (omega arith) packet entry (p .answer) (q .answer) x y (p .reads) (q .reads) in
     (p .is ∙ ap readReply (same .0) ∙ sym (q .is), same .1)
 
 pub write-once : (number : ℕ) (sync : Bool) (text entry : List ℕ) (a b : WriteReply) (x y : List ℕ)

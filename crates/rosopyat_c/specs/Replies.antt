@@ -13,6 +13,7 @@ use Rattle.writer.specs.declared.WriteAnswer.{WriteAnswer}
 use Rattle.writer.specs.declared.WriteAnswer.the-variants.{Written, Refused as NotWritten}
 use Rattle.refusals.specs.Refusals.{numberIn, valueIn, readTold, writeTold}
 use Rattle.reader.specs.Reader.{Reads}
+use Rattle.terms.specs.declared.Terms.{Terms}
 use Rattle.terms.specs.Terms.{usual}
 use Rattle.writer.specs.Writer.{Writes}
 use Rattle.rosopyat_c.specs.declared.ReadReply.{ReadReply}
@@ -46,10 +47,10 @@ abbrev pub writeReply : WriteAnswer → WriteReply
 writeReply (Written length) = record { refusal = 0; number = 0; length = length }
 writeReply (NotWritten refusal) = record { refusal = numberIn (writeTold refusal); number = valueIn (writeTold refusal); length = 0 }
 
--- the reply is that of an answer that the entry point may give
-pub record RepliesToRead (packet entry : List ℕ) (reply : ReadReply) (exit : List ℕ) : Type 0 where
+-- the reply is that of an answer that the entry point may give, under the terms of the call
+pub record RepliesToRead (terms : Terms) (packet entry : List ℕ) (reply : ReadReply) (exit : List ℕ) : Type 0 where
   pub answer : ReadAnswer
-  pub reads : Reads usual packet entry answer exit
+  pub reads : Reads terms packet entry answer exit
   pub is : reply ≡ readReply answer
 
 pub record RepliesToWrite (number : ℕ) (sync : Bool) (text entry : List ℕ) (reply : WriteReply) (exit : List ℕ) : Type 0 where

@@ -1,8 +1,9 @@
-// Runs packets through the reader and texts through the writer. Standard input is a row of cases: `r` or `w`, the writer's sync bit; the writer's format,
-// the length of the lent buffer and that of the packet or text (three bytes each, high byte first); and the packet or text. For each packet it prints what
-// is found out without a buffer: `readable` and the six numbers of the answer, or `refused` with the refusal's number and the one that comes with it. Then
-// for each packet or text two lines: the answer's line; and the number that comes with a refusal, or the bytes used, then the lent buffer's Adler-32, and
-// its first 512 bytes.
+// Runs packets through the reader and texts through the writer. Standard input is a row of cases: `r`, `d` or `w`; the writer's sync bit; the number that is
+// named, the length of the lent buffer and that of the packet or text (three bytes each, high byte first); and the packet or text. In a case `r` the number is
+// that of the header bits to mend, in a case `w` that of the writer's format, and in a case `d` the reader is called without one. For each packet it prints
+// what is found out without a buffer: `readable` and the six numbers of the answer, or `refused` with the refusal's number and the one that comes with it.
+// Then for each packet or text two lines: the answer's line; and the number that comes with a refusal, or the bytes used, then the lent buffer's Adler-32,
+// and its first 512 bytes.
 use header::Header;
 use libc::STDIN_FILENO;
 use libc::STDOUT_FILENO;
@@ -73,8 +74,7 @@ fn print_line(word: &[u8], numbers: &[usize]) {
     io::write_all(STDOUT_FILENO, b"\n");
 }
 
-fn run_examine(packet: &[u8]) {
-    let answer = reader::examine(packet);
+fn print_examined(answer: ExamineAnswer) {
     match answer {
         ExamineAnswer::Readable(reading) => {
             let format = reading.format;
@@ -102,12 +102,23 @@ fn read_with(answer: ReadAnswer) -> usize {
     }
 }
 
-fn run_reader(packet: &[u8], text: &mut [u8]) {
+fn print_read(answer: ReadAnswer, text: &[u8]) {
     let mut line = [0u8; 128];
-    let answer = reader::read(packet, text);
     let n = report::line(answer, &mut line);
     io::write_all(STDOUT_FILENO, &line[..n]);
     print_buffer(read_with(answer), text);
+}
+
+fn run_reader(mend: u32, packet: &[u8], text: &mut [u8]) {
+    print_examined(reader::examine_mending(mend, packet));
+    let answer = reader::read_mending(mend, packet, text);
+    print_read(answer, text);
+}
+
+fn run_usual_reader(packet: &[u8], text: &mut [u8]) {
+    print_examined(reader::examine(packet));
+    let answer = reader::read(packet, text);
+    print_read(answer, text);
 }
 
 fn run_writer(format: u32, sync: bool, text: &[u8], packet: &mut [u8]) {
@@ -129,15 +140,18 @@ fn number(high: u8, middle: u8, low: u8) -> u32 {
 }
 
 // The packet or text of a case, and the calls.
-fn run_case(kind: u8, format: u32, sync: bool, given: &mut [u8], lent: &mut [u8]) {
+fn run_case(kind: u8, named: u32, sync: bool, given: &mut [u8], lent: &mut [u8]) {
     io::read_full(STDIN_FILENO, given);
     fill(lent);
     if kind == b'r' {
-        run_examine(given);
-        run_reader(given, lent);
-    } else {
-        run_writer(format, sync, given, lent);
+        run_reader(named, given, lent);
+        return;
     }
+    if kind == b'd' {
+        run_usual_reader(given, lent);
+        return;
+    }
+    run_writer(named, sync, given, lent);
 }
 
 // Runs the next case; whether there was one.
@@ -146,7 +160,7 @@ fn run_next() -> bool {
     if io::read_full(STDIN_FILENO, &mut head) < 11 {
         return false;
     }
-    let format = number(head[2], head[3], head[4]);
+    let named = number(head[2], head[3], head[4]);
     let room = number(head[5], head[6], head[7]) as usize;
     let length = number(head[8], head[9], head[10]) as usize;
     if LARGEST < room {
@@ -159,7 +173,7 @@ fn run_next() -> bool {
     let mut lent = buffer();
     run_case(
         head[0],
-        format,
+        named,
         head[1] == 1,
         &mut given[..length],
         &mut lent[..room],

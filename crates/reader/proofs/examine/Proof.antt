@@ -1,10 +1,9 @@
 -- `reader::examine` meets its contract.
 -- Assumes nothing.
-use mathlib.Core.Path.{subst}
+use native.Mathlib.Omega.{arith}
 use borrow.Author.Needs.{needs}
-use Rattle.terms.specs.declared.Terms.{Terms}
-use Rattle.reader.specs.Examine.{Examines}
-use Rattle.terms.proofs.Usual.{named-so}
+use Rattle.terms.proofs.Usual.{bytes-so}
+use Rattle.reader.proofs.Named.{examines-naming}
 use Rattle.reader.proofs.examine.Statement.{statement}
 use Rattle.reader.proofs.examine.Tie as tie
 
@@ -12,12 +11,12 @@ usual-requires : tie.Need-usual-requires
 usual-requires c κs = search needs
 
 examine-under-requires : tie.Need-examine-under-requires
-examine-under-requires c κs = named-so (c .usual .result) (c .usual .ensures)
+examine-under-requires c κs = bytes-so (c .usual .result) 1 (c .usual .ensures)
 
 returns : tie.Need-returns
 returns c =
-    subst (λ (terms : Terms). Examines terms (c .before .before .before .args .packet .now) (c .examine-under .result)) (c .before .usual .ensures)
-    (c .examine-under .ensures)
+    let terms = c .before .usual in
+    examines-naming (terms .result) 1 _ (terms .ensures) (omega arith) _ (c .examine-under .result) (c .examine-under .ensures)
 
 pub examine-spec : {M : Type 1} → statement M
 examine-spec = tie.close (tie.spec usual-requires examine-under-requires returns)

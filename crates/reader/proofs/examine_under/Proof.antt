@@ -15,7 +15,8 @@ enum-known-header c = search needs
 examine-data-requires : tie.Need-examine-data-requires
 examine-data-requires c κs =
     let s = c .before .before .before .before .before in
-    (s .pre, subst (FindsHeader (s .args .terms) (s .args .packet .now)) (c .before .header .given .1) (c .before .before .before .find-header .ensures))
+    let found = subst (FindsHeader (s .args .terms) (s .args .packet .now)) (c .before .header .given .1) (c .before .before .before .find-header .ensures) in
+    (record { bits = found .framed .bits; bytes = s .pre }, found)
 
 enum-known-header-2 : tie.Need-enum-known-header-2
 enum-known-header-2 c = search needs

@@ -3,7 +3,7 @@
 use mathlib.Core.Bool.{Bool}
 use mathlib.Core.List.{List}
 use mathlib.Core.Logic.{inl, inr}
-use mathlib.Core.Path.{_≡_, refl, sym, ap, _∙_, subst}
+use mathlib.Core.Path.{_≡_, refl, sym, ap, _∙_, subst, subst₂}
 use Prim.Native.Nat.{ℕ, _+_, _≤_}
 use native.Mathlib.Omega.{arith}
 use borrow.Author.Needs.{needs}
@@ -23,20 +23,21 @@ use Rattle.reader.specs.Examine.{Framed}
 use Rattle.packet.specs.Packet.{received}
 use Rattle.reader.specs.Steps.Reading.{HeaderFound}
 use Rattle.terms.specs.declared.Terms.{Terms}
-use Rattle.reader.proofs.ExamineStages.{Clear, clear-one, clear-two, clear-three, clear-four, clear-five}
+use Rattle.terms.specs.Terms.{MayMend, MayBeNamed}
+use Rattle.reader.proofs.ExamineStages.{Clear, clear-seventeen, clear-one, clear-two, clear-three, clear-four, clear-five}
 use Rattle.reader.proofs.find_header.Statement.{statement}
 use Rattle.reader.proofs.find_header.Tie as tie
 
--- what mending says of the packet
-mended-near : (limit packet word bits count : ℕ) (answer : Mending) → word ≡ packet → MendsWithin limit word answer → answer ≡ Mended bits count
-    → ValidWithin limit packet bits × (count ≡ distance packet bits)
-mended-near limit packet word bits count answer e m told =
-    subst (λ (w : ℕ). ValidWithin limit w bits × (count ≡ distance w bits)) e (subst (MendsWithin limit word) told m)
+-- what mending says of the packet, for the number of bits that it was given
+mended-near : (limit given packet word bits count : ℕ) (answer : Mending) → given ≡ limit → word ≡ packet → MendsWithin given word answer
+    → answer ≡ Mended bits count → ValidWithin limit packet bits × (count ≡ distance packet bits)
+mended-near limit given packet word bits count answer g e m told =
+    subst₂ (λ (l w : ℕ). ValidWithin l w bits × (count ≡ distance w bits)) g e (subst (MendsWithin given word) told m)
 
-hopeless-far : (limit packet word : ℕ) (answer : Mending) → word ≡ packet → MendsWithin limit word answer → answer ≡ Hopeless
+hopeless-far : (limit given packet word : ℕ) (answer : Mending) → given ≡ limit → word ≡ packet → MendsWithin given word answer → answer ≡ Hopeless
     → (header : ℕ) → ValidWithin limit packet header → ⊥
-hopeless-far limit packet word answer e m told =
-    subst (λ (w : ℕ). (header : ℕ) → ValidWithin limit w header → ⊥) e (subst (MendsWithin limit word) told m)
+hopeless-far limit given packet word answer g e m told =
+    subst₂ (λ (l w : ℕ). (header : ℕ) → ValidWithin l w header → ⊥) g e (subst (MendsWithin given word) told m)
 
 -- what the type bits say of it
 typed-ours : (bits : ℕ) (fields : Header) (answer : WhichFormat) (format : Format) → fields ≡ fieldsIn bits → FormatInHeader fields answer → answer ≡ Ours format
@@ -82,13 +83,19 @@ found header word format terms packet framed w sync mended carried text used s m
 -- ---- the facts, by place
 
 abbrev start : tie.After-word → tie.Start
-start c = c .before .before .before .before .before .before .before
+start c = c .before .before .before .before .before .before .before .before .before
 
 abbrev packet-at : tie.After-word → List ℕ
 packet-at c = start c .args .packet .now
 
 abbrev terms-at : tie.After-word → Terms
 terms-at c = start c .args .terms
+
+bits-few : (c : tie.After-word) → MayMend (terms-at c .mend)
+bits-few c = omega arith
+
+named-at : (c : tie.After-word) → MayBeNamed (terms-at c)
+named-at c = record { bits = bits-few c; bytes = start c .pre }
 
 word-is : (c : tie.After-word) → c .word .result ≡ received (packet-at c)
 unfolding received
@@ -105,11 +112,14 @@ near-at : (c : tie.After-known-told)
     × (c .before .mending .given .0 .1 .0 ≡ distance (received (packet-at (c .before .before .before .before))) (bits-at c))
 near-at c =
     let m = c .before .before .before in
-    mended-near (terms-at (m .before) .mend) (received (packet-at (m .before))) (m .before .word .result) (bits-at c) (c .before .mending .given .0 .1 .0) (m .mend .result)
-    (word-is (m .before)) (m .mend .ensures) (c .before .mending .given .1)
+    mended-near (terms-at (m .before) .mend) _ (received (packet-at (m .before))) (m .before .word .result) (bits-at c) (c .before .mending .given .0 .1 .0) (m .mend .result)
+    (omega arith) (word-is (m .before)) (m .mend .ensures) (c .before .mending .given .1)
 
 returns : tie.Need-returns
-returns c = record { fault = c .if1 .taken; first = clear-one (c .before .before .args .terms) (c .before .before .args .packet .now) }
+returns c = record { fault = λ few. omega (arith, few, c .if1 .taken); first = clear-seventeen _ _ }
+
+returns-2 : tie.Need-returns-2
+returns-2 c = record { fault = c .if2 .taken; first = clear-one _ _ (omega (arith, c .before .if1 .left)) }
 
 shared-slice-read-word : tie.Need-shared-slice-read-word
 shared-slice-read-word c = search needs
@@ -127,7 +137,7 @@ word-requires : tie.Need-word-requires
 word-requires c κs = search needs
 
 mend-requires : tie.Need-mend-requires
-mend-requires c κs = search needs
+mend-requires c κs = bits-few c
 
 enum-known-mending : tie.Need-enum-known-mending
 enum-known-mending c = search needs
@@ -135,12 +145,12 @@ enum-known-mending c = search needs
 enum-told : tie.Need-enum-told
 enum-told c = search needs
 
-returns-2 : tie.Need-returns-2
-returns-2 c =
+returns-3 : tie.Need-returns-3
+returns-3 c =
     let m = c .before .before in
     record {
-      fault = hopeless-far (terms-at (m .before) .mend) (received (packet-at (m .before))) (m .before .word .result) (m .mend .result) (word-is (m .before)) (m .mend .ensures) (c .enum-told .given .1);
-      first = clear-two (terms-at (m .before)) (packet-at (m .before)) (four (m .before));
+      fault = hopeless-far (terms-at (m .before) .mend) _ (received (packet-at (m .before))) (m .before .word .result) (m .mend .result) (omega arith) (word-is (m .before)) (m .mend .ensures) (c .enum-told .given .1);
+      first = clear-two (terms-at (m .before)) (packet-at (m .before)) (bits-few (m .before)) (four (m .before));
     }
 
 from-bits-requires : tie.Need-from-bits-requires
@@ -155,8 +165,8 @@ enum-known-which c = search needs
 enum-told-2 : tie.Need-enum-told-2
 enum-told-2 c = search needs
 
-returns-3 : tie.Need-returns-3
-returns-3 c =
+returns-4 : tie.Need-returns-4
+returns-4 c =
     let t = c .before .before in
     let k = t .before .before in
     let w = k .before .before .before .before in
@@ -166,7 +176,7 @@ returns-3 c =
         near-at k .0,
         typed-foreign (bits-at k) (t .before .from-bits .result) (t .format .result) (t .before .from-bits .ensures) (t .format .ensures) (c .enum-told2 .given .1),
       );
-      first = clear-three (terms-at w) (packet-at w) (four w) (bits-at k) (near-at k .0);
+      first = clear-three (terms-at w) (packet-at w) (bits-few w) (four w) (bits-at k) (near-at k .0);
     }
 
 -- ---- from here on the format is known
@@ -198,50 +208,51 @@ add-used c = search needs
 -- no condition of a number below 4 holds; and none below 5, where the length is ours
 below-four : (c : tie.After-known-told2) → Clear (terms-at (word-at c)) (packet-at (word-at c)) 4
 below-four c =
-    clear-four (terms-at (word-at c)) (packet-at (word-at c)) (start (word-at c) .pre) (bits-at (told-at c)) (near-at (told-at c) .0) (four (word-at c))
+    clear-four (terms-at (word-at c)) (packet-at (word-at c)) (named-at (word-at c)) (bits-at (told-at c)) (near-at (told-at c) .0) (four (word-at c))
     (c .before .which .given .0 .0) (typed-at c)
 
 below-five : (c : tie.After-known-told2) → 1 ≤ lengthIn (bits-at (told-at c)) → lengthIn (bits-at (told-at c)) ≤ terms-at (word-at c) .most
     → Clear (terms-at (word-at c)) (packet-at (word-at c)) 5
 below-five c =
-    clear-five (terms-at (word-at c)) (packet-at (word-at c)) (start (word-at c) .pre) (bits-at (told-at c)) (near-at (told-at c) .0) (four (word-at c))
+    clear-five (terms-at (word-at c)) (packet-at (word-at c)) (named-at (word-at c)) (bits-at (told-at c)) (near-at (told-at c) .0) (four (word-at c))
     (c .before .which .given .0 .0) (typed-at c)
-
-returns-4 : tie.Need-returns-4
-returns-4 c =
-    let k = c .before .before .before in
-    let near = near-at (told-at k) .0 in
-    record { fault = (bits-at (told-at k), near, inl (sym (long-at k) ∙ c .if2 .taken)); first = below-four k }
 
 returns-5 : tie.Need-returns-5
 returns-5 c =
-    let k = c .before .before .before .before in
-    let h = bits-at (told-at k) in
+    let k = c .before .before .before in
     let near = near-at (told-at k) .0 in
-    record { fault = (h, near, inr (omega (arith, long-at k, c .if3 .taken))); first = below-four k }
+    record { fault = (bits-at (told-at k), near, inl (sym (long-at k) ∙ c .if3 .taken)); first = below-four k }
 
 returns-6 : tie.Need-returns-6
 returns-6 c =
+    let k = c .before .before .before .before in
+    let h = bits-at (told-at k) in
+    let near = near-at (told-at k) .0 in
+    record { fault = (h, near, inr (omega (arith, long-at k, c .if4 .taken))); first = below-four k }
+
+returns-7 : tie.Need-returns-7
+returns-7 c =
     let k = c .before .before .before .before .before in
     let h = bits-at (told-at k) in
     let near = near-at (told-at k) .0 in
     record {
-      fault = (h, near, omega (arith, long-at k, c .if4 .taken));
-      first = below-five k (omega (arith, long-at k, c .before .before .if2 .left)) (omega (arith, long-at k, c .before .if3 .left));
+      fault = (h, near, omega (arith, long-at k, c .if5 .taken));
+      first = below-five k (omega (arith, long-at k, c .before .before .if3 .left)) (omega (arith, long-at k, c .before .if4 .left));
     }
 
-returns-7 : tie.Need-returns-7
+returns-8 : tie.Need-returns-8
 unfolding fieldsIn
-returns-7 c =
+returns-8 c =
     let k = c .before .before .before .before .before in
     let h = bits-at (told-at k) in
     found h (received (packet-at (word-at k))) (k .before .which .given .0 .0) (terms-at (word-at k)) (packet-at (word-at k))
     (record {
+      bits = bits-few (word-at k);
       near = near-at (told-at k) .0;
       typed = typed-at k;
-      some = omega (arith, long-at k, c .before .before .if2 .left);
-      few = omega (arith, long-at k, c .before .if3 .left);
-      whole = omega (arith, long-at k, c .if4 .left);
+      some = omega (arith, long-at k, c .before .before .if3 .left);
+      few = omega (arith, long-at k, c .before .if4 .left);
+      whole = omega (arith, long-at k, c .if5 .left);
     })
     refl _ _ _ _ _ (ap (λ (f : Header). f .sync) (k .before .before .before .before .from-bits .ensures)) (omega (arith, near-at (told-at k) .1)) (omega (arith, long-at k)) (omega arith)
     (omega (arith, long-at k))
@@ -251,6 +262,7 @@ find-header-spec =
     tie.close
     (tie.spec
     returns
+    returns-2
     shared-slice-read-word
     shared-slice-read-word-2
     shared-slice-read-word-3
@@ -259,16 +271,16 @@ find-header-spec =
     mend-requires
     enum-known-mending
     enum-told
-    returns-2
+    returns-3
     from-bits-requires
     format-requires
     enum-known-which
     enum-told-2
-    returns-3
+    returns-4
     cast-length
     cast-most
     add-used
-    returns-4
     returns-5
     returns-6
-    returns-7)
+    returns-7
+    returns-8)

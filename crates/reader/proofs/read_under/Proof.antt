@@ -17,7 +17,8 @@ enum-known-examined c = search needs
 read-text-requires : tie.Need-read-text-requires
 read-text-requires c κs =
     let s = c .before .before .before .before .before .before .before in
-    (s .pre, subst (Examines (s .args .terms) (s .args .packet .now)) (c .before .before .examined .given .1) (c .before .before .before .before .examine-under .ensures))
+    let readable = subst (Examines (s .args .terms) (s .args .packet .now)) (c .before .before .examined .given .1) (c .before .before .before .before .examine-under .ensures) in
+    (record { bits = readable .1 .allowed .framed .bits; bytes = s .pre }, readable)
 
 enum-known-examined-2 : tie.Need-enum-known-examined-2
 enum-known-examined-2 c = search needs

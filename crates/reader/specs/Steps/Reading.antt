@@ -1,4 +1,4 @@
--- Tests 1 to 5, as a function answers them.
+-- Tests 17 and 1 to 5, as a function answers them.
 -- Assumes nothing.
 use mathlib.Core.List.{List, []}
 use mathlib.Core.Path.{_≡_}

@@ -7,11 +7,11 @@ use Rattle.report.proofs.Told.{reported}
 use Rattle.report.proofs.packet_line.Statement.{statement}
 use Rattle.report.proofs.packet_line.Tie as tie
 
-slice-aggregate-read : tie.Need-slice-aggregate-read
-slice-aggregate-read c = search needs
+slice-aggregate-read-mending : tie.Need-slice-aggregate-read-mending
+slice-aggregate-read-mending c = search needs
 
-read-requires : tie.Need-read-requires
-read-requires c κs = search needs
+read-mending-requires : tie.Need-read-mending-requires
+read-mending-requires c κs = search needs
 
 line-requires : tie.Need-line-requires
 line-requires c κs = search needs
@@ -22,8 +22,8 @@ same-length c = search needs
 returns : tie.Need-returns
 returns c =
     let put = c .before .before .line in
-    let read = c .before .before .before .before .before .read in
-    reported _ _ (read .result) (put .result) (read .ensures) (put .ensures) (omega arith) (omega arith)
+    let read = c .before .before .before .before .before .read-mending in
+    reported _ _ (read .result) (put .result) _ (read .ensures) (omega arith) (put .ensures) (omega arith) (omega arith)
 
 pub packet-line-spec : {M : Type 1} → statement M
-packet-line-spec = tie.close (tie.spec slice-aggregate-read read-requires line-requires same-length returns)
+packet-line-spec = tie.close (tie.spec slice-aggregate-read-mending read-mending-requires line-requires same-length returns)

@@ -1,14 +1,11 @@
--- `vectors::run_reader` is safe and ends: the line is a part of its buffer.
+-- `vectors::print_read` is safe and ends: the line is a part of its buffer.
 -- Assumes nothing.
 use mathlib.Core.Path.{sym}
 use borrow.Author.Needs.{needs}
 use lib.Seq.{length-take-le}
 use Rattle.report.proofs.Putting.{front-within}
-use Rattle.vectors.proofs.run_reader.Statement.{statement}
-use Rattle.vectors.proofs.run_reader.Tie as tie
-
-read-requires : tie.Need-read-requires
-read-requires c κs = search needs
+use Rattle.vectors.proofs.print_read.Statement.{statement}
+use Rattle.vectors.proofs.print_read.Tie as tie
 
 slice-aggregate-line : tie.Need-slice-aggregate-line
 slice-aggregate-line c = search needs
@@ -32,17 +29,13 @@ read-with-requires c κs = search needs
 print-buffer-requires : tie.Need-print-buffer-requires
 print-buffer-requires c κs = search needs
 
-same-length : tie.Need-same-length
-same-length c = search needs
-
 returns : tie.Need-returns
 returns c = search needs
 
-pub run-reader-spec : {M : Type 1} → statement M
-run-reader-spec =
+pub print-read-spec : {M : Type 1} → statement M
+print-read-spec =
     tie.close
     (tie.spec
-    read-requires
     slice-aggregate-line
     line-requires
     array-share-prefix-line
@@ -50,5 +43,4 @@ run-reader-spec =
     write-all-requires
     read-with-requires
     print-buffer-requires
-    same-length
     returns)
