@@ -1,10 +1,10 @@
 // The reader and the writer for C and Rust: the entry points that need a buffer, their answers as plain structs.
 use header::Header;
 use reader::ReadAnswer;
-use terms::Terms;
 use writer::WriteAnswer;
+ghost use mathlib.Core.Path.{_≡_};
 ghost use Rattle.terms.specs.Terms.{naming, usual};
-ghost use Rattle.rosopyat_c.specs.Replies.{RepliesToRead, RepliesToWrite};
+ghost use Rattle.rosopyat_c.specs.Replies.{readReply, RepliesToRead, RepliesToWrite};
 
 // A packet that was read (`refusal` 0), or why not: then every member but `refusal` and `number` is 0.
 #[repr(C)]
@@ -26,11 +26,10 @@ pub struct WriteReply {
     pub length: usize,
 }
 
-#[no_mangle]
-pub extern "C" fn rosopyat_read_mending(mend: u32, packet: &[u8], text: &mut [u8]) -> ReadReply
-    ensures { λ r. ⌜ RepliesToRead (naming mend) (now (packet .entry)) (now (text .entry)) r (now (text .exit)) ⌝ }
+// The reader's answer as a plain struct.
+fn reply(answer: ReadAnswer) -> ReadReply
+    ensures { λ r. ⌜ r ≡ readReply answer ⌝ }
 {
-    let answer = reader::read_mending(mend, packet, text);
     match answer {
         ReadAnswer::Accepted(reading) => {
             let format = reading.format;
@@ -59,10 +58,17 @@ pub extern "C" fn rosopyat_read_mending(mend: u32, packet: &[u8], text: &mut [u8
 }
 
 #[no_mangle]
+pub extern "C" fn rosopyat_read_mending(mend: u32, packet: &[u8], text: &mut [u8]) -> ReadReply
+    ensures { λ r. ⌜ RepliesToRead (naming mend) (now (packet .entry)) (now (text .entry)) r (now (text .exit)) ⌝ }
+{
+    reply(reader::read_mending(mend, packet, text))
+}
+
+#[no_mangle]
 pub extern "C" fn rosopyat_read(packet: &[u8], text: &mut [u8]) -> ReadReply
     ensures { λ r. ⌜ RepliesToRead usual (now (packet .entry)) (now (text .entry)) r (now (text .exit)) ⌝ }
 {
-    rosopyat_read_mending(Terms::MEND, packet, text)
+    reply(reader::read(packet, text))
 }
 
 #[no_mangle]
