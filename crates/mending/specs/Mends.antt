@@ -1,4 +1,4 @@
--- A received header is read as the valid header at most two bits away, parity bit included (RULES, Packet), or fewer where the caller says so.
+-- A received header is read as the valid header at most the named number of bits away, parity bit included (RULES, Packet).
 -- Assumes nothing.
 use mathlib.Core.Path.{_≡_}
 use Prim.Native.Nat.{ℕ}

@@ -39,8 +39,8 @@ enum HeaderAnswer {
     Refused(ExamineRefusal),
 }
 
-// Tests 17 and 1 to 5: the header that the packet is read as, its type and length, and bytes enough. The members of the answer are put together here, all but
-// the text's length.
+// Tests 17 and 1 to 5: a number that may be named, the header that the packet is read as, its type and length, and bytes enough. The members of the answer
+// are put together here, all but the text's length.
 fn find_header(terms: Terms, packet: &[u8]) -> HeaderAnswer
     requires { ⌜ OnePacket (terms .most) ⌝ }
     ensures { λ r. ⌜ FindsHeader terms (now (packet .entry)) r ⌝ }
