@@ -2,8 +2,9 @@
 """Writes the cases of crates/vectors (stdin) and what the program must print for them (stdout).
 
 Written from docs/RULES.md and document 001 alone. For the published packets of 001's section 5 (outside-tests/vectors/section5.txt) the expectation is
-the published packet and the message beside it; for the edges P1 to P15 and Q1 to Q3 it is the line of RULES, Edges; for all others it is worked out
-here, in the plainest way: bits are strings of 0 and 1, a header is mended by trying every pattern of at most as many bits as are named.
+the published packet and the message beside it; for the edges P1 to P15, M1 (but for the number that three bytes do not hold), M2 and Q1 to Q3 it is the
+line of RULES, Edges; for all others it is worked out here, in the plainest way: bits are strings of 0 and 1, a header is mended by trying every pattern of
+at most as many bits as are named.
 
     python3 vector-maker/make_vectors.py            writes both files
     python3 vector-maker/make_vectors.py --check    writes nothing: are they what would be written?

@@ -18,8 +18,7 @@ use Rattle.distance.specs.Distance.{distance}
 use Rattle.checksum.specs.Checksum.{checksumBytes}
 use Rattle.formats.specs.Data.{Carries, AllCoded, comesBack, dataOf}
 use Rattle.formats.proofs.Formats.{carries-coded, carries-kept, carries-some, data-some, no-fewer, writer-carries}
-use Rattle.refusals.specs.declared.WriteRefusal.{WriteRefusal}
-use Rattle.refusals.specs.declared.WriteRefusal.the-variants.{OtherFormat, Empty, NoCode, TooLong, NoRoom}
+use Rattle.refusals.specs.declared.WriteRefusal.the-variants.{Empty}
 use Rattle.terms.specs.declared.Terms.{Terms}
 use Rattle.reader.specs.declared.Reading.{Reading}
 use Rattle.reader.specs.declared.ExamineAnswer.{ExamineAnswer}
@@ -32,7 +31,7 @@ use Rattle.reader.specs.Examine.{Allowed, readingOf, Accepts, Examines}
 use Rattle.packet.specs.Packet.{received, dataIn, packetOf, headerFor}
 use Rattle.reader.specs.Reader.{Reads}
 use Rattle.terms.specs.Terms.{MayBeNamed}
-use Rattle.writer.specs.Writer.{ourPacket, WriteFault, Writes}
+use Rattle.writer.specs.Writer.{ourPacket, Writes}
 use Rattle.reader.proofs.ExamineOnce.{examines-one}
 use Rattle.reader.proofs.ReadOnce.{reads-one}
 use Rattle.packet.proofs.Sent.{header-valid}
@@ -41,6 +40,7 @@ use Rattle.writer.proofs.WriteStages.{clear-ten}
 use Rattle.demands.specs.Demand2.{Writable, packetLength, cleanReading, StandsInFront, Demand2}
 use Rattle.demands.specs.Makers.{Made, Flipped, arriving, readingWith}
 use Rattle.demands.proofs.Demand3.{packet-header, intact}
+use Rattle.demands.proofs.Alike.{writes-alike}
 use Rattle.demands.proofs.Parts.{header-is, received-lt, head-and-rest, data-size, behind-header}
 
 our-is : (format : Format) (sync : Bool) (text : List ℕ)
@@ -56,31 +56,6 @@ in-front : (format : Format) (sync : Bool) (text after : List ℕ)
     → ourPacket format sync text ++ after ≡ arriving (headerFor format sync (length (dataOf format text))) (ourPacket format sync text) after
 unfolding arriving ourPacket packetOf bytesOf
 in-front format sync text after = refl
-
--- ---- what the writer promises names no number of bits
-
-fault-alike : (s t : Terms) → s .most ≡ t .most → (number : ℕ) (text : List ℕ) (room : ℕ) (r : WriteRefusal) → WriteFault s number text room r
-    → WriteFault t number text room r
-fault-alike s t e number text room OtherFormat f = f
-fault-alike s t e number text room Empty f = f
-fault-alike s t e number text room (NoCode index) f = f
-fault-alike s t e number text room TooLong (format, is, long) = (format, is, subst (λ (n : ℕ). n < length (dataOf format text)) e long)
-fault-alike s t e number text room (NoRoom needed) f = f
-
-writes-alike : (s t : Terms) → s .most ≡ t .most → (number : ℕ) (sync : Bool) (text entry exit : List ℕ) (answer : WriteAnswer)
-    → Writes s number sync text entry answer exit → Writes t number sync text entry answer exit
-writes-alike s t e number sync text entry exit (Written n) (format, a, is) = (
-  format,
-  record { named = a .named; some = a .some; coded = a .coded; few = omega (arith, e, a .few); fits = a .fits; held = a .held },
-  is,
-)
-writes-alike s t e number sync text entry exit (NotWritten r) (p, same) = (
-  record {
-    fault = fault-alike s t e number text (length entry) r (p .fault);
-    first = λ other lt f. p .first other lt (fault-alike t s (sym e) number text (length entry) other f);
-  },
-  same,
-)
 
 module _ (terms : Terms) (named : MayBeNamed terms) where
   -- ---- text that has codes and fits is written, and reads back

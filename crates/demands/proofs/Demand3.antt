@@ -11,9 +11,8 @@ use Rattle.bits.specs.Row.{Bytes}
 use Rattle.header.specs.declared.Format.{Format}
 use Rattle.header.specs.Fields.{bytesOf}
 use Rattle.header.specs.Valid.{Valid}
-use Rattle.header.proofs.Bytes.{word-bytes}
 use Rattle.distance.specs.Distance.{ValidWithin, distance}
-use Rattle.distance.proofs.Unique.{none-near}
+use Rattle.distance.proofs.Unique.{none-within}
 use Rattle.checksum.specs.Alike.{AlikeBut}
 use Rattle.checksum.specs.Checksum.{checksumOf, checksumBytes}
 use Rattle.checksum.proofs.Detect.{checksum-bytes-detect}
@@ -32,15 +31,10 @@ use Rattle.terms.specs.Terms.{MayBeNamed}
 use Rattle.reader.proofs.ExamineOnce.{examines-one}
 use Rattle.reader.proofs.ExamineStages.{clear-two}
 use Rattle.reader.proofs.ReadOnce.{reads-one, refused-packet}
-use Rattle.packet.proofs.Sent.{arrived, received-is, header-valid}
+use Rattle.packet.proofs.Sent.{received-front, arrived, received-is, header-valid}
 use Rattle.reader.proofs.Sent.{sent-allowed, sent-reading, sent-refused}
 use Rattle.demands.specs.Demand3.{RefusedByChecksum, Demand3}
 use Rattle.demands.specs.Makers.{Made, Flipped, FlippedBeyond, arriving, readingWith}
-
--- whatever stands behind four bytes, their word is received
-received-front : (word : ℕ) (behind : List ℕ) → word < 2 ^ 32 → received (bytesOf word ++ behind) ≡ word
-unfolding received bytesOf
-received-front word behind bits = word-bytes word bits
 
 module _ (terms : Terms) (named : MayBeNamed terms) (format : Format) (sync : Bool) (text packet : List ℕ) (made : Made terms format sync text packet) where
   small : length (made .carried) < 2 ^ 14
@@ -127,7 +121,7 @@ module _ (terms : Terms) (named : MayBeNamed terms) (format : Format) (sync : Bo
     far : (header : ℕ) → ValidWithin (terms .mend) (received came) header → ⊥
     far =
         subst (λ (w : ℕ). (header : ℕ) → ValidWithin (terms .mend) w header → ⊥) (sym (received-front word behind (flipped .bits)))
-        (none-near (terms .mend) word (received packet) (subst Valid (sym packet-header) (header-valid format sync (length (made .carried)) small)) (flipped .more) (omega (arith, flipped .few)))
+        (none-within (terms .mend) word (received packet) (subst Valid (sym packet-header) (header-valid format sync (length (made .carried)) small)) (flipped .more) (omega (arith, flipped .few)))
 
     no-header : Refuses terms came NoHeader
     no-header = record { fault = far; first = clear-two terms came (named .bits) four }

@@ -1,32 +1,27 @@
 -- Every row of the table of edges holds.
 -- Assumes nothing.
 use mathlib.Core.Bool.{Bool, true, false, not, _&&_}
-use mathlib.Core.List.{List, [], _∷_, _++_, List·Memᴰ, List·Memᴰ·head, List·Memᴰ·tail}
-use mathlib.Core.Path.{_≡_, refl, sym, subst}
-use Prim.Native.Nat.{ℕ, zero, suc, _%_, _^_, _<_, _≤_}
+use mathlib.Core.List.{List, [], _∷_}
+use mathlib.Core.Path.{subst}
+use Prim.Native.Nat.{ℕ, _^_}
 use native.Mathlib.Omega.{arith}
-use lib.Bits.{xor-lt}
 use lib.Count.{onesIn}
-use lib.Dec.{T, T-not, leb, ltb, eqb, leb→le, ltb→lt, eqb→eq, eqb-refl}
-use lib.ListN.{length, length-append, take, getD}
-use lib.Pow.{pow-lt}
+use lib.Dec.{T, T-not, leb, ltb, eqb, leb→le, ltb→lt, eqb→eq}
+use lib.ListN.{length, take, getD}
 use Rattle.bits.specs.Row.{bits}
 use Rattle.bits.specs.Word.{bit, differences}
 use Rattle.bits.proofs.All.{all, all-at}
 use Rattle.bits.proofs.Ones.{flip}
-use Rattle.bits.proofs.Said.{and-left, and-right, and-both}
+use Rattle.bits.proofs.Said.{and-left, and-right}
 use Rattle.header.specs.declared.Format.{Format}
 use Rattle.header.specs.declared.Format.the-variants.{Open, PseudoBinary, Numeric, Shef, FullAscii}
-use Rattle.header.specs.declared.Header.{Header}
 use Rattle.header.specs.Check.{generator, remainder, checkOf}
 use Rattle.header.specs.Flag.{Odd, flagBits, spareIn, syncIn, extendedTypeIn, messageTypeIn, parityFor}
-use Rattle.header.specs.Valid.{Valid, flagIn, lengthIn, checkIn, informationIn}
+use Rattle.header.specs.Valid.{flagIn, lengthIn, checkIn, informationIn}
 use Rattle.header.specs.Fields.{fieldsIn, headerOf, lowFlag, bytesOf}
-use Rattle.header.specs.Formats.{HasFormat, formatNumber}
 use Rattle.mending.specs.declared.Mending.the-variants.{Mended}
-use Rattle.distance.specs.Distance.{distance, ValidWithin}
+use Rattle.distance.specs.Distance.{distance}
 use Rattle.mending.specs.Mends.{MendsWithin}
-use Rattle.distance.proofs.Search.{none-at, none-around}
 use Rattle.codes.specs.Chain.{Scheme, stateAfter, codes, texts, Builds, Stuck}
 use Rattle.codes.specs.Coded.{lastOf}
 use Rattle.codes.specs.Consecutive.{codeFor, consecutive}
@@ -34,7 +29,7 @@ use Rattle.codes.specs.LineEnds.{eachAfter, ended, lineEnds}
 use Rattle.codes.specs.Lookup.{same, found, first, saying, meaning}
 use Rattle.codes.specs.Pack.{low, numbers, value, bytes, packed, gap, filled, written}
 use Rattle.codes.proofs.Beginning.{begun}
-use Rattle.codes.proofs.EveryElement.{every, every-at}
+use Rattle.codes.proofs.EveryElement.{every}
 use Rattle.codes.proofs.Lookup.{same-is}
 use Rattle.codes.proofs.Fill.{fills}
 use Rattle.codes.proofs.TableSearch.{find}
@@ -56,126 +51,12 @@ use Rattle.shef.proofs.Table as shef-table
 use Rattle.refusals.specs.declared.ExamineRefusal.the-variants.{TooManyBits, NoHeader, OtherType}
 use Rattle.formats.specs.Data.{Carries, Unreadable, coded, dataOf, comesBack}
 use Rattle.packet.specs.Packet.{received, headerFor}
-use Rattle.terms.specs.Terms.{MayMend, naming}
+use Rattle.terms.specs.Terms.{naming}
 use Rattle.packet.proofs.Sent.{header-valid, header-typed, header-length, header-sync}
 use Rattle.reader.proofs.ExamineOnce.{too-many}
-use Rattle.reader.proofs.ExamineStages.{clear-two, clear-three}
 use Rattle.reader.proofs.ReadOnce.{refused-packet}
-use Rattle.demands.specs.Edges.{Edge, checks, heads, reads, hopeless, foreign, unnamed, writes, carries, stops, lacks, Naming, RefusesAll, Holds, edges, Every}
-
--- ---- that no valid header lies near a word, as one computed test
-
-valid : ℕ → Bool
-valid h = eqb (onesIn 8 (flagIn h) % 2) 1 && eqb (checkIn h) (checkOf (informationIn h))
-
-valid-test : (h : ℕ) → Valid h → T (valid h)
-unfolding valid Odd
-valid-test h v =
-    and-both (eqb (onesIn 8 (flagIn h) % 2) 1) (eqb (checkIn h) (checkOf (informationIn h)))
-    (subst (λ (n : ℕ). T (eqb n 1)) (sym (v .parity)) tt)
-    (subst (λ (n : ℕ). T (eqb (checkIn h) n)) (v .checked) (eqb-refl (checkIn h)))
-
--- no valid header within so many bits
-none : ℕ → ℕ → Bool
-none zero h = not (valid h)
-none (suc limit) h = not (valid h) && all (λ k. none limit (flip k h)) 32
-
-flip-lt : (k h : ℕ) → k < 32 → h < 2 ^ 32 → flip k h < 2 ^ 32
-unfolding flip
-flip-lt k h lt small = xor-lt 32 h (2 ^ k) small (pow-lt lt)
-
-none-near : (limit h : ℕ) → h < 2 ^ 32 → T (none limit h) → (v : ℕ) → ValidWithin limit h v → ⊥
-unfolding none
-none-near zero h lt t = none-at h lt (λ v. T-not (valid h) t (valid-test h v))
-none-near (suc limit) h lt t =
-    none-around limit h lt (λ v. T-not (valid h) (and-left (not (valid h)) (all (λ k. none limit (flip k h)) 32) t) (valid-test h v))
-    (λ k below.
-    none-near limit (flip k h) (flip-lt k h below lt)
-    (all-at (λ k. none limit (flip k h)) 32 (and-right (not (valid h)) (all (λ k. none limit (flip k h)) 32) t) k below))
-
--- ---- headers, by computed tests
-
-valid-by-test : (h : ℕ) → h < 2 ^ 32 → T (valid h) → Valid h
-unfolding valid Odd
-valid-by-test h lt t =
-    record {
-      bits = lt;
-      checked = eqb→eq (checkIn h) (checkOf (informationIn h)) (and-right (eqb (onesIn 8 (flagIn h) % 2) 1) (eqb (checkIn h) (checkOf (informationIn h))) t);
-      parity = eqb→eq (onesIn 8 (flagIn h) % 2) 1 (and-left (eqb (onesIn 8 (flagIn h) % 2) 1) (eqb (checkIn h) (checkOf (informationIn h))) t);
-    }
-
-mends-by-test : (mend h v bits : ℕ) → Valid v → T (_&&_ (leb (distance h v) mend) (eqb bits (distance h v))) → MendsWithin mend h (Mended v bits)
-mends-by-test mend h v bits valid t = (
-  record { valid = valid; near = leb→le (distance h v) mend (and-left (leb (distance h v) mend) (eqb bits (distance h v)) t) },
-  eqb→eq bits (distance h v) (and-right (leb (distance h v) mend) (eqb bits (distance h v)) t),
-)
-
--- a header of this format
-ours : Header → Format → Bool
-ours f format = _&&_ (not (f .spare)) (_&&_ (eqb (f .«message_type») 2) (eqb (f .«extended_type») (formatNumber format)))
-
-ours-test : (f : Header) (format : Format) → HasFormat f format → T (ours f format)
-unfolding ours
-ours-test f format t =
-    and-both (not (f .spare)) (_&&_ (eqb (f .«message_type») 2) (eqb (f .«extended_type») (formatNumber format))) (subst (λ (b : Bool). T (not b)) (sym (t .spare)) tt)
-    (and-both (eqb (f .«message_type») 2) (eqb (f .«extended_type») (formatNumber format)) (subst (λ (n : ℕ). T (eqb n 2)) (sym (t .«message_type»)) tt)
-    (subst (λ (n : ℕ). T (eqb n (formatNumber format))) (sym (t .«extended_type»)) (eqb-refl (formatNumber format))))
-
--- or of none of ours
-abbrev formats : List Format
-formats = Open ∷ PseudoBinary ∷ Numeric ∷ Shef ∷ FullAscii ∷ []
-
-format-in : (format : Format) → List·Memᴰ format formats
-format-in Open = List·Memᴰ·head refl
-format-in PseudoBinary = List·Memᴰ·tail (List·Memᴰ·head refl)
-format-in Numeric = List·Memᴰ·tail (List·Memᴰ·tail (List·Memᴰ·head refl))
-format-in Shef = List·Memᴰ·tail (List·Memᴰ·tail (List·Memᴰ·tail (List·Memᴰ·head refl)))
-format-in FullAscii = List·Memᴰ·tail (List·Memᴰ·tail (List·Memᴰ·tail (List·Memᴰ·tail (List·Memᴰ·head refl))))
-
-other : Header → Bool
-other f = every (λ (format : Format). not (ours f format)) formats
-
-other-none : (f : Header) → T (other f) → (format : Format) → HasFormat f format → ⊥
-unfolding other
-other-none f t format typed =
-    T-not (ours f format) (every-at (λ (k : Format). not (ours f k)) formats t format (format-in format)) (ours-test f format typed)
-
--- what starts with four bytes has their word
-front-word : (head after : List ℕ) → length head ≡ 4 → received (head ++ after) ≡ received head
-unfolding received
-front-word (a ∷ b ∷ c ∷ d ∷ []) after e = refl
-front-word (a ∷ b ∷ c ∷ d ∷ x ∷ l) after e = absurd (let no′ : ⊥ = omega arith in no′)
-front-word (a ∷ b ∷ c ∷ []) after e = absurd (let no′ : ⊥ = omega arith in no′)
-front-word (a ∷ b ∷ []) after e = absurd (let no′ : ⊥ = omega arith in no′)
-front-word (a ∷ []) after e = absurd (let no′ : ⊥ = omega arith in no′)
-front-word [] after e = absurd (let no′ : ⊥ = omega arith in no′)
-
-module _ (mend : ℕ) (bits : MayMend mend) (head : List ℕ) (four : length head ≡ 4) where
-  enough : (after : List ℕ) → 4 ≤ length (head ++ after)
-  enough after = omega (arith, length-append head after)
-
-  refuses-hopeless : ((header : ℕ) → ValidWithin mend (received head) header → ⊥) → RefusesAll mend head NoHeader
-  refuses-hopeless far after room =
-      refused-packet (naming mend) (head ++ after) room NoHeader
-      (record {
-        fault = λ header near. far header (subst (λ (w : ℕ). ValidWithin mend w header) (front-word head after four) near);
-        first = clear-two (naming mend) (head ++ after) bits (enough after);
-      })
-
-  refuses-foreign : (header : ℕ) → ValidWithin mend (received head) header → ((format : Format) → HasFormat (fieldsIn header) format → ⊥)
-      → RefusesAll mend head OtherType
-  refuses-foreign header near none after room =
-      let near′ : ValidWithin mend (received (head ++ after)) header = subst (λ (w : ℕ). ValidWithin mend w header) (sym (front-word head after four)) near in
-      refused-packet (naming mend) (head ++ after) room OtherType
-      (record { fault = (header, near′, none); first = clear-three (naming mend) (head ++ after) bits (enough after) header near′ })
-
--- what a test says of each number, it says whichever is named
-whichever : (test : ℕ → Bool) (Said : ℕ → Type 0) → ((mend : ℕ) → T (test mend) → Said mend) → (numbers : List ℕ) → T (every test numbers)
-    → Naming numbers Said
-unfolding every
-whichever test Said says [] t = tt
-whichever test Said says (mend ∷ numbers) t =
-    (says mend (and-left (test mend) (every test numbers) t), whichever test Said says numbers (and-right (test mend) (every test numbers) t))
+use Rattle.demands.specs.Edges.{Edge, checks, heads, reads, hopeless, foreign, unnamed, writes, carries, stops, lacks, RefusesAll, Holds, edges, Every}
+use Rattle.demands.proofs.HeaderTests.{valid, none, none-near, valid-by-test, mends-by-test, ours, other, other-none, refuses-hopeless, refuses-foreign, whichever}
 
 -- ---- data, by a reading that computes
 

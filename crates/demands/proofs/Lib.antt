@@ -1,7 +1,9 @@
+pub mod Alike
 pub mod Demand1
 pub mod Demand2
 pub mod Demand3
 pub mod Edges
+pub mod HeaderTests
 pub mod OneAnswer
 pub mod Parts
 pub mod Promised

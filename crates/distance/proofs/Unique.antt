@@ -13,7 +13,7 @@ one-near limit received v w le nv nw =
     near-same v w (nv .valid) (nw .valid) (omega (arith, distance-round v received w, distance-comm v received, nv .near, nw .near))
 
 -- a word more than `limit` bits from a valid header, but with these no more than four, is not within `limit` bits of any
-pub none-near : (limit received v : ℕ) → Valid v → limit < distance received v → limit + distance received v ≤ 4 → (w : ℕ) → ValidWithin limit received w → ⊥
-none-near limit received v valid more few w nw =
+pub none-within : (limit received v : ℕ) → Valid v → limit < distance received v → limit + distance received v ≤ 4 → (w : ℕ) → ValidWithin limit received w → ⊥
+none-within limit received v valid more few w nw =
     let same : v ≡ w = near-same v w valid (nw .valid) (omega (arith, distance-round v received w, distance-comm v received, nw .near)) in
     omega (arith, more, subst (λ (x : ℕ). distance received x ≤ limit) (sym same) (nw .near))

@@ -199,19 +199,33 @@ three : (h : ℕ) → flagIn h * 2 ^ 24 + lengthIn h * 2 ^ 10 + checkIn h ≡ h
 unfolding flagIn lengthIn checkIn
 three h = omega (arith, mod-pow-add h 14 10)
 
+-- the fields of a word hold its information bits, so the header that is made of them has these
+informed : (h : ℕ) → lowFlag (fieldsIn h) * 2 ^ 14 + fieldsIn h .length ≡ informationIn h
+unfolding informationIn fieldsIn
+informed h = ap (λ (n : ℕ). n * 2 ^ 14 + lengthIn h) (low-back h)
+
+pub fields-fit : (h : ℕ) → Fit (fieldsIn h)
+unfolding fieldsIn messageTypeIn extendedTypeIn flagBits lengthIn
+fields-fit h =
+    record {
+      «message_type» = mod-lt (flagIn h / 2 ^ 5) (pow-pos 2);
+      «extended_type» = mod-lt (flagIn h / 2 ^ 2) (pow-pos 3);
+      length = mod-lt (h / 2 ^ 10) (pow-pos 14);
+    }
+
+pub information-back : (h : ℕ) → informationIn (headerOf (fieldsIn h)) ≡ informationIn h
+information-back h = made-information (fieldsIn h) (fields-fit h) ∙ informed h
+
 -- every valid header is made of its fields: there are no others
 pub valid-made : (h : ℕ) → Valid h → headerOf (fieldsIn h) ≡ h
 unfolding headerOf informationIn fieldsIn
 valid-made h v =
-    ap₂ (λ (x y : ℕ). x * 2 ^ 24 + fieldsIn h .length * 2 ^ 10 + checkOf y) flagged informed
+    ap₂ (λ (x y : ℕ). x * 2 ^ 24 + fieldsIn h .length * 2 ^ 10 + checkOf y) flagged (informed h)
     ∙ ap (λ (n : ℕ). flagIn h * 2 ^ 24 + lengthIn h * 2 ^ 10 + n) (sym (v .checked))
     ∙ whole
   where
     flagged : parityFor (lowFlag (fieldsIn h)) * 2 ^ 7 + lowFlag (fieldsIn h) ≡ flagIn h
     flagged = ap (λ (n : ℕ). parityFor n * 2 ^ 7 + n) (low-back h) ∙ parity-back (flagIn h) (flag-in-lt h (v .bits)) (v .parity)
-
-    informed : lowFlag (fieldsIn h) * 2 ^ 14 + fieldsIn h .length ≡ informationIn h
-    informed = ap (λ (n : ℕ). n * 2 ^ 14 + lengthIn h) (low-back h)
 
     whole : flagIn h * 2 ^ 24 + lengthIn h * 2 ^ 10 + checkIn h ≡ h
     whole = three h
@@ -233,3 +247,12 @@ one-parity word v w hv hw pv pw =
 pub valid-low : (v w : ℕ) → Valid v → Valid w → v % 2 ^ 31 ≡ w % 2 ^ 31 → v ≡ w
 valid-low v w hv hw e =
     one-parity w v w (hv .bits) (hw .bits) (record { odd = hv .parity; low = e }) (record { odd = hw .parity; low = refl })
+
+-- and so are two that agree in the information bits
+pub one-of-information : (v w : ℕ) → Valid v → Valid w → informationIn v ≡ informationIn w → v ≡ w
+unfolding checkIn
+one-of-information v w hv hw e =
+    valid-low v w hv hw (low v hv ∙ ap (λ (n : ℕ). n * 2 ^ 10 + checkOf n) e ∙ sym (low w hw))
+  where
+    low : (h : ℕ) → Valid h → h % 2 ^ 31 ≡ informationIn h * 2 ^ 10 + checkOf (informationIn h)
+    low h v = mod-pow-add h 21 10 ∙ ap₂ (λ (x y : ℕ). x * 2 ^ 10 + y) (sym (information-in h)) (v .checked)

@@ -42,6 +42,11 @@ module _ (format : Format) (sync : Bool) (n : ℕ) (few : n < 2 ^ 14) where
   pub header-sync : fieldsIn (headerFor format sync n) .sync ≡ sync
   header-sync = ap (λ (f : Header). f .sync) fields
 
+-- whatever stands behind four bytes, their word is received
+pub received-front : (word : ℕ) (behind : List ℕ) → word < 2 ^ 32 → received (bytesOf word ++ behind) ≡ word
+unfolding received bytesOf
+received-front word behind bits = word-bytes word bits
+
 -- ---- the parts of a received packet: a header's four bytes, data, two bytes, and whatever follows
 
 module _ (word : ℕ) (carried : List ℕ) (low high : ℕ) (after : List ℕ) where
@@ -49,8 +54,7 @@ module _ (word : ℕ) (carried : List ℕ) (low high : ℕ) (after : List ℕ) w
   arrived = bytesOf word ++ (carried ++ (low ∷ high ∷ after))
 
   pub received-is : word < 2 ^ 32 → received arrived ≡ word
-  unfolding received bytesOf
-  received-is bits = word-bytes word bits
+  received-is = received-front word (carried ++ (low ∷ high ∷ after))
 
   body-is : drop 4 arrived ≡ carried ++ (low ∷ high ∷ after)
   unfolding bytesOf
