@@ -98,6 +98,7 @@ module _ (terms : Terms) (named : MayBeNamed terms) (packet : List ℕ) (found :
           format = found .format;
           sync = found .sync;
           mended = found .mended;
+          mask = found .mask;
           «data_length» = found .«data_length»;
           «text_length» = n;
           used = found .used;
@@ -112,6 +113,7 @@ module _ (terms : Terms) (named : MayBeNamed terms) (packet : List ℕ) (found :
                 format = h .is i .format;
                 sync = h .is i .sync;
                 mended = h .is i .mended;
+                mask = h .is i .mask;
                 «data_length» = h .is i .«data_length»;
                 «text_length» = e i;
                 used = h .is i .used;

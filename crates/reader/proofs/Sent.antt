@@ -5,6 +5,7 @@ use mathlib.Core.List.{List, [], _∷_}
 use mathlib.Core.Path.{_≡_, sym, ap, _∙_, subst}
 use Prim.Native.Nat.{ℕ, _+_, _^_, _≤_, _<_}
 use native.Mathlib.Omega.{arith}
+use lib.Bits.{bitXor}
 use lib.ListN.{length}
 use Rattle.header.specs.declared.Format.{Format}
 use Rattle.header.specs.Valid.{lengthIn}
@@ -65,6 +66,7 @@ module _ (terms : Terms) (named : MayBeNamed terms) (format : Format) (sync : Bo
         format = format;
         sync = sync;
         mended = distance word header;
+        mask = bitXor word header;
         «data_length» = length carried;
         «text_length» = length text;
         used = length carried + 6;
@@ -74,6 +76,7 @@ module _ (terms : Terms) (named : MayBeNamed terms) (format : Format) (sync : Bo
         format = format;
         sync = header-sync format sync (length carried) small i;
         mended = distance (received-is word carried low high after bits i) header;
+        mask = bitXor (received-is word carried low high after bits i) header;
         «data_length» = long i;
         «text_length» = length text;
         used = long i + 6;

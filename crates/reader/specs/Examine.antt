@@ -5,6 +5,7 @@ use mathlib.Core.List.{List}
 use mathlib.Core.Logic.{_⊎_}
 use mathlib.Core.Path.{_≡_}
 use Prim.Native.Nat.{ℕ, _+_, _≤_, _<_}
+use lib.Bits.{bitXor}
 use lib.ListN.{length}
 use Rattle.header.specs.declared.Format.{Format}
 use Rattle.header.specs.Fields.{fieldsIn}
@@ -67,6 +68,7 @@ readingOf format header word text =
       format = format;
       sync = fieldsIn header .sync;
       mended = distance word header;
+      mask = bitXor word header;
       «data_length» = lengthIn header;
       «text_length» = length text;
       used = lengthIn header + 6;

@@ -13,11 +13,12 @@ ghost use Rattle.reader.specs.Examine.{Examines};
 ghost use Rattle.reader.specs.Reader.{Reads};
 ghost use Rattle.reader.specs.Steps.Reading.{HeaderFound, FindsHeader};
 
-// An accepted packet: its format and sync bit, the number of mended header bits, the lengths of data and text, and the bytes used.
+// An accepted packet: its format and sync bit, how many header bits were mended and which, the lengths of data and text, and the bytes used.
 pub struct Reading {
     pub format: Format,
     pub sync: bool,
     pub mended: u32,
+    pub mask: u32,
     pub data_length: usize,
     pub text_length: usize,
     pub used: usize,
@@ -78,6 +79,7 @@ fn find_header(terms: Terms, packet: &[u8]) -> HeaderAnswer
         format,
         sync,
         mended,
+        mask: received ^ bits,
         data_length: length,
         text_length: 0,
         used,
