@@ -1,4 +1,4 @@
--- A number in decimal: its last digit is put behind what a tenth of it is; and how long a line can be.
+-- A number in decimal: its last digit is put behind what a tenth of it is; and how long numbers can be.
 -- Assumes nothing.
 use mathlib.Core.List.{List, [], _∷_, _++_}
 use mathlib.Core.Logic.{by-cases}
@@ -9,7 +9,7 @@ use native.Mathlib.Nat.{pow-suc}
 use native.Mathlib.Omega.{arith}
 use borrow.Author.Tests.{lt-ltb, le-ltb}
 use lib.ListN.{length, length-append}
-use Rattle.report.specs.Line.{digit, decimalIn, decimal, spaced, line}
+use Rattle.report.specs.Line.{digit, decimalIn, decimal, decimals, hexadecimalDigit, hexadecimalIn, hexadecimal, spaced}
 
 -- ---- the two cases of the definition
 
@@ -44,6 +44,16 @@ unfolding decimal
 decimal-large n h many =
     large 18 n many ∙ ap (λ (l : List ℕ). l ++ (digit (n % 10) ∷ [])) (sym (more 18 (n / 10) (omega arith)))
 
+-- ---- a digit of hexadecimal, by its two cases
+
+pub hexadecimal-small : (d : ℕ) → d < 10 → digit d ≡ hexadecimalDigit d
+unfolding hexadecimalDigit
+hexadecimal-small d h = rw (lt-ltb d 10 h)
+
+pub hexadecimal-large : (d : ℕ) → 10 ≤ d → 55 + d ≡ hexadecimalDigit d
+unfolding hexadecimalDigit
+hexadecimal-large d h = rw (le-ltb d 10 h)
+
 -- ---- lengths
 
 within : (places n : ℕ) → length (decimalIn places n) ≤ suc places
@@ -60,18 +70,12 @@ within (suc places) n =
     ))
 
 -- at most a space and twenty digits each
-spaced-within : (numbers : List ℕ) → length (spaced numbers) ≤ 21 * length numbers
-unfolding spaced decimal
+pub spaced-within : (numbers : List ℕ) → length (spaced (decimals numbers)) ≤ 21 * length numbers
+unfolding spaced decimals decimal
 spaced-within [] = omega arith
 spaced-within (n ∷ numbers) =
-    omega (arith, length-append (32 ∷ decimal n) (spaced numbers), within 19 n, spaced-within numbers)
+    omega (arith, length-append (32 ∷ decimal n) (spaced (decimals numbers)), within 19 n, spaced-within numbers)
 
-pub line-within : (word numbers : List ℕ) → length (line word numbers) ≤ length word + 21 * length numbers + 1
-unfolding line
-line-within word numbers =
-    omega (
-      arith,
-      length-append word (spaced numbers ++ (10 ∷ [])),
-      length-append (spaced numbers) (10 ∷ []),
-      spaced-within numbers,
-    )
+pub hexadecimal-length : (n : ℕ) → length (hexadecimal n) ≡ 8
+unfolding hexadecimal hexadecimalIn
+hexadecimal-length n = refl

@@ -1,8 +1,8 @@
 -- Rows put into a buffer one behind the other.
 -- Assumes nothing.
 use mathlib.Core.List.{List, [], _∷_, _++_}
-use mathlib.Core.Path.{_≡_, refl, sym, ap, ap₂, _∙_}
-use Prim.Native.Nat.{ℕ, _+_, _/_, _%_, _^_, _≤_, _<_}
+use mathlib.Core.Path.{_≡_, refl, sym, ap, ap₂, subst, _∙_}
+use Prim.Native.Nat.{ℕ, suc, _+_, _*_, _/_, _%_, _^_, _≤_, _<_}
 use native.Mathlib.Omega.{arith}
 use native.Mathlib.Nat.{add-zero, zero-add}
 use native.Mathlib.Numerals.{add-one}
@@ -10,7 +10,7 @@ use lib.ListN.{length, getD, take, drop, set, length-append, drop-of-length-le}
 use lib.Seq.{drop-cons, take-length}
 use Rattle.codes.specs.Steps.Laid.{laid, Fronted}
 use Rattle.codes.proofs.LaidRows.{laid-nil, laid-laid, length-laid, set-laid}
-use Rattle.report.specs.Line.{digit, decimal, spaced, line}
+use Rattle.report.specs.Line.{digit, decimal, decimals, hexadecimalDigit, hexadecimalIn, hexadecimal, spaced}
 use Rattle.report.specs.Steps.Put.{PutsRow}
 use Rattle.report.proofs.Decimal.{decimal-small, decimal-large}
 
@@ -33,7 +33,7 @@ pub puts-byte : (entry : List ℕ) (n v : ℕ) → n < length entry → PutsRow 
 puts-byte entry n v h = record { place = refl; whole = set-laid entry n v h }
 
 -- a byte that is to be this one, and the place behind it
-puts-as : {v r : ℕ} {entry : List ℕ} {n : ℕ} (byte : ℕ) → byte ≡ v → r ≡ n + 1 → n < length entry → PutsRow (v ∷ []) entry (set entry n byte) n r
+pub puts-as : {v r : ℕ} {entry : List ℕ} {n : ℕ} (byte : ℕ) → byte ≡ v → r ≡ n + 1 → n < length entry → PutsRow (v ∷ []) entry (set entry n byte) n r
 puts-as {v} {r} {entry} {n} byte e f h =
     record { place = f; whole = set-laid entry n byte h ∙ ap (λ (b : ℕ). laid entry n (b ∷ [])) e }
 
@@ -54,86 +54,133 @@ module _ (n : ℕ) (fits : n < 2 ^ 64) (many : 10 ≤ n) (entry : List ℕ) (at 
       let here : last < length mid = omega (arith, p .place, tenth-held, puts-length p (omega (arith, tenth-held))) in
       (here, rw (decimal-large n fits many) (puts-more p (puts-byte mid last (digit (n % 10)) here) (omega (arith, tenth-held))))
 
+-- ---- a row that is put piece by piece
+
+-- what is still to be put makes the whole, and there is room for it
+pub record Still (row entry : List ℕ) (at : ℕ) (left out : List ℕ) (end : ℕ) : Type 0 where
+  pub held : end + length left ≤ length out
+  pub same : length out ≡ length entry
+  pub rest : (exit : List ℕ) (r : ℕ) → PutsRow left out exit end r → PutsRow row entry exit at r
+
+pub still-all : (row entry : List ℕ) (at : ℕ) → at + length row ≤ length entry → Still row entry at row entry at
+still-all row entry at h = record { held = h; same = refl; rest = λ exit r p. p }
+
+pub still-none : {row entry : List ℕ} {at : ℕ} {out : List ℕ} {end : ℕ} → Still row entry at [] out end → PutsRow row entry out at end
+still-none {row} {entry} {at} {out} {end} l = l .rest out end (record { place = sym (add-zero end); whole = sym (laid-nil out end) })
+
+module _ {row entry : List ℕ} {at : ℕ} (a b : List ℕ) {out : List ℕ} {end : ℕ} (l : Still row entry at (a ++ b) out end) where
+  -- there is room for the next piece
+  pub piece-held : end + length a + length b ≤ length out
+  piece-held = omega (arith, l .held, length-append a b)
+
+  pub still-next : {exit : List ℕ} {r : ℕ} → PutsRow a out exit end r → Still row entry at b exit r
+  still-next {exit} {r} p =
+      let long : length exit ≡ length out = puts-length p (omega (arith, piece-held)) in
+      record {
+        held = omega (arith, long, p .place, piece-held);
+        same = long ∙ l .same;
+        rest = λ after s q. l .rest after s (puts-more p q (omega (arith, piece-held)));
+      }
+
 -- ---- numbers, each after a space
 
--- what the numbers from the i-th on still put makes the whole, and there is room for it
 pub record Left (numbers entry : List ℕ) (at : ℕ) (out : List ℕ) (end i : ℕ) : Type 0 where
   pub few : i ≤ length numbers
-  pub held : end + length (spaced (drop i numbers)) ≤ length out
-  pub same : length out ≡ length entry
-  pub rest : (exit : List ℕ) (r : ℕ) → PutsRow (spaced (drop i numbers)) out exit end r → PutsRow (spaced numbers) entry exit at r
+  pub still : Still (spaced (decimals numbers)) entry at (spaced (decimals (drop i numbers))) out end
 
-pub left-all : (numbers entry : List ℕ) (at : ℕ) → at + length (spaced numbers) ≤ length entry → Left numbers entry at entry at 0
-left-all numbers entry at h = record { few = omega arith; held = h; same = refl; rest = λ exit r p. p }
+pub left-all : (numbers entry : List ℕ) (at : ℕ) → at + length (spaced (decimals numbers)) ≤ length entry → Left numbers entry at entry at 0
+left-all numbers entry at h = record { few = omega arith; still = still-all (spaced (decimals numbers)) entry at h }
 
 module _ {numbers entry : List ℕ} {at : ℕ} {out : List ℕ} {end i : ℕ} (l : Left numbers entry at out end i) where
-  pub left-none : length numbers ≤ i → PutsRow (spaced numbers) entry out at end
-  unfolding spaced
+  pub left-none : length numbers ≤ i → PutsRow (spaced (decimals numbers)) entry out at end
+  unfolding spaced decimals
   left-none h =
-      l .rest out end
-      (rw (drop-of-length-le numbers h)
-      (record { place = sym (add-zero end); whole = sym (laid-nil out end) }))
+      still-none
+      (subst (λ (rest : List ℕ). Still (spaced (decimals numbers)) entry at (spaced (decimals rest)) out end) (drop-of-length-le numbers h) (l .still))
 
   module _ (h : i < length numbers) where
-    next : spaced (drop i numbers) ≡ (32 ∷ decimal (getD numbers i 0)) ++ spaced (drop (i + 1) numbers)
-    unfolding spaced
+    abbrev number : ℕ
+    number = getD numbers i 0
+
+    abbrev later : List ℕ
+    later = spaced (decimals (drop (i + 1) numbers))
+
+    next : spaced (decimals (drop i numbers)) ≡ (32 ∷ []) ++ (decimal number ++ later)
+    unfolding spaced decimals
     next = rw (add-one, drop-cons numbers i 0 h)
 
-    -- there is room for the space and the next number
-    pub next-held : end + length (32 ∷ decimal (getD numbers i 0)) + length (spaced (drop (i + 1) numbers)) ≤ length out
-    next-held =
-        omega (arith, l .held, ap length next, length-append (32 ∷ decimal (getD numbers i 0)) (spaced (drop (i + 1) numbers)))
+    now-still : Still (spaced (decimals numbers)) entry at ((32 ∷ []) ++ (decimal number ++ later)) out end
+    now-still = subst (λ (rest : List ℕ). Still (spaced (decimals numbers)) entry at rest out end) next (l .still)
 
-    pub left-next : (between : ℕ) (exit : List ℕ) (r : ℕ) → PutsRow (decimal (getD numbers i 0)) (set out end between) exit (end + 1) r
+    -- there is room for the space and the next number
+    pub next-held : end + 1 + length (decimal number) ≤ length out
+    next-held = omega (arith, piece-held (32 ∷ []) (decimal number ++ later) now-still, length-append (decimal number) later)
+
+    pub left-next : (between : ℕ) (exit : List ℕ) (r : ℕ) → PutsRow (decimal number) (set out end between) exit (end + 1) r
         → between ≡ 32 → Left numbers entry at exit r (i + 1)
     left-next between exit r p e =
-        let space : PutsRow (32 ∷ []) out (set out end between) end (end + 1) = puts-as between e refl (omega (arith, next-held)) in
-        let both : PutsRow (32 ∷ decimal (getD numbers i 0)) out exit end r = puts-more space p (omega (arith, next-held)) in
-        let long : length exit ≡ length out = puts-length both (omega (arith, next-held)) in
         record {
           few = omega arith;
-          held = omega (arith, long, both .place, next-held);
-          same = long ∙ l .same;
-          rest = λ after s q. l .rest after s (rw next (puts-more both q (omega (arith, next-held))));
+          still = still-next (decimal number) later
+              (still-next (32 ∷ []) (decimal number ++ later) now-still (puts-as between e refl (omega (arith, next-held)))) p;
         }
 
--- ---- a line
+-- ---- 32 bits in hexadecimal
+
+pub record DigitsLeft (n : ℕ) (entry : List ℕ) (at : ℕ) (out : List ℕ) (end places : ℕ) : Type 0 where
+  pub few : places ≤ 8
+  pub still : Still (hexadecimal n) entry at (hexadecimalIn places n) out end
+
+pub digits-all : (n : ℕ) (entry : List ℕ) (at : ℕ) → at + length (hexadecimal n) ≤ length entry → DigitsLeft n entry at entry at 8
+unfolding hexadecimal
+digits-all n entry at h = record { few = omega arith; still = still-all (hexadecimal n) entry at h }
+
+module _ {n : ℕ} {entry : List ℕ} {at : ℕ} {out : List ℕ} {end places : ℕ} (l : DigitsLeft n entry at out end places) where
+  pub digits-none : places ≤ 0 → PutsRow (hexadecimal n) entry out at end
+  unfolding hexadecimalIn
+  digits-none h =
+      let none : places ≡ 0 = omega arith in
+      still-none (subst (λ (k : ℕ). Still (hexadecimal n) entry at (hexadecimalIn k n) out end) none (l .still))
+
+  module _ (fewer : ℕ) (e : places ≡ suc fewer) where
+    now-digit : Still (hexadecimal n) entry at ((hexadecimalDigit (n / 2 ^ (4 * fewer) % 16) ∷ []) ++ hexadecimalIn fewer n) out end
+    unfolding hexadecimalIn
+    now-digit = subst (λ (k : ℕ). Still (hexadecimal n) entry at (hexadecimalIn k n) out end) e (l .still)
+
+    pub digit-held : end < length out
+    digit-held = omega (arith, piece-held (hexadecimalDigit (n / 2 ^ (4 * fewer) % 16) ∷ []) (hexadecimalIn fewer n) now-digit)
+
+    pub digits-next : (put r : ℕ) → put ≡ hexadecimalDigit (n / 2 ^ (4 * fewer) % 16) → r ≡ end + 1 → DigitsLeft n entry at (set out end put) r fewer
+    digits-next put r p f =
+        record {
+          few = omega (arith, l .few);
+          still = still-next (hexadecimalDigit (n / 2 ^ (4 * fewer) % 16) ∷ []) (hexadecimalIn fewer n) now-digit (puts-as put p f digit-held);
+        }
+
+-- ---- a word and numbers
 
 -- a row laid at place 0 stands at the front
-front : {row entry exit : List ℕ} {r : ℕ} → PutsRow row entry exit 0 r → Fronted row entry exit r
+pub front : {row entry exit : List ℕ} {r : ℕ} → PutsRow row entry exit 0 r → Fronted row entry exit r
 unfolding laid
 front {row} {entry} p =
     let long = p .place ∙ zero-add (length row) in
     record { size = long; whole = p .whole ∙ ap (λ (k : ℕ). row ++ drop k entry) (sym (p .place)) }
 
-module _ (word numbers entry : List ℕ) (held : length (line word numbers) ≤ length entry) where
-  pub line-held : length word + length (spaced numbers) + 1 ≤ length entry
-  unfolding line
-  line-held =
-      omega (arith, length-append word (spaced numbers ++ (10 ∷ [])), length-append (spaced numbers) (10 ∷ []))
+module _ (word numbers entry : List ℕ) (held : length word + length (spaced (decimals numbers)) ≤ length entry) (mid : List ℕ) (at : ℕ) (long : at ≡ length word)
+    (copied : mid ≡ take (length word) word ++ drop (length word) entry) where
+  word-put : PutsRow word entry mid 0 at
+  unfolding laid
+  word-put =
+      record {
+        place = long ∙ sym (zero-add (length word));
+        whole = copied ∙ ap₂ (λ (l : List ℕ) (k : ℕ). l ++ drop k entry) (take-length word) (sym (zero-add (length word)));
+      }
 
-  module _ (mid : List ℕ) (at : ℕ) (long : at ≡ length word) (copied : mid ≡ take (length word) word ++ drop (length word) entry) where
-    word-put : PutsRow word entry mid 0 at
-    unfolding laid
-    word-put =
-        record {
-          place = long ∙ sym (zero-add (length word));
-          whole = copied ∙ ap₂ (λ (l : List ℕ) (k : ℕ). l ++ drop k entry) (take-length word) (sym (zero-add (length word)));
-        }
+  pub spaced-held : at + length (spaced (decimals numbers)) ≤ length mid
+  spaced-held = omega (arith, held, puts-length word-put (omega (arith, held)))
 
-    pub spaced-held : at + length (spaced numbers) + 1 ≤ length mid
-    spaced-held = omega (arith, line-held, puts-length word-put (omega (arith, line-held)))
-
-    module _ (late : List ℕ) (end : ℕ) (p : PutsRow (spaced numbers) mid late at end) where
-      pub end-held : end < length late
-      end-held = omega (arith, p .place, spaced-held, puts-length p (omega (arith, spaced-held)))
-
-      pub line-put : (last r : ℕ) → last ≡ 10 → r ≡ end + 1 → Fronted (line word numbers) entry (set late end last) r
-      unfolding line
-      line-put last r e f =
-          front
-          (puts-more word-put (puts-more p (puts-as last e f end-held) (omega (arith, spaced-held)))
-          (omega (arith, line-held)))
+  pub word-numbers : (exit : List ℕ) (r : ℕ) → PutsRow (spaced (decimals numbers)) mid exit at r → PutsRow (word ++ spaced (decimals numbers)) entry exit 0 r
+  word-numbers exit r p = puts-more word-put p (omega (arith, held))
 
 -- what stands at the front is a part of the buffer
 pub front-within : {row entry exit : List ℕ} {r : ℕ} → Fronted row entry exit r → r ≤ length exit

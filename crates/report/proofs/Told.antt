@@ -1,9 +1,10 @@
--- The line of an answer, number by number, so that a wrong one is refused where it stands; and what the line and the reading say together.
+-- The line of an answer, piece by piece and number by number, so that a wrong one is refused where it stands; and what the line and the reading say together.
 -- Assumes nothing.
-use mathlib.Core.List.{List, [], _∷_}
-use mathlib.Core.Path.{_≡_, refl, sym, ap, ap₂, subst}
-use Prim.Native.Nat.{ℕ}
-use lib.ListN.{length}
+use mathlib.Core.List.{List, [], _∷_, _++_, append-assoc}
+use mathlib.Core.Path.{_≡_, refl, sym, ap, ap₂, _∙_, subst}
+use Prim.Native.Nat.{ℕ, _+_, _≤_, _<_}
+use native.Mathlib.Omega.{arith}
+use lib.ListN.{length, length-append}
 use Rattle.header.specs.Fields.{oneIf}
 use Rattle.header.specs.Formats.{formatNumber}
 use Rattle.codes.specs.Steps.Laid.{Fronted}
@@ -14,24 +15,133 @@ use Rattle.reader.specs.declared.ReadAnswer.the-variants.{Accepted, Refused}
 use Rattle.refusals.specs.Refusals.{numberIn, readTold}
 use Rattle.reader.specs.Reader.{Reads}
 use Rattle.terms.specs.Terms.{naming}
-use Rattle.report.specs.Line.{ok, refused, line, lineOf}
-use Rattle.report.specs.Steps.Put.{PutsLine}
+use Rattle.report.specs.Line.{ok, refused, decimal, decimals, hexadecimal, spaced, line, lineOf}
+use Rattle.report.specs.Steps.Put.{room, PutsRow, PutsLine}
+use Rattle.report.proofs.Decimal.{spaced-within, hexadecimal-length}
+use Rattle.report.proofs.Putting.{Still, still-all, piece-held, still-next, front}
 
 -- another row that is the same
 pub front-same : {row row′ out out′ : List ℕ} {r : ℕ} → Fronted row out out′ r → row ≡ row′ → Fronted row′ out out′ r
 front-same {row} {row′} {out} {out′} {r} p e = subst (λ (l : List ℕ). Fronted l out out′ r) e p
 
--- a number in front of a row
-fore : {n m : ℕ} {rest rest′ : List ℕ} → n ≡ m → rest ≡ rest′ → n ∷ rest ≡ m ∷ rest′
-fore = ap₂ (λ (n : ℕ) (rest : List ℕ). n ∷ rest)
+-- a piece in front of others
+fore : {n m : List ℕ} {rest rest′ : List (List ℕ)} → n ≡ m → rest ≡ rest′ → n ∷ rest ≡ m ∷ rest′
+fore = ap₂ (λ (n : List ℕ) (rest : List (List ℕ)). n ∷ rest)
 
-pub told-accepted : (reading : Reading) (format sync mended long count : ℕ) → format ≡ formatNumber (reading .format) → sync ≡ oneIf (reading .sync)
-    → mended ≡ reading .mended → long ≡ reading .«data_length» → count ≡ reading .«text_length»
-    → line ok (format ∷ sync ∷ mended ∷ long ∷ count ∷ []) ≡ lineOf (Accepted reading)
-told-accepted reading format sync mended long count f s m l c = ap (line ok) (fore f (fore s (fore m (fore l (fore c refl)))))
+spaced-append : (a b : List (List ℕ)) → spaced (a ++ b) ≡ spaced a ++ spaced b
+unfolding spaced
+spaced-append [] b = refl
+spaced-append (field ∷ a) b =
+    ap (λ (row : List ℕ). (32 ∷ field) ++ row) (spaced-append a b) ∙ sym (append-assoc (32 ∷ field) (spaced a) (spaced b))
 
-pub told-refused : (refusal : ReadRefusal) (number : ℕ) → number ≡ numberIn (readTold refusal) → line refused (number ∷ []) ≡ lineOf (Refused refusal)
-told-refused refusal number e = ap (λ (n : ℕ). line refused (n ∷ [])) e
+-- ---- a packet that was read: five numbers, and the mask among them
+
+module _ (format sync mended mask long count : ℕ) where
+  abbrev counts : List ℕ
+  counts = format ∷ sync ∷ mended ∷ []
+
+  abbrev lengths : List ℕ
+  lengths = long ∷ count ∷ []
+
+  abbrev whole : List ℕ
+  whole = line ok (decimal format ∷ decimal sync ∷ decimal mended ∷ hexadecimal mask ∷ decimal long ∷ decimal count ∷ [])
+
+  pub told-accepted : (reading : Reading) → format ≡ formatNumber (reading .format) → sync ≡ oneIf (reading .sync) → mended ≡ reading .mended
+      → mask ≡ reading .mask → long ≡ reading .«data_length» → count ≡ reading .«text_length» → whole ≡ lineOf (Accepted reading)
+  told-accepted reading f s m k l c =
+      ap (line ok)
+      (fore (ap decimal f) (fore (ap decimal s) (fore (ap decimal m) (fore (ap hexadecimal k) (fore (ap decimal l) (fore (ap decimal c) refl))))))
+
+  pieces : whole ≡ (ok ++ spaced (decimals counts)) ++ ((32 ∷ hexadecimal mask) ++ (spaced (decimals lengths) ++ (10 ∷ [])))
+  unfolding line decimals spaced
+  pieces =
+      ap (λ (row : List ℕ). ok ++ (row ++ (10 ∷ []))) (spaced-append (decimals counts) (hexadecimal mask ∷ decimals lengths))
+      ∙ ap (λ (row : List ℕ). ok ++ row)
+      (append-assoc (spaced (decimals counts)) ((32 ∷ hexadecimal mask) ++ spaced (decimals lengths)) (10 ∷ [])
+      ∙ ap (λ (row : List ℕ). spaced (decimals counts) ++ row) (append-assoc (32 ∷ hexadecimal mask) (spaced (decimals lengths)) (10 ∷ [])))
+      ∙ sym (append-assoc ok (spaced (decimals counts)) ((32 ∷ hexadecimal mask) ++ (spaced (decimals lengths) ++ (10 ∷ []))))
+
+  module _ (entry : List ℕ) (held : room ≤ length entry) where
+    pub counts-held : length ok + length (spaced (decimals counts)) ≤ length entry
+    counts-held = omega (arith, held, spaced-within counts)
+
+    whole-held : 0 + length whole ≤ length entry
+    whole-held =
+        omega (
+          arith,
+          held,
+          ap length pieces,
+          length-append (ok ++ spaced (decimals counts)) ((32 ∷ hexadecimal mask) ++ (spaced (decimals lengths) ++ (10 ∷ []))),
+          length-append ok (spaced (decimals counts)),
+          length-append (32 ∷ hexadecimal mask) (spaced (decimals lengths) ++ (10 ∷ [])),
+          length-append (spaced (decimals lengths)) (10 ∷ []),
+          spaced-within counts,
+          hexadecimal-length mask,
+          spaced-within lengths,
+        )
+
+    all : Still whole entry 0 ((ok ++ spaced (decimals counts)) ++ ((32 ∷ hexadecimal mask) ++ (spaced (decimals lengths) ++ (10 ∷ [])))) entry 0
+    all = subst (λ (left : List ℕ). Still whole entry 0 left entry 0) pieces (still-all whole entry 0 whole-held)
+
+    module _ (out : List ℕ) (at : ℕ) (p : PutsRow (ok ++ spaced (decimals counts)) entry out 0 at) where
+      behind-counts : Still whole entry 0 ((32 ∷ hexadecimal mask) ++ (spaced (decimals lengths) ++ (10 ∷ []))) out at
+      behind-counts = still-next (ok ++ spaced (decimals counts)) ((32 ∷ hexadecimal mask) ++ (spaced (decimals lengths) ++ (10 ∷ []))) all p
+
+      pub mask-held : at + length (32 ∷ hexadecimal mask) ≤ length out
+      mask-held = omega (arith, piece-held (32 ∷ hexadecimal mask) (spaced (decimals lengths) ++ (10 ∷ [])) behind-counts)
+
+      module _ (masked : List ℕ) (after : ℕ) (q : PutsRow (32 ∷ hexadecimal mask) out masked at after) where
+        behind-mask : Still whole entry 0 (spaced (decimals lengths) ++ (10 ∷ [])) masked after
+        behind-mask = still-next (32 ∷ hexadecimal mask) (spaced (decimals lengths) ++ (10 ∷ [])) behind-counts q
+
+        pub lengths-held : after + length (spaced (decimals lengths)) ≤ length masked
+        lengths-held = omega (arith, piece-held (spaced (decimals lengths)) (10 ∷ []) behind-mask)
+
+        module _ (last : List ℕ) (end : ℕ) (w : PutsRow (spaced (decimals lengths)) masked last after end) where
+          behind-lengths : Still whole entry 0 (10 ∷ []) last end
+          behind-lengths = still-next (spaced (decimals lengths)) (10 ∷ []) behind-mask w
+
+          pub end-held : end < length last
+          end-held = omega (arith, behind-lengths .held)
+
+          pub line-put : (exit : List ℕ) (r : ℕ) → PutsRow (10 ∷ []) last exit end r → Fronted whole entry exit r
+          line-put exit r n = front (behind-lengths .rest exit r n)
+
+-- ---- a packet that is refused: a number
+
+module _ (number : ℕ) (entry : List ℕ) (held : room ≤ length entry) where
+  pub number-held : length refused + length (spaced (decimals (number ∷ []))) ≤ length entry
+  number-held = omega (arith, held, spaced-within (number ∷ []))
+
+  refused-pieces : line refused (decimal number ∷ []) ≡ (refused ++ spaced (decimals (number ∷ []))) ++ (10 ∷ [])
+  unfolding line decimals
+  refused-pieces = sym (append-assoc refused (spaced (decimal number ∷ [])) (10 ∷ []))
+
+  refused-all : Still (line refused (decimal number ∷ [])) entry 0 ((refused ++ spaced (decimals (number ∷ []))) ++ (10 ∷ [])) entry 0
+  refused-all =
+      subst (λ (left : List ℕ). Still (line refused (decimal number ∷ [])) entry 0 left entry 0) refused-pieces
+      (still-all (line refused (decimal number ∷ [])) entry 0
+      (omega (
+        arith,
+        held,
+        ap length refused-pieces,
+        length-append (refused ++ spaced (decimals (number ∷ []))) (10 ∷ []),
+        length-append refused (spaced (decimals (number ∷ []))),
+        spaced-within (number ∷ []),
+      )))
+
+  module _ (last : List ℕ) (end : ℕ) (p : PutsRow (refused ++ spaced (decimals (number ∷ []))) entry last 0 end) where
+    behind-number : Still (line refused (decimal number ∷ [])) entry 0 (10 ∷ []) last end
+    behind-number = still-next (refused ++ spaced (decimals (number ∷ []))) (10 ∷ []) refused-all p
+
+    pub refused-end-held : end < length last
+    refused-end-held = omega (arith, behind-number .held)
+
+    pub refused-put : (exit : List ℕ) (r : ℕ) → PutsRow (10 ∷ []) last exit end r → Fronted (line refused (decimal number ∷ [])) entry exit r
+    refused-put exit r n = front (behind-number .rest exit r n)
+
+pub told-refused : (refusal : ReadRefusal) (number : ℕ) → number ≡ numberIn (readTold refusal) → line refused (decimal number ∷ []) ≡ lineOf (Refused refusal)
+told-refused refusal number e = ap (λ (n : ℕ). line refused (decimal n ∷ [])) e
 
 -- ---- a packet's line
 

@@ -46,7 +46,7 @@ loop-again c =
     (c .before .before .put-decimal .ensures) refl
 
 same-length : tie.Need-same-length Inv-loop μ-loop
-same-length c = c .before .loop .inv .same
+same-length c = c .before .loop .inv .still .same
 
 returns : tie.Need-returns Inv-loop μ-loop
 returns c = left-none (c .before .loop .inv) (c .loop-test .left)
