@@ -60,10 +60,77 @@ pub struct Reading<'a> {
     pub sync: bool,
     /// Header bits that were put right: 0 up to the number named, or up to 1 where none is.
     pub mended: u32,
+    /// Which bits those were: a one for each, in the order of the header's 32 bits, its first byte highest. `mended_bits` lists them.
+    pub mask: u32,
     pub data_length: usize,
     /// Bytes that belong to the packet: `data_length` and 6.
     pub used: usize,
     pub text: &'a [u8],
+}
+
+impl Reading<'_> {
+    /// The header bits that were put right, highest first.
+    pub fn mended_bits(&self) -> impl Iterator<Item = HeaderBit> {
+        header_bits(self.mask)
+    }
+}
+
+/// What a bit of the header belongs to, from the highest bit down.
+#[derive(Clone, Copy, Debug, PartialEq, Eq)]
+pub enum HeaderPart {
+    /// Bit 31: it makes the number of ones in the flag byte odd.
+    Parity,
+    /// Bits 30 and 29.
+    Type,
+    /// Bits 28 to 26: the format's number.
+    ExtendedType,
+    /// Bit 25: time synchronised since the last transmission.
+    Sync,
+    /// Bit 24, the lowest of the flag byte.
+    Spare,
+    /// Bits 23 to 10: the length of the data.
+    Length,
+    /// Bits 9 to 0.
+    Check,
+}
+
+impl fmt::Display for HeaderPart {
+    fn fmt(&self, to: &mut fmt::Formatter) -> fmt::Result {
+        to.pad(match self {
+            HeaderPart::Parity => "parity",
+            HeaderPart::Type => "type",
+            HeaderPart::ExtendedType => "extended type",
+            HeaderPart::Sync => "sync",
+            HeaderPart::Spare => "spare",
+            HeaderPart::Length => "length",
+            HeaderPart::Check => "check",
+        })
+    }
+}
+
+/// A bit of the header.
+#[derive(Clone, Copy, Debug, PartialEq, Eq)]
+pub struct HeaderBit {
+    /// Its place in the mask, so that `mask >> position & 1` is 1: 31 (the flag's parity bit) down to 0 (the lowest check bit).
+    pub position: u32,
+    pub part: HeaderPart,
+}
+
+/// The bits of a mask, highest first.
+pub fn header_bits(mask: u32) -> impl Iterator<Item = HeaderBit> {
+    (0..32).rev().filter(move |position| mask >> position & 1 == 1).map(|position| HeaderBit { position, part: part_at(position) })
+}
+
+fn part_at(position: u32) -> HeaderPart {
+    match position {
+        31 => HeaderPart::Parity,
+        29..=30 => HeaderPart::Type,
+        26..=28 => HeaderPart::ExtendedType,
+        25 => HeaderPart::Sync,
+        24 => HeaderPart::Spare,
+        10..=23 => HeaderPart::Length,
+        _ => HeaderPart::Check,
+    }
 }
 
 /// Why a packet was not read. The text buffer has not changed.
@@ -187,6 +254,7 @@ fn reading_of<'a>(answer: library::ReadAnswer, text: &'a [u8]) -> Result<Reading
             format: Format::try_from(answer.format).unwrap_or_else(|_| unknown("format", answer.format)),
             sync: answer.sync == 1,
             mended: answer.mended,
+            mask: answer.mask,
             data_length: answer.data_length,
             used: answer.used,
             text: &text[..answer.text_length],
@@ -232,6 +300,7 @@ mod library {
         pub format: u32,
         pub sync: u32,
         pub mended: u32,
+        pub mask: u32,
         pub data_length: usize,
         pub text_length: usize,
         pub used: usize,

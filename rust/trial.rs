@@ -4,7 +4,7 @@
 #[cfg(not(as_crate))]
 mod rosopyat;
 
-use rosopyat::{read, read_mending, write, Format, ReadRefusal, WriteRefusal, MOST_DATA, MOST_PACKET, MOST_TEXT};
+use rosopyat::{header_bits, read, read_mending, write, Format, HeaderBit, HeaderPart, ReadRefusal, WriteRefusal, MOST_DATA, MOST_PACKET, MOST_TEXT};
 
 fn there_and_back(format: Format, sync: bool, text: &[u8]) -> usize {
     comes_back_as(format, sync, text, text)
@@ -16,7 +16,8 @@ fn comes_back_as(format: Format, sync: bool, text: &[u8], wanted: &[u8]) -> usiz
     let mut back = vec![0; MOST_TEXT];
     let packet = write(format, sync, text, &mut packet).unwrap();
     let reading = read(packet, &mut back).unwrap();
-    assert_eq!((reading.format, reading.sync, reading.mended), (format, sync, 0));
+    assert_eq!((reading.format, reading.sync, reading.mended, reading.mask), (format, sync, 0, 0));
+    assert_eq!(reading.mended_bits().next(), None);
     assert_eq!((reading.data_length + 6, reading.used), (packet.len(), packet.len()));
     assert_eq!(reading.text, wanted);
     packet.len()
@@ -48,10 +49,10 @@ fn read_refusals() {
     mended[0] ^= 0x80;
     mended.push(7);
     let reading = read(&mended, &mut text).unwrap();
-    assert_eq!((reading.mended, reading.used, reading.text), (1, 7, &b"\xff"[..]));
+    assert_eq!((reading.mended, reading.mask, reading.used, reading.text), (1, 0x8000_0000, 7, &b"\xff"[..]));
 }
 
-/// As it was sent, with one and with two header bits flipped (P5 of the table of edges): for each number, how many bits are mended or why not.
+/// As it was sent, with one and with two header bits flipped (P5 of the table of edges): for each number, how many bits are mended and which, or why not.
 fn named_numbers() {
     let mut buffer = [0; 64];
     let sent = write(Format::Open, false, b"x", &mut buffer).unwrap().to_vec();
@@ -65,17 +66,18 @@ fn named_numbers() {
         };
         reading.map(|reading| {
             assert_eq!((reading.format, reading.sync, reading.data_length, reading.used, reading.text), (Format::Open, false, 1, 7, &b"x"[..]));
-            reading.mended
+            (reading.mended, reading.mask)
         })
     };
+    let (clean, one, two) = (Ok((0, 0)), Ok((1, 0x8000_0000)), Ok((2, 0x8100_0000)));
     let refused = Err(ReadRefusal::NoHeader);
     for (named, outcomes) in [
-        (Some(0), [Ok(0), refused, refused]),
-        (Some(1), [Ok(0), Ok(1), refused]),
-        (Some(2), [Ok(0), Ok(1), Ok(2)]),
+        (Some(0), [clean, refused, refused]),
+        (Some(1), [clean, one, refused]),
+        (Some(2), [clean, one, two]),
         (Some(3), [Err(ReadRefusal::TooManyBits); 3]),
         (Some(u32::MAX), [Err(ReadRefusal::TooManyBits); 3]),
-        (None, [Ok(0), Ok(1), refused]),
+        (None, [clean, one, refused]),
     ] {
         assert_eq!([0x00, 0x80, 0x81].map(|flip| mended(named, flip)), outcomes, "named {:?}", named);
     }
@@ -86,6 +88,61 @@ fn named_numbers() {
     }
     assert_eq!(read_mending(2, &[], &mut text), Err(ReadRefusal::Short));
     assert_eq!(text, [5; 8]);
+}
+
+/// The header as it was sent, and each bit of it and each two flipped: the mask has just these bits, and they are listed with their parts.
+fn mended_bits() {
+    let parts = [
+        (HeaderPart::Parity, 31..=31, "parity"),
+        (HeaderPart::Type, 29..=30, "type"),
+        (HeaderPart::ExtendedType, 26..=28, "extended type"),
+        (HeaderPart::Sync, 25..=25, "sync"),
+        (HeaderPart::Spare, 24..=24, "spare"),
+        (HeaderPart::Length, 10..=23, "length"),
+        (HeaderPart::Check, 0..=9, "check"),
+    ];
+    let bit = |position: u32| {
+        let part = parts.iter().find(|(_, positions, _)| positions.contains(&position)).unwrap().0;
+        HeaderBit { position, part }
+    };
+    let mut buffer = [0; 64];
+    let sent = write(Format::Shef, true, b"A", &mut buffer).unwrap().to_vec();
+    // The packet with these bits flipped; their positions stand highest first.
+    let comes_of = |positions: &[u32]| {
+        let mut packet = sent.clone();
+        for position in positions {
+            packet[3 - *position as usize / 8] ^= 1 << (position % 8);
+        }
+        let mut text = [0; 1];
+        let reading = read_mending(2, &packet, &mut text).unwrap();
+        assert_eq!((reading.format, reading.sync, reading.text), (Format::Shef, true, &b"A"[..]));
+        assert_eq!(reading.mask, positions.iter().map(|position| 1 << position).sum::<u32>());
+        assert_eq!((reading.mended as usize, reading.mask.count_ones()), (positions.len(), reading.mended));
+        let wanted: Vec<HeaderBit> = positions.iter().map(|&position| bit(position)).collect();
+        assert_eq!(reading.mended_bits().collect::<Vec<_>>(), wanted);
+        let mut again = [0; 1];
+        let usual = if positions.len() < 2 { Ok(reading) } else { Err(ReadRefusal::NoHeader) };
+        assert_eq!(read(&packet, &mut again), usual);
+    };
+    comes_of(&[]);
+    for high in 0..32 {
+        comes_of(&[high]);
+        for low in 0..high {
+            comes_of(&[high, low]);
+        }
+    }
+    assert!(header_bits(u32::MAX).eq((0..32).rev().map(bit)));
+
+    let mut text = [0; 1];
+    let open = write(Format::Open, false, b"x", &mut buffer).unwrap().to_vec();
+    let p5 = [&[0xc1, 0x00, 0x04, 0xdd], &open[4..]].concat();
+    let reading = read_mending(2, &p5, &mut text).unwrap();
+    let listed: Vec<HeaderBit> = reading.mended_bits().collect();
+    assert_eq!((reading.mask, reading.mask.count_ones(), reading.mended), (0x8100_0000, 2, 2));
+    assert_eq!(listed, [HeaderBit { position: 31, part: HeaderPart::Parity }, HeaderBit { position: 24, part: HeaderPart::Spare }]);
+    for (part, _, word) in &parts {
+        assert_eq!(part.to_string(), *word);
+    }
 }
 
 fn write_refusals() {
@@ -149,6 +206,7 @@ fn main() {
     assert_eq!(there_and_back(Format::FullAscii, false, b"Stage 1.23 m\r\n\t~"), 19);
     read_refusals();
     named_numbers();
+    mended_bits();
     write_refusals();
     formats();
     numbers_and_words();
@@ -157,7 +215,7 @@ fn main() {
     let packet = std::fs::read(std::env::args().nth(1).expect("a packet's file")).unwrap();
     let mut text = [0; 4096];
     let reading = read(&packet, &mut text).unwrap();
-    assert_eq!((reading.format, reading.data_length, reading.text.len()), (Format::FullAscii, 259, 306));
+    assert_eq!((reading.format, reading.mask, reading.data_length, reading.text.len()), (Format::FullAscii, 0, 259, 306));
     let mut again = [0; 4096];
     assert_eq!(read_mending(2, &packet, &mut again), Ok(reading));
     println!("Rust, the module {}: all as it should be", if cfg!(as_crate) { "as a crate" } else { "in one file" });

@@ -2,9 +2,9 @@
 """Writes the cases of crates/vectors (stdin) and what the program must print for them (stdout).
 
 Written from docs/RULES.md and document 001 alone. For the published packets of 001's section 5 (outside-tests/vectors/section5.txt) the expectation is
-the published packet and the message beside it; for the edges P1 to P15, M1 (but for the number that three bytes do not hold), M2 and Q1 to Q3 it is the
-line of RULES, Edges; for all others it is worked out here, in the plainest way: bits are strings of 0 and 1, a header is mended by trying every pattern of
-at most as many bits as are named.
+the published packet and the message beside it; for the edges P1 to P15, M1 (but for the number that three bytes do not hold), M2, M3 and Q1 to Q3 it is
+the line of RULES, Edges; for all others it is worked out here, in the plainest way: bits are strings of 0 and 1, a header is mended by trying every pattern
+of at most as many bits as are named, and the mask of the mended bits is put together from the places that were turned over.
 
     python3 vector-maker/make_vectors.py            writes both files
     python3 vector-maker/make_vectors.py --check    writes nothing: are they what would be written?
@@ -54,14 +54,14 @@ def is_valid(word):
 
 
 def mend(word, most):
-    """The valid header at most so many bits away, and how many; or None."""
+    """The valid header at most so many bits away, how many, and the mask of the places that were turned over; or None."""
     for count in range(most + 1):
         for places in itertools.combinations(range(32), count):
             other = word
             for place in places:
                 other ^= 1 << place
             if is_valid(other):
-                return other, count
+                return other, count, sum(1 << place for place in places)
     return None
 
 
@@ -281,7 +281,7 @@ def read(received, room, named):
     mended = mend(int.from_bytes(received[:4], "big"), most_bits(named))
     if mended is None:
         return "refused 2", 0, b""
-    word, count = mended
+    word, count, mask = mended
     flag, length = word >> 24, word >> 10 & 0x3FFF
     format, sync = flag >> 2 & 7, flag >> 1 & 1
     if flag & 1 or flag >> 5 & 3 != 2 or format not in READ:
@@ -299,7 +299,7 @@ def read(received, room, named):
         return "refused 7", place.args[0], b""
     if room < len(text):
         return "refused 8", len(text), b""
-    return f"ok {format} {sync} {count} {length} {len(text)}", length + 6, text
+    return f"ok {format} {sync} {count} {mask:08X} {length} {len(text)}", length + 6, text
 
 
 def write(format, sync, text, room):
@@ -336,12 +336,15 @@ def case(kind, named, sync, room, given, answer):
 
 
 def examined(received, answer, named):
-    """What is found out without a buffer: what the reader answers, given the room for the text."""
+    """What is found out without a buffer: what the reader answers, given the room for the text. All its numbers are in decimal, the mask too."""
     line, beside, _ = answer
     if line == "refused 8":
         line, beside, _ = read(received, beside, named)
         assert line.startswith("ok "), (line, beside)
-    return f"{line} {beside}\n".replace("ok", "readable")
+    word, *numbers = line.split()
+    if word == "ok":
+        word, numbers[3] = "readable", str(int(numbers[3], 16))
+    return " ".join([word, *numbers, str(beside)]) + "\n"
 
 
 def reads(received, room, answer=None, named=MOST_MENDED):
@@ -358,10 +361,17 @@ def writes(format, text, room, sync=0, answer=None):
 
 
 def flipped(received, places):
+    """The packet with these header bits flipped, counted from the top."""
     word = int.from_bytes(received[:4], "big")
     for place in places:
         word ^= 1 << 31 - place
     return word.to_bytes(4, "big") + received[4:]
+
+
+def accepted(format, used, text, sync=0, places=()):
+    """The answer where a packet of so many bytes, which carries the text, was flipped at these places and is read as it was sent."""
+    mask = "".join("1" if place in places else "0" for place in range(32))
+    return f"ok {format} {sync} {len(places)} {int(mask, 2):08X} {used - 6} {len(text)}", used, text
 
 
 def sections():
@@ -379,7 +389,7 @@ def published():
     for name, (sent, message) in sections().items():
         format = {"5.1": OPEN, "5.2.1": PSEUDO, "5.2.2": PSEUDO, "5.3": NUMERIC, "5.4": SHEF, "5.5": ASCII}[name]
         text = bytes(range(256)) if format == OPEN else message
-        length, used = len(sent) - 6, len(sent)
+        used = len(sent)
         written = (f"written {used}", used, sent)
         if format == PSEUDO:  # value 63, which the table prints as 3F, may be 7F in what is written
             assert text.count(b"\x3f") == 12
@@ -388,7 +398,7 @@ def published():
             writes(format, text, used, answer=written)
             assert len(text) == 317
             text += b" "
-        ok = (f"ok {format} 0 0 {length} {len(text)}", used, text)
+        ok = accepted(format, used, text)
         for more in b"", b"\x00", bytes(range(100)):
             reads(sent + more, len(text) + 4, ok)
         reads(sent, len(text), ok)
@@ -413,17 +423,22 @@ def messages():
             for sync in 0, 1:
                 whole = packet_of(format, WRITE[format](text), sync)
                 writes(format, text, 500, sync, (f"written {len(whole)}", len(whole), whole))
-                reads(whole, len(back) + 1, (f"ok {format} {sync} 0 {len(whole) - 6} {len(back)}", len(whole), back))
+                reads(whole, len(back) + 1, accepted(format, len(whole), back, sync))
+
+
+def with_byte(head):
+    """A header, and a data byte and its checksum behind it."""
+    return bytes.fromhex(head) + b"\x37" + checksum(b"\x37")
 
 
 def edges():
-    """P1 to P15 and Q1 to Q3, each as its line of the table says."""
+    """P1 to P15, M3 and Q1 to Q3, each as its line of the table says."""
     def data(format, text, sent, head=None, others=()):
         sent = bytes.fromhex(sent)
         whole = packet_of(format, sent)
         if head:
             assert whole[:4] == bytes.fromhex(head)
-        reads(whole, len(text) + 2, (f"ok {format} 0 0 {len(sent)} {len(text)}", len(whole), text))
+        reads(whole, len(text) + 2, accepted(format, len(whole), text))
         for same in text, *others:
             writes(format, same, len(whole) + 2, answer=(f"written {len(whole)}", len(whole), whole))
 
@@ -435,9 +450,11 @@ def edges():
     data(OPEN, b"\x37", "37", "400004DD")  # P2
     data(OPEN, bytes(4000), "00" * 4000, "403E80D1")  # P3
     data(ASCII, b"A", "83", "D0000430")  # P4, P12
-    reads(bytes.fromhex("C10004DD") + b"\x37" + checksum(b"\x37"), 3, ("ok 0 0 2 1 1", 7, b"\x37"))  # P5
+    reads(with_byte("C10004DD"), 3, ("ok 0 0 2 81000000 1 1", 7, b"\x37"))  # P5
     reads(bytes.fromhex("400004DA"), 3, ("refused 2", 0, b""))  # P6
     reads(bytes(4), 3, ("refused 3", 0, b""))  # P7
+    reads(with_byte("400004DC"), 3, ("ok 0 0 1 00000001 1 1", 7, b"\x37"))  # M3
+    reads(with_byte("408004DD"), 3, ("ok 0 0 1 00800000 1 1", 7, b"\x37"))
     data(PSEUDO, b"AB", "81042F")  # P8
     data(PSEUDO, b"/" * 16, "7F")  # P9
     data(PSEUDO, b"/" * 17, "7D0F")
@@ -469,7 +486,7 @@ def sixty_threes():
             back, other = (before + bytes(sixty_three if value == 63 else 64 + value for value in values) + behind for sixty_three in (0x3F, 0x7F))
             for text in back, other:
                 writes(PSEUDO, text, len(whole) + 1, answer=(f"written {len(whole)}", len(whole), whole))
-            reads(whole, len(back) + 1, (f"ok 1 0 0 {len(whole) - 6} {len(back)}", len(whole), back))
+            reads(whole, len(back) + 1, accepted(PSEUDO, len(whole), back))
 
 
 def line_ends_and_pairs():
@@ -500,7 +517,7 @@ def line_ends_and_pairs():
             (SHEF, "EBAF", b"\r\n\r\n", b"\r\r\n", b"\n\r", b"\n\n", b"\r\r", b"\r\n\n", b"\n\r\n"),
     ):
         whole = packet_of(format, bytes.fromhex(sent))
-        reads(whole, len(back) + 2, (f"ok {format} 0 0 {len(whole) - 6} {len(back)}", len(whole), back))
+        reads(whole, len(back) + 2, accepted(format, len(whole), back))
         for text in back, *others:
             writes(format, text, len(whole) + 2, answer=(f"written {len(whole)}", len(whole), whole))
     for text, index in ((b"++", 1), (b"+-", 1), (b"-+", 1), (b"--", 1), (b"..", 1), (b"+#", 1), (b"+=", 1), (b"-E", 1), (b".:", 1), (b"+\r\n", 1),
@@ -523,7 +540,7 @@ def headers():
         whole = packet_of(format, sent, sync)
         text = READ[format](sent)
         for places in [()] + list(itertools.combinations(range(32), 1)) + (list(itertools.combinations(range(32), 2)) if format == PSEUDO else []):
-            reads(flipped(whole, places), len(text), (f"ok {format} {sync} {len(places)} {len(sent)} {len(text)}", len(whole), text))
+            reads(flipped(whole, places), len(text), accepted(format, len(whole), text, sync, places))
         for place in range(32):
             for second, third in (7, 13), (1, 2), (3, 20):
                 reads(flipped(whole, (place, (place + second) % 32, (place + third) % 32)), len(text))
@@ -701,15 +718,17 @@ def as_sent(named, flips):
 
 
 def edges_named():
-    """P5 to P7 and the packets of section 5, with fewer bits named than two."""
+    """P5 to P7, M3 and the packets of section 5, with fewer bits named than two."""
     for named in 0, 1, DEFAULT:
-        reads(bytes.fromhex("C10004DD") + b"\x37" + checksum(b"\x37"), 3, ("refused 2", 0, b""), named)  # P5
+        reads(with_byte("C10004DD"), 3, ("refused 2", 0, b""), named)  # P5
         reads(bytes.fromhex("400004DA"), 3, ("refused 2", 0, b""), named)  # P6
         reads(bytes(4), 3, ("refused 2" if named == 0 else "refused 3", 0, b""), named)  # P7
+        for head, mask in ("400004DC", "00000001"), ("408004DD", "00800000"):  # M3
+            reads(with_byte(head), 3, ("refused 2", 0, b"") if named == 0 else (f"ok 0 0 1 {mask} 1 1", 7, b"\x37"), named)
         for sent, message in sections().values():
-            format, length = sent[0] >> 2 & 7, len(sent) - 6
+            format = sent[0] >> 2 & 7
             text = sent[4:-2] if format == OPEN else message + b" " * (format == NUMERIC)
-            reads(sent, len(text), (f"ok {format} 0 0 {length} {len(text)}", len(sent), text), named)
+            reads(sent, len(text), accepted(format, len(sent), text), named)
             reads(sent, len(text) - 1, ("refused 8", len(text), b""), named)
             reads(sent[:-1], len(text), ("refused 5", 0, b""), named)
         for length in range(4):
@@ -723,7 +742,7 @@ def flipped_headers():
     ways = {1: (0, 1, DEFAULT), 2: (0, 1, 2, DEFAULT), 3: (0, 1, DEFAULT), 4: (0,)}
     for (format, sent, sync), places in itertools.product(SMALL, patterns):
         flips, whole, text = len(set(places)), packet_of(format, sent, sync), READ[format](sent)
-        ok = (f"ok {format} {sync} {flips} {len(sent)} {len(text)}", len(whole), text)
+        ok = accepted(format, len(whole), text, sync, places)
         for named in ways[flips]:
             reads(flipped(whole, places), len(text), ok if as_sent(named, flips) else ("refused 2", 0, b""), named)
 

@@ -1,7 +1,7 @@
 // Runs packets through the reader and texts through the writer. Standard input is a row of cases: `r`, `d` or `w`; the writer's sync bit; the number that is
 // named, the length of the lent buffer and that of the packet or text (three bytes each, high byte first); and the packet or text. In a case `r` the number is
 // that of the header bits to mend, in a case `w` that of the writer's format, and in a case `d` the reader is called without one. For each packet it prints
-// what is found out without a buffer: `readable` and the six numbers of the answer, or `refused` with the refusal's number and the one that comes with it.
+// what is found out without a buffer: `readable` and the seven numbers of the answer, or `refused` with the refusal's number and the one that comes with it.
 // Then for each packet or text two lines: the answer's line; and the number that comes with a refusal, or the bytes used, then the lent buffer's Adler-32,
 // and its first 512 bytes.
 use header::Header;
@@ -82,6 +82,7 @@ fn print_examined(answer: ExamineAnswer) {
                 Header::number(format) as usize,
                 header::one_if(reading.sync) as usize,
                 reading.mended as usize,
+                reading.mask as usize,
                 reading.data_length,
                 reading.text_length,
                 reading.used,
