@@ -1,7 +1,7 @@
 -- Laws of the number of ones among the low bits of a number, and of the bits in which two numbers differ.
 -- Assumes nothing.
 use mathlib.Core.Path.{_≡_, refl, sym, ap, ap₂, _∙_, subst}
-use mathlib.Core.Logic.{_⊎_, inl, inr}
+use mathlib.Core.Logic.{_⊎_, inl, inr, _↔_, _≢_}
 use Prim.Native.Nat.{ℕ, zero, suc, _+_, _-_, _*_, _/_, _%_, _^_, _≤_, _<_, zero-le}
 use native.Mathlib.Nat.{mod-lt, one-mul, mul-comm, zero-add, suc-add, pow-suc, div-one, div-div-eq-div-mul}
 use native.Mathlib.Numerals.{add-one}
@@ -35,6 +35,26 @@ bit-suc j n = ap (λ (m : ℕ). m % 2) (shift-half j n)
 pub bit-lt : (k n : ℕ) → bit k n < 2
 unfolding bit
 bit-lt k n = mod-lt (n / 2 ^ k) two-pos
+
+-- ---- a bit of an exclusive or
+
+xor-bit : (k a b : ℕ) → bit k (bitXor a b) ≡ differ (bit k a) (bit k b)
+xor-bit zero a b = bit-zero (bitXor a b) ∙ xor-odd a b ∙ ap₂ differ (sym (bit-zero a)) (sym (bit-zero b))
+xor-bit (suc k) a b =
+    bit-suc k (bitXor a b) ∙ ap (bit k) (xor-half a b) ∙ xor-bit k (a / 2) (b / 2) ∙ ap₂ differ (sym (bit-suc k a)) (sym (bit-suc k b))
+
+differ-told : (x y : ℕ) → x < 2 → y < 2 → (differ x y ≡ 1) ↔ (x ≢ y)
+differ-told zero zero hx hy = (λ e. absurd (let no : ⊥ = omega arith in no), λ other. absurd (other refl))
+differ-told zero (suc zero) hx hy = (λ e same. omega arith, λ other. refl)
+differ-told (suc zero) zero hx hy = (λ e same. omega arith, λ other. refl)
+differ-told (suc zero) (suc zero) hx hy = (λ e. absurd (let no : ⊥ = omega arith in no), λ other. absurd (other refl))
+differ-told zero (suc (suc y)) hx hy = absurd (let no : ⊥ = omega arith in no)
+differ-told (suc zero) (suc (suc y)) hx hy = absurd (let no : ⊥ = omega arith in no)
+differ-told (suc (suc x)) y hx hy = absurd (let no : ⊥ = omega arith in no)
+
+-- it is 1 exactly where the bits of the two differ
+pub xor-bit-told : (k a b : ℕ) → (bit k (bitXor a b) ≡ 1) ↔ (bit k a ≢ bit k b)
+xor-bit-told k a b = subst (λ (x : ℕ). (x ≡ 1) ↔ (bit k a ≢ bit k b)) (sym (xor-bit k a b)) (differ-told (bit k a) (bit k b) (bit-lt k a) (bit-lt k b))
 
 differ-zero : (x : ℕ) → differ x 0 ≡ x
 differ-zero zero = refl

@@ -3,9 +3,10 @@
 use mathlib.Core.Bool.{Bool}
 use mathlib.Core.List.{List, [], _++_, append-assoc}
 use mathlib.Core.Logic.{_↔_}
-use mathlib.Core.Path.{_≡_, refl, sym, ap, _∙_, subst, subst⁻¹}
+use mathlib.Core.Path.{_≡_, refl, sym, ap, ap₂, _∙_, subst, subst⁻¹}
 use Prim.Native.Nat.{ℕ, _+_, _^_, _≤_, _<_}
 use native.Mathlib.Omega.{arith}
+use lib.Bits.{bitXor, xor-self}
 use lib.ListN.{length, drop}
 use Rattle.bits.specs.Row.{Bytes}
 use Rattle.bits.proofs.Ones.{differences-self}
@@ -87,13 +88,15 @@ module _ (terms : Terms) (named : MayBeNamed terms) where
       let packet = ourPacket format sync text in
       let header = headerFor format sync (length (dataOf format text)) in
       let small : length (dataOf format text) < 2 ^ 14 = omega (arith, w .few, named .bytes) in
-      let clean : distance header (received packet) ≡ 0 = ap (distance header) (packet-header terms named format sync text packet made) ∙ no-bits header in
+      let sent : received packet ≡ header = packet-header terms named format sync text packet made in
+      let clean : distance header (received packet) ≡ 0 = ap (distance header) sent ∙ no-bits header in
+      let same : bitXor header (received packet) ≡ 0 = ap (bitXor header) sent ∙ xor-self header in
       let once =
       intact terms named format sync text packet made header
       (record { bits = header-valid format sync (length (dataOf format text)) small .bits; few = omega (arith, clean) }) after entry exit answer held
       (subst (λ (p : List ℕ). Reads terms p entry answer exit) (in-front format sync text after) reads) in (
         once .0
-            ∙ ap (λ (bits : ℕ). Accepted (readingWith format sync bits (length (dataOf format text)) (length (comesBack format text)))) clean,
+            ∙ ap₂ (λ (mended mask : ℕ). Accepted (readingWith format sync mended mask (length (dataOf format text)) (length (comesBack format text)))) clean same,
         once .1,
       )
 
@@ -203,12 +206,14 @@ module _ (terms : Terms) (named : MayBeNamed terms) where
   accepted-is-made : (packet : List ℕ) (reading : Reading) (text : List ℕ) → Bytes packet → Accepts terms packet reading text
       → (made after : List ℕ) × Made terms (reading .format) (reading .sync) text made × Flipped terms made (received packet)
       × (packet ≡ arriving (received packet) made after) × (reading .mended ≡ distance (received packet) (received made))
+      × (reading .mask ≡ bitXor (received packet) (received made))
   accepted-is-made packet reading text bytes a =
       let header = a .header in
       subst⁻¹
       (λ (r : Reading).
       (made after : List ℕ) × Made terms (r .format) (r .sync) text made × Flipped terms made (received packet)
-      × (packet ≡ arriving (received packet) made after) × (r .mended ≡ distance (received packet) (received made)))
+      × (packet ≡ arriving (received packet) made after) × (r .mended ≡ distance (received packet) (received made))
+      × (r .mask ≡ bitXor (received packet) (received made)))
       (a .is) (
         whole packet (a .format) header text bytes (a .allowed),
         drop (6 + lengthIn header) packet,
@@ -216,6 +221,7 @@ module _ (terms : Terms) (named : MayBeNamed terms) where
         flipped packet (a .format) header text bytes (a .allowed),
         arrived-so packet (a .format) header text bytes (a .allowed),
         ap (distance (received packet)) (sym (same-header packet (a .format) header text bytes (a .allowed))),
+        ap (bitXor (received packet)) (sym (same-header packet (a .format) header text bytes (a .allowed))),
       )
 
   -- ---- writing that text again
@@ -267,7 +273,7 @@ module _ (terms : Terms) (named : MayBeNamed terms) where
     reads-the-same : (sync : Bool) (lent again : List ℕ) (wrote : WriteAnswer) → packetLength (reading .format) text ≤ length lent
         → Writes terms (formatNumber (reading .format)) sync text lent wrote again
         → (entry exit : List ℕ) (answer : ReadAnswer) → length text ≤ length entry → Reads terms again entry answer exit
-        → (answer ≡ Accepted (readingWith (reading .format) sync 0 (length (dataOf (reading .format) text)) (length text))) × StandsInFront text entry exit
+        → (answer ≡ Accepted (readingWith (reading .format) sync 0 0 (length (dataOf (reading .format) text)) (length text))) × StandsInFront text entry exit
     reads-the-same sync lent again wrote given writes entry exit answer held reads =
         let is = written-again sync lent again wrote given writes .0 in
         let back =
@@ -276,7 +282,7 @@ module _ (terms : Terms) (named : MayBeNamed terms) where
         (subst⁻¹ (λ (t : List ℕ). length t ≤ length entry) again-kept held) reads in
         subst
         (λ (t : List ℕ).
-        (answer ≡ Accepted (readingWith (reading .format) sync 0 (length (dataOf (reading .format) text)) (length t))) × StandsInFront t entry exit)
+        (answer ≡ Accepted (readingWith (reading .format) sync 0 0 (length (dataOf (reading .format) text)) (length t))) × StandsInFront t entry exit)
         again-kept (back .0, back .2)
 
   pub demand-2 : Demand2 terms

@@ -2,17 +2,20 @@
 -- Assumes nothing.
 use mathlib.Core.Bool.{Bool}
 use mathlib.Core.List.{List, [], _∷_, _++_, append-assoc}
-use mathlib.Core.Logic.{_≢_}
-use mathlib.Core.Path.{_≡_, refl, sym, ap, _∙_, subst}
+use mathlib.Core.Logic.{_≢_, _↔_}
+use mathlib.Core.Path.{_≡_, refl, sym, ap, ap₂, _∙_, subst}
 use Prim.Native.Nat.{ℕ, _/_, _%_, _^_, _≤_, _<_}
 use native.Mathlib.Omega.{arith}
+use lib.Bits.{bitXor}
 use lib.ListN.{length, drop}
 use Rattle.bits.specs.Row.{Bytes}
+use Rattle.bits.specs.Word.{bit}
+use Rattle.bits.proofs.Ones.{xor-bit-told}
 use Rattle.header.specs.declared.Format.{Format}
 use Rattle.header.specs.Fields.{bytesOf}
 use Rattle.header.specs.Valid.{Valid}
 use Rattle.distance.specs.Distance.{ValidWithin, distance}
-use Rattle.distance.proofs.Unique.{none-within}
+use Rattle.distance.proofs.Unique.{one-near, none-within}
 use Rattle.checksum.specs.Alike.{AlikeBut}
 use Rattle.checksum.specs.Checksum.{checksumOf, checksumBytes}
 use Rattle.checksum.proofs.Detect.{checksum-bytes-detect}
@@ -20,11 +23,12 @@ use Rattle.formats.specs.Data.{comesBack}
 use Rattle.refusals.specs.declared.ExamineRefusal.the-variants.{NoHeader, Checksum}
 use Rattle.refusals.specs.declared.ReadRefusal.the-variants.{Packet}
 use Rattle.terms.specs.declared.Terms.{Terms}
+use Rattle.reader.specs.declared.Reading.{Reading}
 use Rattle.reader.specs.declared.ExamineAnswer.{ExamineAnswer}
 use Rattle.reader.specs.declared.ExamineAnswer.the-variants.{Refused as NotReadable}
 use Rattle.reader.specs.declared.ReadAnswer.{ReadAnswer}
 use Rattle.reader.specs.declared.ReadAnswer.the-variants.{Accepted, Refused}
-use Rattle.reader.specs.Examine.{readingOf, Refuses, Examines}
+use Rattle.reader.specs.Examine.{readingOf, Accepts, Refuses, Examines}
 use Rattle.packet.specs.Packet.{received, packetOf, headerFor}
 use Rattle.reader.specs.Reader.{Reads}
 use Rattle.terms.specs.Terms.{MayBeNamed}
@@ -61,7 +65,9 @@ module _ (terms : Terms) (named : MayBeNamed terms) (format : Format) (sync : Bo
 
   module _ (word : ℕ) (flipped : Flipped terms packet word) (after entry exit : List ℕ) (answer : ReadAnswer) where
     pub intact : length (comesBack format text) ≤ length entry → Reads terms (arriving word packet after) entry answer exit
-        → (answer ≡ Accepted (readingWith format sync (distance word (received packet)) (length (made .carried)) (length (comesBack format text))))
+        → (answer
+        ≡ Accepted
+        (readingWith format sync (distance word (received packet)) (bitXor word (received packet)) (length (made .carried)) (length (comesBack format text))))
         × (exit ≡ comesBack format text ++ drop (length (comesBack format text)) entry)
     unfolding checksumBytes
     intact held reads =
@@ -79,7 +85,7 @@ module _ (terms : Terms) (named : MayBeNamed terms) (format : Format) (sync : Bo
           once .0
               ∙ ap {B = ReadAnswer} Accepted
               (sent-reading terms named format sync word (made .carried) low high after (made .some) (made .few) (flipped .bits) (near word flipped) back)
-              ∙ ap (λ (h : ℕ). Accepted (readingWith format sync (distance word h) (length (made .carried)) (length back))) (sym packet-header),
+              ∙ ap (λ (h : ℕ). Accepted (readingWith format sync (distance word h) (bitXor word h) (length (made .carried)) (length back))) (sym packet-header),
           once .1,
         )
 
@@ -108,6 +114,27 @@ module _ (terms : Terms) (named : MayBeNamed terms) (format : Format) (sync : Bo
         refused (arrived word (made .carried) low high after)
         (sent-refused terms named format sync word (made .carried) low high after (made .some) (made .few) (flipped .bits) (near word flipped) differs) reads
 
+  -- ---- which bits were flipped
+
+  module _ (word : ℕ) (flipped : Flipped terms packet word) (after : List ℕ) (reading : Reading) (read : List ℕ)
+      (a : Accepts terms (arriving word packet after) reading read) where
+    came-word : received (arriving word packet after) ≡ word
+    unfolding arriving
+    came-word = received-front word (drop 4 packet ++ after) (flipped .bits)
+
+    sent-header : a .header ≡ received packet
+    sent-header =
+        one-near (terms .mend) word (a .header) (headerFor format sync (length (made .carried))) (named .bits)
+        (subst (λ (w : ℕ). ValidWithin (terms .mend) w (a .header)) came-word (a .allowed .framed .near))
+        (record { valid = header-valid format sync (length (made .carried)) small; near = near word flipped })
+        ∙ sym packet-header
+
+    mask-is : reading .mask ≡ bitXor word (received packet)
+    mask-is = ap (λ (r : Reading). r .mask) (a .is) ∙ ap₂ bitXor came-word sent-header
+
+    pub flipped-told : (k : ℕ) → (bit k (reading .mask) ≡ 1) ↔ (bit k word ≢ bit k (received packet))
+    flipped-told k = subst (λ (m : ℕ). (bit k m ≡ 1) ↔ (bit k word ≢ bit k (received packet))) (sym mask-is) (xor-bit-told k word (received packet))
+
   -- ---- more bits flipped than named
 
   module _ (word : ℕ) (flipped : FlippedBeyond terms packet word) (behind : List ℕ) where
@@ -134,4 +161,4 @@ module _ (terms : Terms) (named : MayBeNamed terms) (format : Format) (sync : Bo
     beyond-examined answer examines = examines-one terms (named .bytes) came answer (NotReadable NoHeader) examines no-header
 
 pub demand-3 : (terms : Terms) → MayBeNamed terms → Demand3 terms
-demand-3 terms named = record { intact = intact terms named; damaged-data = damaged-data terms named; damaged-sum = damaged-sum terms named; beyond = beyond terms named; beyond-examined = beyond-examined terms named }
+demand-3 terms named = record { intact = intact terms named; flipped-told = flipped-told terms named; damaged-data = damaged-data terms named; damaged-sum = damaged-sum terms named; beyond = beyond terms named; beyond-examined = beyond-examined terms named }

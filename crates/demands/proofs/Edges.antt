@@ -5,6 +5,7 @@ use mathlib.Core.List.{List, [], _∷_}
 use mathlib.Core.Path.{subst}
 use Prim.Native.Nat.{ℕ, _^_}
 use native.Mathlib.Omega.{arith}
+use lib.Bits.{bitXor}
 use lib.Count.{onesIn}
 use lib.Dec.{T, T-not, leb, ltb, eqb, leb→le, ltb→lt, eqb→eq}
 use lib.ListN.{length, take, getD}
@@ -113,9 +114,10 @@ tests (checks flag length check bytes) =
     let h = received (flag ∷ bytes) in
     ltb h (2 ^ 32) ∷ valid h ∷ eqb (flagIn h) flag ∷ eqb (lengthIn h) length ∷ eqb (checkIn h) check ∷ []
 tests (heads format sync length bytes) = same (bytesOf (headerFor format sync length)) bytes ∷ []
-tests (reads numbers head format sync length mended) =
-    let d = distance (received head) (headerFor format sync length) in
-    ltb length (2 ^ 14) ∷ every (λ (mend : ℕ). _&&_ (leb d mend) (eqb mended d)) numbers ∷ []
+tests (reads numbers head format sync length mended mask) =
+    let header = headerFor format sync length in
+    let d = distance (received head) header in
+    ltb length (2 ^ 14) ∷ every (λ (mend : ℕ). _&&_ (leb d mend) (eqb mended d)) numbers ∷ eqb (bitXor (received head) header) mask ∷ []
 tests (hopeless numbers head) =
     eqb (length head) 4 ∷ ltb (received head) (2 ^ 32) ∷ every (λ (mend : ℕ). _&&_ (leb mend 2) (none mend (received head))) numbers ∷ []
 tests (foreign numbers head header mended) =
@@ -145,7 +147,7 @@ row-holds (checks flag length check bytes) (small, (v, (f, (l, (c, t))))) =
     let h = received (flag ∷ bytes) in
     (valid-by-test h (ltb→lt h (2 ^ 32) small) v, eqb→eq (flagIn h) flag f, eqb→eq (lengthIn h) length l, eqb→eq (checkIn h) check c)
 row-holds (heads format sync length bytes) (p, t) = same-is (bytesOf (headerFor format sync length)) bytes p
-row-holds (reads numbers head format sync length mended) (small, (near, t)) =
+row-holds (reads numbers head format sync length mended mask) (small, (near, (which, t))) =
     let few = ltb→lt length (2 ^ 14) small in
     let header = headerFor format sync length in
     let d = distance (received head) header in (
@@ -154,6 +156,7 @@ row-holds (reads numbers head format sync length mended) (small, (near, t)) =
       header-typed format sync length few,
       header-sync format sync length few,
       header-length format sync length few,
+      eqb→eq (bitXor (received head) header) mask which,
     )
 row-holds (hopeless numbers head) (four, (small, (far, t))) =
     whichever (λ (mend : ℕ). _&&_ (leb mend 2) (none mend (received head))) (λ (mend : ℕ). RefusesAll mend head NoHeader)
@@ -210,7 +213,7 @@ unfolding Passed every-row every-test tests same other ours reading comes-to stu
     numeric-writer.sentFor numeric-writer.ours numeric-writer.comesBack shef.table shef-writer.coded shef-writer.own shef-writer.ours
     ascii.six ascii.seven ascii.special ascii.pair ascii.table ascii-writer.own ascii-writer.ours
 computed =
-    (tt, (tt, (tt, (tt, (tt, (tt, (tt, (tt, (tt, (tt, (tt, (tt, (tt, (tt, (tt, (tt, (tt, (tt, (tt, (tt, (tt, (tt, (tt, (tt, (tt, (tt, (tt, (tt, (tt, (tt, (tt, (tt, (tt, (tt, (tt, (tt, (tt, (tt, (tt, (tt, (tt, (tt, (tt, (tt, (tt, (tt, (tt, (tt, (tt, (tt, (tt, (tt, tt))))))))))))))))))))))))))))))))))))))))))))))))))))
+    (tt, (tt, (tt, (tt, (tt, (tt, (tt, (tt, (tt, (tt, (tt, (tt, (tt, (tt, (tt, (tt, (tt, (tt, (tt, (tt, (tt, (tt, (tt, (tt, (tt, (tt, (tt, (tt, (tt, (tt, (tt, (tt, (tt, (tt, (tt, (tt, (tt, (tt, (tt, (tt, (tt, (tt, (tt, (tt, (tt, (tt, (tt, (tt, (tt, (tt, (tt, (tt, (tt, (tt, (tt, (tt, tt))))))))))))))))))))))))))))))))))))))))))))))))))))))))
 
 -- the one statement: every row of the table
 pub edges-hold : Every edges

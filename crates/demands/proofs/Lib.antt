@@ -7,3 +7,4 @@ pub mod HeaderTests
 pub mod OneAnswer
 pub mod Parts
 pub mod Promised
+pub mod WhichBits

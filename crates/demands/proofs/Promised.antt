@@ -9,6 +9,7 @@ use Rattle.demands.proofs.Demand1 as first
 use Rattle.demands.proofs.Demand2 as second
 use Rattle.demands.proofs.Demand3 as third
 use Rattle.demands.proofs.OneAnswer as beside
+use Rattle.demands.proofs.WhichBits as which
 
 pub kept : (terms : Terms) → OnePacket (terms .most) → Promised terms
 kept terms bytes = record {
@@ -21,6 +22,7 @@ kept terms bytes = record {
   buildings = beside.buildings;
   agreement = beside.agreement terms bytes;
   nothing-after = beside.nothing-after terms bytes;
+  which-bits = which.which-bits terms;
 }
 
 pub kept-naming : (mend : ℕ) → Promised (naming mend)

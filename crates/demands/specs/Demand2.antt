@@ -10,6 +10,7 @@ use mathlib.Core.List.{List, [], _++_}
 use mathlib.Core.Logic.{_↔_}
 use mathlib.Core.Path.{_≡_}
 use Prim.Native.Nat.{ℕ, _+_, _≤_, _<_}
+use lib.Bits.{bitXor}
 use lib.ListN.{length, drop}
 use Rattle.bits.specs.Row.{Bytes}
 use Rattle.header.specs.declared.Format.{Format}
@@ -43,7 +44,7 @@ packetLength format text = length (dataOf format text) + 6
 
 -- the reading of that packet as it was written: no bit mended
 abbrev pub cleanReading : Format → Bool → List ℕ → Reading
-cleanReading format sync text = readingWith format sync 0 (length (dataOf format text)) (length (comesBack format text))
+cleanReading format sync text = readingWith format sync 0 0 (length (dataOf format text)) (length (comesBack format text))
 
 -- the text stands at the front of the buffer, and behind it the buffer is as it was
 abbrev pub StandsInFront : List ℕ → List ℕ → List ℕ → Type 0
@@ -90,6 +91,7 @@ pub record Demand2 (terms : Terms) : Type 0 where
   pub accepted-is-made : (packet : List ℕ) (reading : Reading) (text : List ℕ) → Bytes packet → Accepts terms packet reading text
       → (made after : List ℕ) × Made terms (reading .format) (reading .sync) text made × Flipped terms made (received packet)
       × (packet ≡ arriving (received packet) made after) × (reading .mended ≡ distance (received packet) (received made))
+      × (reading .mask ≡ bitXor (received packet) (received made))
   -- Writing that text again in its format gives a packet, in no more bytes than that one had,
   pub written-again : (packet : List ℕ) (reading : Reading) (text : List ℕ) → Accepts terms packet reading text
       → (sync : Bool) (lent exit : List ℕ) (answer : WriteAnswer) → packetLength (reading .format) text ≤ length lent
@@ -102,4 +104,4 @@ pub record Demand2 (terms : Terms) : Type 0 where
       → (sync : Bool) (lent again : List ℕ) (wrote : WriteAnswer) → packetLength (reading .format) text ≤ length lent
       → Writes terms (formatNumber (reading .format)) sync text lent wrote again
       → (entry exit : List ℕ) (answer : ReadAnswer) → length text ≤ length entry → Reads terms again entry answer exit
-      → (answer ≡ Accepted (readingWith (reading .format) sync 0 (length (dataOf (reading .format) text)) (length text))) × StandsInFront text entry exit
+      → (answer ≡ Accepted (readingWith (reading .format) sync 0 0 (length (dataOf (reading .format) text)) (length text))) × StandsInFront text entry exit

@@ -17,6 +17,7 @@ use Rattle.refusals.specs.declared.ExamineRefusal.{ExamineRefusal}
 use Rattle.refusals.specs.declared.ExamineRefusal.the-variants.{TooManyBits, NoHeader, OtherType}
 use Rattle.refusals.specs.declared.ReadRefusal.the-variants.{Packet}
 use Rattle.packet.specs.Packet.{received, headerFor}
+use Rattle.reader.specs.Examine.{readingOf}
 use Rattle.reader.specs.Reader.{ReadRefuses}
 use Rattle.terms.specs.Terms.{naming}
 
@@ -25,8 +26,8 @@ pub data Edge : Type 0 where
   checks : (flag length check : ℕ) → List ℕ → Edge
   -- the header that we send for a format, a sync bit and a length
   heads : Format → (sync : Bool) (length : ℕ) → List ℕ → Edge
-  -- whichever of these numbers of bits is named, a received header is read as this format, sync bit and length, with so many bits mended
-  reads : (numbers : List ℕ) → List ℕ → Format → (sync : Bool) (length mended : ℕ) → Edge
+  -- whichever of these numbers of bits is named, a received header is read as this format, sync bit and length, with so many bits mended, and these
+  reads : (numbers : List ℕ) → List ℕ → Format → (sync : Bool) (length mended mask : ℕ) → Edge
   -- whichever is named, a received header is too far from any valid one: refusal 2, whatever follows it
   hopeless : (numbers : List ℕ) → List ℕ → Edge
   -- whichever is named, a received header is mended to one, with so many bits, whose type is none of ours: refusal 3, whatever follows it
@@ -56,9 +57,10 @@ Holds (checks flag length check bytes) =
     let header = received (flag ∷ bytes) in
     Valid header × (flagIn header ≡ flag) × (lengthIn header ≡ length) × (checkIn header ≡ check)
 Holds (heads format sync length bytes) = bytesOf (headerFor format sync length) ≡ bytes
-Holds (reads numbers head format sync length mended) =
+Holds (reads numbers head format sync length mended mask) =
     let header = headerFor format sync length in
-    Naming numbers (λ mend. MendsWithin mend (received head) (Mended header mended)) × HasFormat (fieldsIn header) format × (fieldsIn header .sync ≡ sync) × (lengthIn header ≡ length)
+    Naming numbers (λ mend. MendsWithin mend (received head) (Mended header mended)) × HasFormat (fieldsIn header) format
+    × (fieldsIn header .sync ≡ sync) × (lengthIn header ≡ length) × (readingOf format header (received head) [] .mask ≡ mask)
 Holds (hopeless numbers head) = Naming numbers (λ mend. RefusesAll mend head NoHeader)
 Holds (foreign numbers head header mended) =
     Naming numbers (λ mend. MendsWithin mend (received head) (Mended (received header) mended) × RefusesAll mend head OtherType)
@@ -78,7 +80,7 @@ edges =
     ∷ heads Open false 4000 (0x40 ∷ 0x3E ∷ 0x80 ∷ 0xD1 ∷ [])
     ∷ heads FullAscii false 1 (0xD0 ∷ 0x00 ∷ 0x04 ∷ 0x30 ∷ [])
     -- P5
-    ∷ reads (2 ∷ []) (0xC1 ∷ 0x00 ∷ 0x04 ∷ 0xDD ∷ []) Open false 1 2
+    ∷ reads (2 ∷ []) (0xC1 ∷ 0x00 ∷ 0x04 ∷ 0xDD ∷ []) Open false 1 2 0x81000000
     ∷ hopeless (0 ∷ 1 ∷ []) (0xC1 ∷ 0x00 ∷ 0x04 ∷ 0xDD ∷ [])
     -- P6
     ∷ hopeless (0 ∷ 1 ∷ 2 ∷ []) (0x40 ∷ 0x00 ∷ 0x04 ∷ 0xDA ∷ [])
@@ -88,9 +90,14 @@ edges =
     -- M1
     ∷ unnamed (3 ∷ 4 ∷ 256 ∷ 65536 ∷ 4294967295 ∷ [])
     -- M2
-    ∷ reads (0 ∷ 1 ∷ 2 ∷ []) (0x40 ∷ 0x00 ∷ 0x04 ∷ 0xDD ∷ []) Open false 1 0
-    ∷ reads (1 ∷ 2 ∷ []) (0xC0 ∷ 0x00 ∷ 0x04 ∷ 0xDD ∷ []) Open false 1 1
+    ∷ reads (0 ∷ 1 ∷ 2 ∷ []) (0x40 ∷ 0x00 ∷ 0x04 ∷ 0xDD ∷ []) Open false 1 0 0x00000000
+    ∷ reads (1 ∷ 2 ∷ []) (0xC0 ∷ 0x00 ∷ 0x04 ∷ 0xDD ∷ []) Open false 1 1 0x80000000
     ∷ hopeless (0 ∷ []) (0xC0 ∷ 0x00 ∷ 0x04 ∷ 0xDD ∷ [])
+    -- M3
+    ∷ reads (1 ∷ 2 ∷ []) (0x40 ∷ 0x00 ∷ 0x04 ∷ 0xDC ∷ []) Open false 1 1 0x00000001
+    ∷ hopeless (0 ∷ []) (0x40 ∷ 0x00 ∷ 0x04 ∷ 0xDC ∷ [])
+    ∷ reads (1 ∷ 2 ∷ []) (0x40 ∷ 0x80 ∷ 0x04 ∷ 0xDD ∷ []) Open false 1 1 0x00800000
+    ∷ hopeless (0 ∷ []) (0x40 ∷ 0x80 ∷ 0x04 ∷ 0xDD ∷ [])
     -- P8
     ∷ writes PseudoBinary (65 ∷ 66 ∷ []) (0x81 ∷ 0x04 ∷ 0x2F ∷ [])
     -- P9

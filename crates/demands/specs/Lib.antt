@@ -5,3 +5,4 @@ pub mod Edges
 pub mod Makers
 pub mod OneAnswer
 pub mod Promised
+pub mod WhichBits

@@ -6,6 +6,7 @@ use Rattle.demands.specs.Demand1.{Demand1, Conditions}
 use Rattle.demands.specs.Demand2.{Demand2}
 use Rattle.demands.specs.Demand3.{Demand3}
 use Rattle.demands.specs.OneAnswer.{OneAnswer, OneBuilding, Buildings, Agreement, NothingAfter}
+use Rattle.demands.specs.WhichBits.{WhichBits}
 
 pub record Promised (terms : Terms) : Type 0 where
   pub demand-1 : Demand1 terms
@@ -17,3 +18,4 @@ pub record Promised (terms : Terms) : Type 0 where
   pub buildings : Buildings
   pub agreement : Agreement terms
   pub nothing-after : NothingAfter terms
+  pub which-bits : WhichBits terms

@@ -1,0 +1,18 @@
+-- Which header bits were mended (RULES, Refusals): what the mask of an accepted packet says, whatever number was named, read into a buffer or examined.
+-- Assumes nothing.
+use mathlib.Core.List.{List}
+use mathlib.Core.Path.{_≡_}
+use Prim.Native.Nat.{ℕ}
+use lib.Bits.{bitXor}
+use lib.Count.{onesIn}
+use Rattle.terms.specs.declared.Terms.{Terms}
+use Rattle.reader.specs.declared.Reading.{Reading}
+use Rattle.reader.specs.Examine.{Allowed, Accepts}
+use Rattle.packet.specs.Packet.{received}
+
+pub record WhichBits (terms : Terms) : Type 0 where
+  -- the count is the number of ones in it;
+  pub ones-counted : (packet : List ℕ) (reading : Reading) (text : List ℕ) → Accepts terms packet reading text → reading .mended ≡ onesIn 32 (reading .mask)
+  -- it and the received word give back the valid header, with which the packet is allowed
+  pub header-back : (packet : List ℕ) (reading : Reading) (text : List ℕ) → Accepts terms packet reading text
+      → Allowed terms packet (reading .format) (bitXor (received packet) (reading .mask)) text
