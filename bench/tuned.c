@@ -425,13 +425,14 @@ static ALWAYS_INLINE rosopyat_read_answer read_packet(uint32_t mend, const uint8
     memcpy(&header, packet, 4);
     header = __builtin_bswap32(header);
     unsigned rest = check_bits(header), mended = mending_count[rest];
-    header ^= mending_table[rest];
-    if (!__builtin_parity(header >> 24)) {
-        header ^= 0x80000000;
+    uint32_t mask = mending_table[rest];
+    if (!__builtin_parity((header ^ mask) >> 24)) {
+        mask |= 0x80000000;
         mended++;
     }
     if (mended > mend)
         return refuse_reading(2, 0);
+    header ^= mask;
     unsigned flag = header >> 24, format = flag >> 2 & 7;
     if ((flag & 0x61) != 0x40 || format > 4)
         return refuse_reading(3, 0);
@@ -477,7 +478,7 @@ static ALWAYS_INLINE rosopyat_read_answer read_packet(uint32_t mend, const uint8
         memcpy(text, own, count);
     }
     return (rosopyat_read_answer){
-        .format = format, .sync = flag >> 1 & 1, .mended = mended, .data_length = length, .text_length = count, .used = length + 6};
+        .format = format, .sync = flag >> 1 & 1, .mended = mended, .mask = mask, .data_length = length, .text_length = count, .used = length + 6};
 }
 
 rosopyat_read_answer tuned_read(const uint8_t *packet, size_t packet_length, uint8_t *text, size_t text_room)

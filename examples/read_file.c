@@ -1,7 +1,9 @@
 /* Reads a packet from a file and prints its text: read_file FILE. Status 0: printed; 1: refused; 2: a file could not be read or written. At most one wrong
- * header bit is mended, as on a live channel; for a weak recording that is known to hold a packet call rosopyat_read_mending with 2. */
+ * header bit is mended, as on a live channel; for a weak recording that is known to hold a packet call rosopyat_read_mending with 2. Where a bit was mended,
+ * a line on standard error says how many, and by the mask which: mended 1, mask 01000000 for the spare bit. */
 #include "rosopyat.h"
 
+#include <inttypes.h>
 #include <stdio.h>
 
 int main(int count, char **words)
@@ -28,6 +30,8 @@ int main(int count, char **words)
         fprintf(stderr, "refused %u, number %zu\n", answer.refusal, answer.number);
         return 1;
     }
+    if (answer.mended != 0)
+        fprintf(stderr, "mended %" PRIu32 ", mask %08" PRIX32 "\n", answer.mended, answer.mask);
     if (fwrite(text, 1, answer.text_length, stdout) != answer.text_length || fflush(stdout) != 0) {
         perror("standard output");
         return 2;

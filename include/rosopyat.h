@@ -83,12 +83,24 @@ enum rosopyat_refusal {
     ROSOPYAT_OTHER_FORMAT = 12   /* the format is not one of 0 to 4 */
 };
 
+/* What the bits of the reader's `mask` are. It is the exclusive or of the received header, its four bytes as one number with the first byte highest, and the
+ * valid header that this is read as: so the received header and the mask give the valid header back by exclusive or, and `mended` is the number of ones in
+ * the mask. These are macros, since no enum of C99 can hold the first. */
+#define ROSOPYAT_MASK_PARITY UINT32_C(0x80000000)        /* the flag's parity bit, which makes its ones odd */
+#define ROSOPYAT_MASK_TYPE UINT32_C(0x60000000)          /* the flag's type */
+#define ROSOPYAT_MASK_EXTENDED_TYPE UINT32_C(0x1C000000) /* the flag's extended type, which is the format */
+#define ROSOPYAT_MASK_SYNC UINT32_C(0x02000000)          /* the flag's time sync bit */
+#define ROSOPYAT_MASK_SPARE UINT32_C(0x01000000)         /* the flag's spare bit */
+#define ROSOPYAT_MASK_LENGTH UINT32_C(0x00FFFC00)        /* the 14 bits of the data's length */
+#define ROSOPYAT_MASK_CHECK UINT32_C(0x000003FF)         /* the ten check bits */
+
 typedef struct rosopyat_read_answer {
     uint32_t refusal;   /* enum rosopyat_refusal */
     size_t number;      /* what the refusal says, or 0 */
     uint32_t format;    /* enum rosopyat_format */
     uint32_t sync;      /* 1: time synchronised since the last transmission */
     uint32_t mended;    /* header bits that were put right: 0 up to the number named, or up to 1 where none is */
+    uint32_t mask;      /* which ones: a 1 for each, by the ROSOPYAT_MASK_ names above */
     size_t data_length; /* 1 to 4,000 */
     size_t text_length; /* bytes of `text` that were written */
     size_t used;        /* bytes of `packet` that belong to the packet: data_length and 6 */

@@ -1,6 +1,6 @@
 /* The published packets and messages (file given), the table of edges P1 to P15, M1, M2 and Q1 to Q3, edges of Numeric and SHEF, every unreadable ending, the
- * numbers of formats and of header bits to mend, through rosopyat.h: linked once with the independent implementation under the library's names, and once
- * with the library. */
+ * numbers of formats and of header bits to mend, the mask of the mended bits, through rosopyat.h: linked once with the independent implementation under the
+ * library's names, and once with the library. */
 #include "maker.h"
 #include "rosopyat.h"
 
@@ -11,7 +11,8 @@
 
 /* The structs as the library lays them out. */
 _Static_assert(sizeof(rosopyat_read_answer) == 56 && offsetof(rosopyat_read_answer, number) == 8 && offsetof(rosopyat_read_answer, format) == 16 &&
-                   offsetof(rosopyat_read_answer, mended) == 24 && offsetof(rosopyat_read_answer, data_length) == 32,
+                   offsetof(rosopyat_read_answer, mended) == 24 && offsetof(rosopyat_read_answer, mask) == 28 &&
+                   offsetof(rosopyat_read_answer, data_length) == 32,
                "layout of the reader's answer");
 _Static_assert(sizeof(rosopyat_write_answer) == 24 && offsetof(rosopyat_write_answer, number) == 8, "layout of the writer's answer");
 
@@ -24,6 +25,19 @@ _Static_assert(ROSOPYAT_ACCEPTED == 0 && ROSOPYAT_OPEN == 0 && ROSOPYAT_PSEUDO_B
                    ROSOPYAT_FULL_ASCII == 4,
                "numbers of the formats");
 _Static_assert(ROSOPYAT_MOST_DATA == 4000 && ROSOPYAT_OVERHEAD == 6 && ROSOPYAT_MOST_PACKET == 4006 && ROSOPYAT_MOST_TEXT == 85328, "limits");
+
+/* The parts of a header, as the library's mask has them. Each bit is in one of them, and in no other: their sum is no more than all bits. */
+_Static_assert(ROSOPYAT_MASK_PARITY == 0x80000000 && ROSOPYAT_MASK_TYPE == 0x60000000 && ROSOPYAT_MASK_EXTENDED_TYPE == 0x1c000000 &&
+                   ROSOPYAT_MASK_SYNC == 0x02000000 && ROSOPYAT_MASK_SPARE == 0x01000000 && ROSOPYAT_MASK_LENGTH == 0x00fffc00 &&
+                   ROSOPYAT_MASK_CHECK == 0x000003ff,
+               "bits of the mask");
+_Static_assert((ROSOPYAT_MASK_PARITY | ROSOPYAT_MASK_TYPE | ROSOPYAT_MASK_EXTENDED_TYPE | ROSOPYAT_MASK_SYNC | ROSOPYAT_MASK_SPARE | ROSOPYAT_MASK_LENGTH |
+                ROSOPYAT_MASK_CHECK) == 0xffffffff,
+               "all bits of the mask");
+_Static_assert((uint64_t)ROSOPYAT_MASK_PARITY + ROSOPYAT_MASK_TYPE + ROSOPYAT_MASK_EXTENDED_TYPE + ROSOPYAT_MASK_SYNC + ROSOPYAT_MASK_SPARE +
+                       ROSOPYAT_MASK_LENGTH + ROSOPYAT_MASK_CHECK ==
+                   0xffffffff,
+               "each bit of the mask once");
 
 /* What a caller names: a narrower type would cut a format, or a number of bits to mend, to one of ours before the call. */
 _Static_assert(_Generic(&rosopyat_write, rosopyat_write_answer(*)(uint32_t, bool, const uint8_t *, size_t, uint8_t *, size_t): 1, default: 0),
@@ -57,7 +71,7 @@ static rosopyat_read_answer read_naming(int64_t named, const uint8_t *packet, si
     return rosopyat_read_mending(named, packet, packet_length, text, text_room);
 }
 
-static void expect_reading_naming(int64_t named, const char *what, const uint8_t *packet, size_t packet_length, unsigned format, unsigned mended,
+static void expect_reading_naming(int64_t named, const char *what, const uint8_t *packet, size_t packet_length, unsigned format, uint32_t mask,
                                   const uint8_t *text, size_t text_length)
 {
     static uint8_t got[ROSOPYAT_MOST_TEXT];
@@ -66,16 +80,18 @@ static void expect_reading_naming(int64_t named, const char *what, const uint8_t
     expect(what, "number", answer.number, 0);
     expect(what, "format", answer.format, format);
     expect(what, "sync", answer.sync, 0);
-    expect(what, "mended", answer.mended, mended);
+    expect(what, "mended", answer.mended, __builtin_popcount(mask));
+    expect(what, "mask", answer.mask, mask);
     expect(what, "data length", answer.data_length, packet_length - 6);
     expect(what, "used", answer.used, packet_length);
     expect(what, "text length", answer.text_length, text_length);
     expect_bytes(what, got, text, text_length);
 }
 
-static void expect_reading(const char *what, const uint8_t *packet, size_t packet_length, unsigned format, unsigned mended, const uint8_t *text, size_t text_length)
+static void expect_reading(const char *what, const uint8_t *packet, size_t packet_length, unsigned format, uint32_t mask, const uint8_t *text,
+                           size_t text_length)
 {
-    expect_reading_naming(BY_DEFAULT, what, packet, packet_length, format, mended, text, text_length);
+    expect_reading_naming(BY_DEFAULT, what, packet, packet_length, format, mask, text, text_length);
 }
 
 static void expect_refused_naming(int64_t named, const char *what, const uint8_t *packet, size_t packet_length, unsigned refusal, size_t number)
@@ -84,7 +100,7 @@ static void expect_refused_naming(int64_t named, const char *what, const uint8_t
     rosopyat_read_answer answer = read_naming(named, packet, packet_length, text, sizeof text);
     expect(what, "refusal", answer.refusal, refusal);
     expect(what, "number", answer.number, number);
-    expect(what, "every other member", answer.format | answer.sync | answer.mended | answer.data_length | answer.text_length | answer.used, 0);
+    expect(what, "every other member", answer.format | answer.sync | answer.mended | answer.mask | answer.data_length | answer.text_length | answer.used, 0);
     expect_bytes(what, text, before, sizeof text);
 }
 
@@ -196,7 +212,7 @@ static void wrong_headers(void)
         char what[32];
         sprintf(what, "P5 to P7 %s", namings[i].what);
         if (namings[i].p5 == 0)
-            expect_reading_naming(namings[i].named, what, packet, packet_length, 0, 2, (const uint8_t *)"x", 1);
+            expect_reading_naming(namings[i].named, what, packet, packet_length, 0, 0x81000000, (const uint8_t *)"x", 1);
         else
             expect_refused_naming(namings[i].named, what, packet, packet_length, namings[i].p5, 0);
         expect_refused_naming(namings[i].named, what, (const uint8_t *)"\x40\x00\x04\xda", 4, namings[i].p6, 0);
@@ -215,9 +231,52 @@ static void none_to_mend(void)
         sprintf(what, "none to mend, bit %u wrong", bit);
         packet[bit / 8] ^= 0x80 >> bit % 8;
         expect_refused_naming(0, what, packet, packet_length, 2, 0);
-        expect_reading_naming(1, what, packet, packet_length, 0, 1, (const uint8_t *)"x", 1);
+        expect_reading_naming(1, what, packet, packet_length, 0, 0x80000000 >> bit, (const uint8_t *)"x", 1);
         packet[bit / 8] ^= 0x80 >> bit % 8;
     }
+}
+
+/* The masks of headers near that of P2. */
+static void masks(void)
+{
+    static const struct {
+        const char *header;
+        uint32_t mask;
+    } rows[] = {{"\x40\x00\x04\xdd", 0},          {"\xc0\x00\x04\xdd", 0x80000000}, {"\x41\x00\x04\xdd", 0x01000000}, {"\xc1\x00\x04\xdd", 0x81000000},
+                {"\x40\x80\x04\xdd", 0x00800000}, {"\x40\x00\x00\xdd", 0x00000400}, {"\x40\x80\x00\xdd", 0x00800400}, {"\x40\x00\x06\xdd", 0x00000200},
+                {"\x40\x00\x04\xdc", 0x00000001}, {"\xc0\x00\x04\xdc", 0x80000001}};
+    uint8_t packet[64];
+    size_t packet_length = make_x(packet);
+    for (unsigned i = 0; i < sizeof rows / sizeof *rows; i++) {
+        char what[32];
+        sprintf(what, "mask %08X", (unsigned)rows[i].mask);
+        memcpy(packet, rows[i].header, 4);
+        expect_reading_naming(2, what, packet, packet_length, 0, rows[i].mask, (const uint8_t *)"x", 1);
+    }
+}
+
+/* Each header bit wrong by itself, from the first on: the mask has this bit alone, which is one of its part. */
+static void masks_of_each_bit(void)
+{
+    static const struct {
+        uint32_t part;
+        unsigned bits;
+    } parts[] = {{ROSOPYAT_MASK_PARITY, 1}, {ROSOPYAT_MASK_TYPE, 2},    {ROSOPYAT_MASK_EXTENDED_TYPE, 3}, {ROSOPYAT_MASK_SYNC, 1},
+                 {ROSOPYAT_MASK_SPARE, 1},  {ROSOPYAT_MASK_LENGTH, 14}, {ROSOPYAT_MASK_CHECK, 10}};
+    uint8_t packet[64], text[16];
+    size_t packet_length = make_x(packet);
+    unsigned bit = 0;
+    for (unsigned i = 0; i < sizeof parts / sizeof *parts; i++)
+        for (unsigned k = 0; k < parts[i].bits; k++, bit++) {
+            char what[32];
+            sprintf(what, "mask of bit %u", bit);
+            packet[bit / 8] ^= 0x80 >> bit % 8;
+            rosopyat_read_answer answer = rosopyat_read(packet, packet_length, text, sizeof text);
+            expect(what, "mask", answer.mask, 0x80000000 >> bit);
+            expect(what, "mask in its part", answer.mask & parts[i].part, 0x80000000 >> bit);
+            packet[bit / 8] ^= 0x80 >> bit % 8;
+        }
+    expect("mask", "bits", bit, 32);
 }
 
 /* All numbers of bits but three are refused, whatever their low bits say, before the packet or the room is looked at. */
@@ -567,6 +626,8 @@ int main(int count, char **words)
     edges();
     wrong_headers();
     none_to_mend();
+    masks();
+    masks_of_each_bit();
     too_many_bits();
     value_63();
     numeric();

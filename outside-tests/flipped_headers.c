@@ -1,7 +1,8 @@
 /* Every pattern of up to four flipped header bits, for one small packet in each format, through rosopyat.h: linked once with the independent implementation
  * under the library's names, and once with the library. What must come of a packet is known from its making. With no more bits flipped than named it is read
- * as it was sent, with as many mended as were flipped. With more it is refused (2), as long as the flipped and the named are at most four together: two
- * valid headers differ in five bits or more. Beyond that nothing is promised, and nothing is tried here. */
+ * as it was sent, with as many mended as were flipped, and the mask is the pattern of these. With more it is refused (2), without a mask, as long as the
+ * flipped and the named are at most four together: two valid headers differ in five bits or more. Beyond that nothing is promised, and nothing is tried
+ * here. */
 #include "maker.h"
 #include "rosopyat.h"
 
@@ -29,16 +30,16 @@ static rosopyat_read_answer read_one_way(unsigned way, const uint8_t *packet, si
 
 static bool is_refused(rosopyat_read_answer answer, const uint8_t *text)
 {
-    return answer.refusal == ROSOPYAT_NO_HEADER && answer.number == 0 && answer.format == 0 && answer.sync == 0 && answer.mended == 0 &&
+    return answer.refusal == ROSOPYAT_NO_HEADER && answer.number == 0 && answer.format == 0 && answer.sync == 0 && answer.mended == 0 && answer.mask == 0 &&
            answer.data_length == 0 && answer.text_length == 0 && answer.used == 0 && memcmp(text, "????", MOST_TEXT) == 0;
 }
 
-static bool is_read(rosopyat_read_answer answer, const uint8_t *text, unsigned format, unsigned flipped)
+static bool is_read(rosopyat_read_answer answer, const uint8_t *text, unsigned format, uint32_t pattern, unsigned flipped)
 {
     size_t data_length = strlen(sent[format].data), text_length = strlen(sent[format].text);
     return answer.refusal == ROSOPYAT_ACCEPTED && answer.number == 0 && answer.format == format && answer.sync == sent[format].sync &&
-           answer.mended == flipped && answer.data_length == data_length && answer.used == data_length + 6 && answer.text_length == text_length &&
-           memcmp(text, sent[format].text, text_length) == 0;
+           answer.mended == flipped && answer.mask == pattern && answer.data_length == data_length && answer.used == data_length + 6 &&
+           answer.text_length == text_length && memcmp(text, sent[format].text, text_length) == 0;
 }
 
 static unsigned as_sent, refused, wrong;
@@ -53,11 +54,11 @@ static void try_pattern(unsigned way, unsigned format, const uint8_t *packet, si
     bool readable = flipped <= named[way];
     as_sent += readable;
     refused += !readable;
-    if (readable ? is_read(answer, text, format, flipped) : is_refused(answer, text))
+    if (readable ? is_read(answer, text, format, pattern, flipped) : is_refused(answer, text))
         return;
     wrong++;
-    printf("wrong: format %u, bits %08X flipped, %u named%s: refusal %u, %u mended\n", format, (unsigned)pattern, named[way],
-           way == BY_DEFAULT ? " by default" : "", (unsigned)answer.refusal, (unsigned)answer.mended);
+    printf("wrong: format %u, bits %08X flipped, %u named%s: refusal %u, %u mended, mask %08X\n", format, (unsigned)pattern, named[way],
+           way == BY_DEFAULT ? " by default" : "", (unsigned)answer.refusal, (unsigned)answer.mended, (unsigned)answer.mask);
 }
 
 /* The next larger number with as many ones. */
@@ -91,6 +92,6 @@ int main(void)
     const unsigned one = 32, two = 32 * 31 / 2, three = two * 30 / 3, four = three * 29 / 4;
     for (unsigned format = 0; format < FORMATS; format++)
         try_format(format);
-    printf("%u headers read as sent, %u refused, %u wrong\n", as_sent, refused, wrong);
+    printf("%u headers read as sent with the flipped bits for a mask, %u refused, %u wrong\n", as_sent, refused, wrong);
     return wrong != 0 || as_sent != FORMATS * (1 + 2 * (1 + one) + 1 + one + two) || refused != FORMATS * (one + two + three + four + 2 * (two + three));
 }

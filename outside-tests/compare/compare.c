@@ -3,9 +3,9 @@
  *     compare [COUNT [SEED [FIRST]]]
  *
  * Each case depends on the seed and its own number only, so `outside-tests/compare/run 1 SEED FIRST` repeats one. A difference in any member of an
- * answer or any byte of a buffer, a byte changed outside of what the answer allows, a read or write past a buffer's end, or an answer other than the
- * one known from how the packet was made ends the run with status 1. So does, in a run of MEANT_CASES or more, an outcome that never occurred, of the list
- * below or of an answer in a format. */
+ * answer or any byte of a buffer, a byte changed outside of what the answer allows, a read or write past a buffer's end, a mask that does not lead from the
+ * received header to a valid one by as many bits as were mended, or an answer other than the one known from how the packet was made ends the run with
+ * status 1. So does, in a run of MEANT_CASES or more, an outcome that never occurred, of the list below, of an answer in a format or of a header bit mended. */
 #define _GNU_SOURCE
 #include "independent.h"
 #include "maker.h"
@@ -205,6 +205,25 @@ static const struct {
 
 static uint64_t read_answers[FORMATS][REFUSALS], write_answers[FORMATS][REFUSALS];
 
+/* How often each header bit was mended, from the lowest on; and the parts that the bits belong to. */
+
+enum { HEADER_BITS = 32, PARTS = 7 };
+
+static uint64_t mended_bits[HEADER_BITS];
+
+static const struct {
+    uint32_t mask;
+    const char *name;
+} parts[PARTS] = {
+    {ROSOPYAT_MASK_PARITY, "the flag's parity"},
+    {ROSOPYAT_MASK_TYPE, "type"},
+    {ROSOPYAT_MASK_EXTENDED_TYPE, "extended type"},
+    {ROSOPYAT_MASK_SYNC, "time sync"},
+    {ROSOPYAT_MASK_SPARE, "spare"},
+    {ROSOPYAT_MASK_LENGTH, "length"},
+    {ROSOPYAT_MASK_CHECK, "check"},
+};
+
 /* Buffers. Each region ends at a page that may not be touched. A buffer ends there, or GUARD bytes before. The outputs of both sides start as copies of
  * `untouched`, and are put back to that after each case. */
 
@@ -265,8 +284,8 @@ static void touched_outside(int signal_number)
 
 static void dump_read_answer(const char *name, rosopyat_read_answer a)
 {
-    printf("%s: refusal %u number %zu format %u sync %u mended %u data_length %zu text_length %zu used %zu\n", name, a.refusal, a.number, a.format, a.sync,
-           a.mended, a.data_length, a.text_length, a.used);
+    printf("%s: refusal %u number %zu format %u sync %u mended %u mask %08X data_length %zu text_length %zu used %zu\n", name, a.refusal, a.number, a.format,
+           a.sync, a.mended, a.mask, a.data_length, a.text_length, a.used);
 }
 
 static void dump_write_answer(const char *name, rosopyat_write_answer a)
@@ -353,10 +372,11 @@ static size_t some_room(size_t needed)
 struct made {
     uint8_t packet[ROSOPYAT_MOST_PACKET + LONG_TAIL];
     size_t length;
-    bool headed;  /* it starts with a valid header, but for so many flipped bits; what follows holds where that header is found */
+    bool headed; /* it starts with a valid header, but for so many flipped bits; what follows holds where that header is found */
     unsigned flipped;
-    bool known;   /* the outcome is known from the making: this format, sync and text */
-    bool damaged; /* known too: refused by checksum, for a damage of this kind */
+    uint32_t mask; /* of the flipped bits */
+    bool known;    /* the outcome is known from the making: this format, sync and text */
+    bool damaged;  /* known too: refused by checksum, for a damage of this kind */
     unsigned kind;
     unsigned format, sync;
     unsigned flag; /* that the header says */
@@ -585,16 +605,14 @@ static void flip(uint8_t *bytes, size_t bit)
 static void damage_header(void)
 {
     unsigned dice = below(100), flips = dice < 50 ? 0 : dice < 68 ? 1 : dice < 86 ? 2 : dice < 93 ? 3 : MOST_FLIPPED;
-    unsigned done[MOST_FLIPPED];
+    made.mask = 0;
     for (unsigned i = 0; i < flips; i++) {
-        bool again;
-        do {
-            done[i] = chance(10) ? 0 : below(32);
-            again = false;
-            for (unsigned k = 0; k < i; k++)
-                again |= done[k] == done[i];
-        } while (again);
-        flip(made.packet, done[i]);
+        unsigned bit;
+        do
+            bit = chance(10) ? 0 : below(HEADER_BITS);
+        while (made.mask & 0x80000000 >> bit);
+        flip(made.packet, bit);
+        made.mask |= 0x80000000 >> bit;
     }
     made.flipped = flips;
 }
@@ -750,13 +768,13 @@ static bool is_lost(uint32_t mend)
 
 static bool same_read_answer(rosopyat_read_answer a, rosopyat_read_answer b)
 {
-    return a.refusal == b.refusal && a.number == b.number && a.format == b.format && a.sync == b.sync && a.mended == b.mended &&
+    return a.refusal == b.refusal && a.number == b.number && a.format == b.format && a.sync == b.sync && a.mended == b.mended && a.mask == b.mask &&
            a.data_length == b.data_length && a.text_length == b.text_length && a.used == b.used;
 }
 
 static bool read_as_made(rosopyat_read_answer answer, const uint8_t *text)
 {
-    return answer.refusal == 0 && answer.format == made.format && answer.sync == made.sync && answer.mended == made.flipped &&
+    return answer.refusal == 0 && answer.format == made.format && answer.sync == made.sync && answer.mended == made.flipped && answer.mask == made.mask &&
            answer.data_length == made.data_length && answer.used == made.data_length + 6 && answer.text_length == made.text_length &&
            memcmp(text, made_text, made.text_length) == 0;
 }
@@ -765,6 +783,19 @@ static bool read_as_made(rosopyat_read_answer answer, const uint8_t *text)
 static bool only_refused(rosopyat_read_answer answer, uint32_t refusal)
 {
     return same_read_answer(answer, (rosopyat_read_answer){.refusal = refusal});
+}
+
+/* What holds of the mask in any answer, whether the packet's outcome is known or not; NULL where it is so. */
+static const char *compare_mask(rosopyat_read_answer answer)
+{
+    if (answer.refusal != 0)
+        return answer.mask == 0 ? NULL : "a refusal has a mask";
+    if ((unsigned)__builtin_popcount(answer.mask) != answer.mended)
+        return "the mask has not as many ones as bits were mended";
+    uint32_t header = answer.mask;
+    for (int i = 0; i < 4; i++)
+        header ^= (uint32_t)made.packet[i] << (24 - 8 * i);
+    return header == maker_header(header >> 24, header >> 10) ? NULL : "the mask does not give a valid header back";
 }
 
 /* What is known from the making, whatever the two implementations say; NULL where it is so. */
@@ -783,7 +814,7 @@ static const char *compare_making(uint32_t mend, rosopyat_read_answer answer, co
         outcomes[DAMAGED_MENDED + made.flipped]++;
     }
     if (!made.known)
-        return NULL;
+        return answer.refusal != 0 || answer.mask == made.mask ? NULL : "the mask is not that of the flipped bits";
     if (room < made.text_length)
         return answer.refusal == 8 && answer.number == made.text_length ? NULL : "the text made has no room, and that is not the answer";
     if (!read_as_made(answer, text))
@@ -834,6 +865,8 @@ static void count_reading(struct naming naming, rosopyat_read_answer answer, siz
     }
     read_answers[answer.format][0]++;
     outcomes[MENDED_0 + answer.mended]++;
+    for (unsigned bit = 0; bit < HEADER_BITS; bit++)
+        mended_bits[bit] += answer.mask >> bit & 1;
     outcomes[naming.by_default ? MENDED_BY_DEFAULT + answer.mended : MENDED_NAMED + 3 * naming.mend + answer.mended]++;
     outcomes[READ_SYNC_0 + answer.sync]++;
     outcomes[READ_DATA_1] += answer.data_length == 1;
@@ -867,6 +900,8 @@ static bool reader_case(void)
         wrong = "the answers differ";
     if (!wrong)
         wrong = compare_outputs(text, ours.text_length);
+    if (!wrong)
+        wrong = compare_mask(ours);
     if (!wrong)
         wrong = compare_making(naming.mend, ours, library_output + text.start, room);
     if (!wrong && naming.by_default)
@@ -1061,8 +1096,8 @@ static bool reads_back(struct place packet, size_t length, uint32_t format, bool
     uint8_t *back = independent_output;
     size_t normal_length = make_normal(format, text, text_length);
     rosopyat_read_answer answer = rosopyat_read(library_output + packet.start, length, back, REGION);
-    bool same = answer.refusal == 0 && answer.format == format && answer.sync == sync && answer.mended == 0 && answer.data_length + 6 == length &&
-                answer.used == length && answer.text_length == normal_length && memcmp(back, normal, normal_length) == 0;
+    bool same = answer.refusal == 0 && answer.format == format && answer.sync == sync && answer.mended == 0 && answer.mask == 0 &&
+                answer.data_length + 6 == length && answer.used == length && answer.text_length == normal_length && memcmp(back, normal, normal_length) == 0;
     rosopyat_write_answer rewritten = rosopyat_write(format, sync, back, answer.text_length, again, sizeof again);
     same &= rewritten.refusal == 0 && rewritten.length == length && memcmp(again, library_output + packet.start, length) == 0;
     memcpy(back, untouched, answer.text_length);
@@ -1183,6 +1218,28 @@ static bool print_answers(const char *side, unsigned format, const uint64_t *ans
     return missing;
 }
 
+/* Whether it never occurred, though it was meant to. */
+static bool print_outcome(uint64_t occurred, const char *name, bool meant)
+{
+    bool never = meant && occurred == 0;
+    printf("%10" PRIu64 "  %s%s\n", occurred, name, never ? ": NEVER OCCURRED" : "");
+    return never;
+}
+
+static bool print_mended_bits(bool meant)
+{
+    bool missing = false;
+    for (unsigned bit = HEADER_BITS; bit-- > 0;) {
+        char name[64];
+        unsigned part = 0;
+        while (part < PARTS - 1 && !(parts[part].mask >> bit & 1))
+            part++;
+        sprintf(name, "reader accepted, with header bit %u mended, %s", bit, parts[part].name);
+        missing |= print_outcome(mended_bits[bit], name, meant);
+    }
+    return missing;
+}
+
 static bool print_outcomes(bool all_meant)
 {
     bool missing = false;
@@ -1191,11 +1248,9 @@ static bool print_outcomes(bool all_meant)
         missing |= print_answers("writer", format, write_answers[format], all_meant ? formats[format].written : 0);
     }
     for (int i = 0; i < OUTCOMES; i++)
-        if (outcome_name[i]) {
-            bool never = all_meant && outcomes[i] == 0;
-            printf("%10" PRIu64 "  %s%s\n", outcomes[i], outcome_name[i], never ? ": NEVER OCCURRED" : "");
-            missing |= never;
-        }
+        if (outcome_name[i])
+            missing |= print_outcome(outcomes[i], outcome_name[i], all_meant);
+    missing |= print_mended_bits(all_meant);
     printf("%10d  of the 32 types in a header\n", __builtin_popcount(types_made));
     return !missing && (!all_meant || types_made == ~0u);
 }

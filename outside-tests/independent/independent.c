@@ -86,6 +86,16 @@ static bool find_header(uint32_t received, uint32_t mend, uint32_t *header)
     return false;
 }
 
+/* A one for each of the 32 bits that was received other than it is in the valid header. */
+static uint32_t turned_over(uint32_t received, uint32_t header)
+{
+    uint32_t mask = 0;
+    for (int i = 0; i < 32; i++)
+        if ((received >> i & 1) != (header >> i & 1))
+            mask |= 1u << i;
+    return mask;
+}
+
 static uint16_t checksum(const uint8_t *data, size_t length)
 {
     unsigned sum = 0xffff;
@@ -332,6 +342,7 @@ rosopyat_read_answer independent_read_mending(uint32_t mend, const uint8_t *pack
     answer.format = format;
     answer.sync = flag >> 1 & 1;
     answer.mended = mended;
+    answer.mask = turned_over(received, header);
     answer.data_length = length;
     answer.text_length = count;
     answer.used = length + 6;
