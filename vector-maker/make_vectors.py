@@ -432,7 +432,7 @@ def with_byte(head):
 
 
 def edges():
-    """P1 to P15, M3 and Q1 to Q3, each as its line of the table says."""
+    """P1 to P15, M2, M3 and Q1 to Q3, each as its line of the table says."""
     def data(format, text, sent, head=None, others=()):
         sent = bytes.fromhex(sent)
         whole = packet_of(format, sent)
@@ -453,6 +453,7 @@ def edges():
     reads(with_byte("C10004DD"), 3, ("ok 0 0 2 81000000 1 1", 7, b"\x37"))  # P5
     reads(bytes.fromhex("400004DA"), 3, ("refused 2", 0, b""))  # P6
     reads(bytes(4), 3, ("refused 3", 0, b""))  # P7
+    reads(with_byte("C00004DD"), 3, ("ok 0 0 1 80000000 1 1", 7, b"\x37"))  # M2
     reads(with_byte("400004DC"), 3, ("ok 0 0 1 00000001 1 1", 7, b"\x37"))  # M3
     reads(with_byte("408004DD"), 3, ("ok 0 0 1 00800000 1 1", 7, b"\x37"))
     data(PSEUDO, b"AB", "81042F")  # P8
@@ -718,12 +719,13 @@ def as_sent(named, flips):
 
 
 def edges_named():
-    """P5 to P7, M3 and the packets of section 5, with fewer bits named than two."""
+    """P5 to P7, M2, M3 and the packets of section 5, with fewer bits named than two."""
     for named in 0, 1, DEFAULT:
         reads(with_byte("C10004DD"), 3, ("refused 2", 0, b""), named)  # P5
         reads(bytes.fromhex("400004DA"), 3, ("refused 2", 0, b""), named)  # P6
         reads(bytes(4), 3, ("refused 2" if named == 0 else "refused 3", 0, b""), named)  # P7
-        for head, mask in ("400004DC", "00000001"), ("408004DD", "00800000"):  # M3
+        reads(with_byte("400004DD"), 3, ("ok 0 0 0 00000000 1 1", 7, b"\x37"), named)  # M2
+        for head, mask in ("C00004DD", "80000000"), ("400004DC", "00000001"), ("408004DD", "00800000"):  # M2, M3
             reads(with_byte(head), 3, ("refused 2", 0, b"") if named == 0 else (f"ok 0 0 1 {mask} 1 1", 7, b"\x37"), named)
         for sent, message in sections().values():
             format = sent[0] >> 2 & 7

@@ -3,7 +3,7 @@
 use mathlib.Core.Bool.{Bool}
 use mathlib.Core.List.{List, [], _∷_, _++_, append-assoc}
 use mathlib.Core.Logic.{_≢_, _↔_}
-use mathlib.Core.Path.{_≡_, refl, sym, ap, ap₂, _∙_, subst}
+use mathlib.Core.Path.{_≡_, refl, sym, ap, ap₂, _∙_, subst, subst₂}
 use Prim.Native.Nat.{ℕ, _/_, _%_, _^_, _≤_, _<_}
 use native.Mathlib.Omega.{arith}
 use lib.Bits.{bitXor}
@@ -132,8 +132,10 @@ module _ (terms : Terms) (named : MayBeNamed terms) (format : Format) (sync : Bo
     mask-is : reading .mask ≡ bitXor word (received packet)
     mask-is = ap (λ (r : Reading). r .mask) (a .is) ∙ ap₂ bitXor came-word sent-header
 
-    pub flipped-told : (k : ℕ) → (bit k (reading .mask) ≡ 1) ↔ (bit k word ≢ bit k (received packet))
-    flipped-told k = subst (λ (m : ℕ). (bit k m ≡ 1) ↔ (bit k word ≢ bit k (received packet))) (sym mask-is) (xor-bit-told k word (received packet))
+    -- at its own place in the mask
+    flipped-at : (k place : ℕ) → place ≡ k → (bit place (reading .mask) ≡ 1) ↔ (bit k word ≢ bit k (received packet))
+    flipped-at k place e =
+        subst₂ (λ (p m : ℕ). (bit p m ≡ 1) ↔ (bit k word ≢ bit k (received packet))) (sym e) (sym mask-is) (xor-bit-told k word (received packet))
 
   -- ---- more bits flipped than named
 
@@ -161,4 +163,12 @@ module _ (terms : Terms) (named : MayBeNamed terms) (format : Format) (sync : Bo
     beyond-examined answer examines = examines-one terms (named .bytes) came answer (NotReadable NoHeader) examines no-header
 
 pub demand-3 : (terms : Terms) → MayBeNamed terms → Demand3 terms
-demand-3 terms named = record { intact = intact terms named; flipped-told = flipped-told terms named; damaged-data = damaged-data terms named; damaged-sum = damaged-sum terms named; beyond = beyond terms named; beyond-examined = beyond-examined terms named }
+demand-3 terms named = record {
+  intact = intact terms named;
+  flipped-told = λ format sync text packet made word flipped after reading read a k.
+      flipped-at terms named format sync text packet made word flipped after reading read a k _ (omega arith);
+  damaged-data = damaged-data terms named;
+  damaged-sum = damaged-sum terms named;
+  beyond = beyond terms named;
+  beyond-examined = beyond-examined terms named;
+}

@@ -3,6 +3,7 @@
 use mathlib.Core.List.{List}
 use mathlib.Core.Path.{_≡_, sym, ap, _∙_, subst₂}
 use Prim.Native.Nat.{ℕ}
+use native.Mathlib.Omega.{arith}
 use lib.Bits.{bitXor}
 use lib.Count.{onesIn}
 use Rattle.bits.specs.Word.{differences}
@@ -16,9 +17,13 @@ use Rattle.packet.specs.Packet.{received}
 use Rattle.demands.specs.WhichBits.{WhichBits}
 
 module _ (terms : Terms) (packet : List ℕ) (reading : Reading) (text : List ℕ) (a : Accepts terms packet reading text) where
-  ones-counted : reading .mended ≡ onesIn 32 (reading .mask)
+  -- in all bits of a header
+  ones-counted : (width : ℕ) → width ≡ 32 → reading .mended ≡ onesIn width (reading .mask)
   unfolding distance differences
-  ones-counted = ap (λ (r : Reading). r .mended) (a .is) ∙ ap (λ (r : Reading). onesIn 32 (r .mask)) (sym (a .is))
+  ones-counted width e =
+      ap (λ (r : Reading). r .mended) (a .is)
+      ∙ ap (λ (r : Reading). onesIn 32 (r .mask)) (sym (a .is))
+      ∙ ap (λ (w : ℕ). onesIn w (reading .mask)) (sym e)
 
   header-back : Allowed terms packet (reading .format) (bitXor (received packet) (reading .mask)) text
   header-back =
@@ -28,4 +33,5 @@ module _ (terms : Terms) (packet : List ℕ) (reading : Reading) (text : List �
       (a .allowed)
 
 pub which-bits : (terms : Terms) → WhichBits terms
-which-bits terms = record { ones-counted = ones-counted terms; header-back = header-back terms }
+which-bits terms =
+    record { ones-counted = λ packet reading text a. ones-counted terms packet reading text a _ (omega arith); header-back = header-back terms }

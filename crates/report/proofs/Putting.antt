@@ -150,11 +150,14 @@ module _ {n : ℕ} {entry : List ℕ} {at : ℕ} {out : List ℕ} {end places : 
     pub digit-held : end < length out
     digit-held = omega (arith, piece-held (hexadecimalDigit (n / 2 ^ (4 * fewer) % 16) ∷ []) (hexadecimalIn fewer n) now-digit)
 
-    pub digits-next : (put r : ℕ) → put ≡ hexadecimalDigit (n / 2 ^ (4 * fewer) % 16) → r ≡ end + 1 → DigitsLeft n entry at (set out end put) r fewer
-    digits-next put r p f =
+    -- the four bits so far up
+    pub digits-next : (shift put r : ℕ) → shift ≡ 4 * fewer → put ≡ hexadecimalDigit (n / 2 ^ shift % 16) → r ≡ end + 1
+        → DigitsLeft n entry at (set out end put) r fewer
+    digits-next shift put r s p f =
         record {
           few = omega (arith, l .few);
-          still = still-next (hexadecimalDigit (n / 2 ^ (4 * fewer) % 16) ∷ []) (hexadecimalIn fewer n) now-digit (puts-as put p f digit-held);
+          still = still-next (hexadecimalDigit (n / 2 ^ (4 * fewer) % 16) ∷ []) (hexadecimalIn fewer n) now-digit
+              (puts-as put (p ∙ ap (λ (k : ℕ). hexadecimalDigit (n / 2 ^ k % 16)) s) f digit-held);
         }
 
 -- ---- a word and numbers

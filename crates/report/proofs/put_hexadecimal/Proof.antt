@@ -40,7 +40,7 @@ loop-less c = omega arith
 
 loop-again : tie.Need-loop-again Inv-loop μ-loop
 loop-again c =
-    digits-next (c .before .before .loop .inv) (c .before .before .loop .places - 1) (omega arith) _ _ (c .hexadecimal-digit .ensures) refl
+    digits-next (c .before .before .loop .inv) (c .before .before .loop .places - 1) (omega arith) _ _ _ (omega arith) (c .hexadecimal-digit .ensures) refl
 
 same-length : tie.Need-same-length Inv-loop μ-loop
 same-length c = c .before .loop .inv .still .same
