@@ -13,13 +13,14 @@ ghost use Rattle.reader.specs.Examine.{Examines};
 ghost use Rattle.reader.specs.Reader.{Reads};
 ghost use Rattle.reader.specs.Steps.Reading.{HeaderFound, FindsHeader};
 
-// An accepted packet: its format and sync bit, how many header bits were mended and which, the lengths of data and text, and the bytes used.
+// An accepted packet: its format and sync bit, how many header bits were mended and which, the lengths of data and text, and the bytes used. Why the
+// mask does not stand beside the count: docs/DECISIONS.md.
 pub struct Reading {
     pub format: Format,
     pub sync: bool,
     pub mended: u32,
-    pub mask: u32,
     pub data_length: usize,
+    pub mask: u32,
     pub text_length: usize,
     pub used: usize,
 }
