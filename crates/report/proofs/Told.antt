@@ -34,6 +34,14 @@ spaced-append [] b = refl
 spaced-append (field ∷ a) b =
     ap (λ (row : List ℕ). (32 ∷ field) ++ row) (spaced-append a b) ∙ sym (append-assoc (32 ∷ field) (spaced a) (spaced b))
 
+-- where the end of the line is still to be put, there is room for it, and with it the line stands at the front
+module _ {row entry last : List ℕ} {end : ℕ} (l : Still row entry 0 (10 ∷ []) last end) where
+  pub end-held : end < length last
+  end-held = omega (arith, l .held)
+
+  pub line-put : {exit : List ℕ} {r : ℕ} → PutsRow (10 ∷ []) last exit end r → Fronted row entry exit r
+  line-put {exit} {r} n = front (l .rest exit r n)
+
 -- ---- a packet that was read: five numbers, and the mask among them
 
 module _ (format sync mended mask long count : ℕ) where
@@ -98,14 +106,8 @@ module _ (format sync mended mask long count : ℕ) where
         lengths-held = omega (arith, piece-held (spaced (decimals lengths)) (10 ∷ []) behind-mask)
 
         module _ (last : List ℕ) (end : ℕ) (w : PutsRow (spaced (decimals lengths)) masked last after end) where
-          behind-lengths : Still whole entry 0 (10 ∷ []) last end
+          pub behind-lengths : Still whole entry 0 (10 ∷ []) last end
           behind-lengths = still-next (spaced (decimals lengths)) (10 ∷ []) behind-mask w
-
-          pub end-held : end < length last
-          end-held = omega (arith, behind-lengths .held)
-
-          pub line-put : (exit : List ℕ) (r : ℕ) → PutsRow (10 ∷ []) last exit end r → Fronted whole entry exit r
-          line-put exit r n = front (behind-lengths .rest exit r n)
 
 -- ---- a packet that is refused: a number
 
@@ -131,14 +133,8 @@ module _ (number : ℕ) (entry : List ℕ) (held : room ≤ length entry) where
       )))
 
   module _ (last : List ℕ) (end : ℕ) (p : PutsRow (refused ++ spaced (decimals (number ∷ []))) entry last 0 end) where
-    behind-number : Still (line refused (decimal number ∷ [])) entry 0 (10 ∷ []) last end
+    pub behind-number : Still (line refused (decimal number ∷ [])) entry 0 (10 ∷ []) last end
     behind-number = still-next (refused ++ spaced (decimals (number ∷ []))) (10 ∷ []) refused-all p
-
-    pub refused-end-held : end < length last
-    refused-end-held = omega (arith, behind-number .held)
-
-    pub refused-put : (exit : List ℕ) (r : ℕ) → PutsRow (10 ∷ []) last exit end r → Fronted (line refused (decimal number ∷ [])) entry exit r
-    refused-put exit r n = front (behind-number .rest exit r n)
 
 pub told-refused : (refusal : ReadRefusal) (number : ℕ) → number ≡ numberIn (readTold refusal) → line refused (decimal number ∷ []) ≡ lineOf (Refused refusal)
 told-refused refusal number e = ap (λ (n : ℕ). line refused (decimal n ∷ [])) e

@@ -2,7 +2,7 @@
 -- Assumes nothing.
 use native.Mathlib.Omega.{arith}
 use borrow.Author.Needs.{needs}
-use Rattle.report.proofs.Told.{front-same, told-accepted, counts-held, mask-held, lengths-held, end-held, line-put}
+use Rattle.report.proofs.Told.{front-same, end-held, line-put, told-accepted, counts-held, mask-held, lengths-held, behind-lengths}
 use Rattle.report.proofs.put_reading.Statement.{statement}
 use Rattle.report.proofs.put_reading.Tie as tie
 
@@ -67,25 +67,26 @@ put-end-requires c κs =
     let mask = behind-mask lengths in
     let word = behind-word mask in
     let s = start word in
-    end-held _ _ _ _ _ _ (s .args .out .now) (s .pre) (word .put-word .last .1 .1 .0) (word .put-word .result) (word .put-word .ensures)
+    end-held
+    (behind-lengths _ _ _ _ _ _ (s .args .out .now) (s .pre) (word .put-word .last .1 .1 .0) (word .put-word .result) (word .put-word .ensures)
     (mask .put-mask .last .1 .0) (mask .put-mask .result) (mask .put-mask .ensures)
-    (lengths .put-spaced .last .1 .0) (lengths .put-spaced .result) (lengths .put-spaced .ensures)
+    (lengths .put-spaced .last .1 .0) (lengths .put-spaced .result) (lengths .put-spaced .ensures))
 
 same-length : tie.Need-same-length
 same-length c = search needs
 
 returns : tie.Need-returns
 returns c =
-    let end = c .before .before .put-end in
     let lengths = c .before .before .before .before .before .before in
     let mask = behind-mask lengths in
     let word = behind-word mask in
     let s = start word in
     let synced = word .before .before .before .before .before in
     front-same
-    (line-put _ _ _ _ _ _ (s .args .out .now) (s .pre) (word .put-word .last .1 .1 .0) (word .put-word .result) (word .put-word .ensures)
+    (line-put
+    (behind-lengths _ _ _ _ _ _ (s .args .out .now) (s .pre) (word .put-word .last .1 .1 .0) (word .put-word .result) (word .put-word .ensures)
     (mask .put-mask .last .1 .0) (mask .put-mask .result) (mask .put-mask .ensures)
-    (lengths .put-spaced .last .1 .0) (lengths .put-spaced .result) (lengths .put-spaced .ensures) (end .last .0) (end .result) (end .ensures))
+    (lengths .put-spaced .last .1 .0) (lengths .put-spaced .result) (lengths .put-spaced .ensures)) (c .before .before .put-end .ensures))
     (told-accepted _ _ _ _ _ _ (s .args .reading)
     (omega (arith, synced .before .number .ensures))
     (omega (arith, synced .one-if .ensures))

@@ -1,7 +1,7 @@
 -- `report::put_refused` meets its contract.
 -- Assumes nothing.
 use borrow.Author.Needs.{needs}
-use Rattle.report.proofs.Told.{number-held, refused-end-held, refused-put}
+use Rattle.report.proofs.Told.{end-held, line-put, number-held, behind-number}
 use Rattle.report.proofs.put_refused.Statement.{statement}
 use Rattle.report.proofs.put_refused.Tie as tie
 
@@ -20,7 +20,7 @@ put-end-requires : tie.Need-put-end-requires
 put-end-requires c κs =
     let s = c .before .before .before .before .before .before .before .before in
     let put = c .before .before .before .put-word in
-    refused-end-held (s .args .number) (s .args .out .now) (s .pre) (put .last .1 .1 .0) (put .result) (put .ensures)
+    end-held (behind-number (s .args .number) (s .args .out .now) (s .pre) (put .last .1 .1 .0) (put .result) (put .ensures))
 
 same-length : tie.Need-same-length
 same-length c = search needs
@@ -29,8 +29,7 @@ returns : tie.Need-returns
 returns c =
     let s = c .before .before .before .before .before .before .before .before .before .before .before in
     let put = c .before .before .before .before .before .before .put-word in
-    let end = c .before .before .put-end in
-    refused-put (s .args .number) (s .args .out .now) (s .pre) (put .last .1 .1 .0) (put .result) (put .ensures) (end .last .0) (end .result) (end .ensures)
+    line-put (behind-number (s .args .number) (s .args .out .now) (s .pre) (put .last .1 .1 .0) (put .result) (put .ensures)) (c .before .before .put-end .ensures)
 
 pub put-refused-spec : {M : Type 1} → statement M
 put-refused-spec =
