@@ -1,4 +1,4 @@
-/* The published packets and messages (file given), the table of edges P1 to P15, M1, M2 and Q1 to Q3, edges of Numeric and SHEF, every unreadable ending, the
+/* The published packets and messages (file given), the table of edges P1 to P15, M1 to M3 and Q1 to Q3, edges of Numeric and SHEF, every unreadable ending, the
  * numbers of formats and of header bits to mend, the mask of the mended bits, through rosopyat.h: linked once with the independent implementation under the
  * library's names, and once with the library. */
 #include "maker.h"
