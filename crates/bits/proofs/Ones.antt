@@ -8,7 +8,7 @@ use native.Mathlib.Numerals.{add-one}
 use native.Mathlib.Omega.{arith}
 use lib.Arith.{lt-one}
 use lib.Pow.{field, mod-mod-pow}
-use lib.Bits.{bitXor, differ, xor-comm, xor-self, shifted-half, shifted-even, xor-zero-r, xor-lt}
+use lib.Bits.{bitXor, differ, xor-comm, xor-self, xor-shr, shifted-half, shifted-even, xor-zero-r, xor-lt}
 use lib.Count.{onesIn, ones, ones-step}
 use Rattle.bits.specs.Word.{bit, differences}
 use Rattle.bits.proofs.Xor.{two-pos, digit-of, xor-odd, xor-half, xor-assoc, xor-undo, xor-zero}
@@ -39,9 +39,8 @@ bit-lt k n = mod-lt (n / 2 ^ k) two-pos
 -- ---- a bit of an exclusive or
 
 xor-bit : (k a b : ℕ) → bit k (bitXor a b) ≡ differ (bit k a) (bit k b)
-xor-bit zero a b = bit-zero (bitXor a b) ∙ xor-odd a b ∙ ap₂ differ (sym (bit-zero a)) (sym (bit-zero b))
-xor-bit (suc k) a b =
-    bit-suc k (bitXor a b) ∙ ap (bit k) (xor-half a b) ∙ xor-bit k (a / 2) (b / 2) ∙ ap₂ differ (sym (bit-suc k a)) (sym (bit-suc k b))
+unfolding bit
+xor-bit k a b = ap (λ (n : ℕ). n % 2) (xor-shr a b k) ∙ xor-odd (a / 2 ^ k) (b / 2 ^ k)
 
 differ-told : (x y : ℕ) → x < 2 → y < 2 → (differ x y ≡ 1) ↔ (x ≢ y)
 differ-told zero zero hx hy = (λ e. absurd (let no : ⊥ = omega arith in no), λ other. absurd (other refl))
