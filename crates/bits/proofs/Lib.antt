@@ -1,4 +1,7 @@
 pub mod All
+pub mod First
+pub mod Numbers
 pub mod Ones
 pub mod Said
+pub mod Turnings
 pub mod Xor

@@ -3,34 +3,21 @@
 use mathlib.Core.Path.{_≡_, refl, sym, ap, ap₂, _∙_, subst}
 use mathlib.Core.Logic.{_⊎_, inl, inr, _↔_, _≢_}
 use Prim.Native.Nat.{ℕ, zero, suc, _+_, _-_, _*_, _/_, _%_, _^_, _≤_, _<_, zero-le}
-use native.Mathlib.Nat.{mod-lt, one-mul, mul-comm, zero-add, suc-add, pow-suc, div-one, div-div-eq-div-mul}
+use native.Mathlib.Nat.{mod-lt, one-mul, mul-comm, zero-add, suc-add, pow-suc, div-one, div-eq-of-lt, div-div-eq-div-mul}
+use native.Mathlib.Decide.{decLt}
 use native.Mathlib.Numerals.{add-one}
 use native.Mathlib.Omega.{arith}
-use lib.Arith.{lt-one}
+use lib.Arith.{lt-one, digits-div, digits-mod}
 use lib.Pow.{field, mod-mod-pow}
-use lib.Bits.{bitXor, differ, xor-comm, xor-self, xor-shr, shifted-half, shifted-even, xor-zero-r, xor-lt}
+use lib.Bits.{bitXor, differ, xor-comm, xor-self, xor-shr, xor-lt}
 use lib.Count.{onesIn, ones, ones-step}
 use Rattle.bits.specs.Word.{bit, differences}
-use Rattle.bits.proofs.Xor.{two-pos, digit-of, xor-odd, xor-half, xor-assoc, xor-undo, xor-zero}
+use Rattle.bits.proofs.Xor.{two-pos, xor-odd, xor-half, xor-assoc, xor-undo, xor-zero}
 
 -- ---- halves
 
-pow-half : (j : ℕ) → 2 ^ suc j / 2 ≡ 2 ^ j
-pow-half j = ap (λ (n : ℕ). n / 2) (sym (one-mul (2 ^ suc j))) ∙ shifted-half 1 j ∙ one-mul (2 ^ j)
-
-pow-even : (j : ℕ) → 2 ^ suc j % 2 ≡ 0
-pow-even j = ap (λ (n : ℕ). n % 2) (sym (one-mul (2 ^ suc j))) ∙ shifted-even 1 j
-
 shift-half : (j n : ℕ) → n / 2 ^ suc j ≡ n / 2 / 2 ^ j
 shift-half j n = ap (λ (m : ℕ). n / m) (pow-suc 2 j ∙ mul-comm (2 ^ j) 2) ∙ sym (div-div-eq-div-mul n 2 (2 ^ j))
-
-bit-zero : (n : ℕ) → bit 0 n ≡ n % 2
-unfolding bit
-bit-zero n = ap (λ (m : ℕ). m % 2) (div-one n)
-
-bit-suc : (j n : ℕ) → bit (suc j) n ≡ bit j (n / 2)
-unfolding bit
-bit-suc j n = ap (λ (m : ℕ). m % 2) (shift-half j n)
 
 pub bit-lt : (k n : ℕ) → bit k n < 2
 unfolding bit
@@ -55,33 +42,9 @@ differ-told (suc (suc x)) y hx hy = absurd (let no : ⊥ = omega arith in no)
 pub xor-bit-told : (k a b : ℕ) → (bit k (bitXor a b) ≡ 1) ↔ (bit k a ≢ bit k b)
 xor-bit-told k a b = subst (λ (x : ℕ). (x ≡ 1) ↔ (bit k a ≢ bit k b)) (sym (xor-bit k a b)) (differ-told (bit k a) (bit k b) (bit-lt k a) (bit-lt k b))
 
-differ-zero : (x : ℕ) → differ x 0 ≡ x
-differ-zero zero = refl
-differ-zero (suc x) = refl
+-- ---- no ones
 
--- ---- one bit turned over changes the count by one: up where it was 0, down where it was 1
-
-turned : (k i n : ℕ) → i < k → onesIn k (bitXor n (2 ^ i)) + bit i n ≡ onesIn k n + (1 - bit i n)
-unfolding onesIn
-turned zero i n h = absurd (let no : ⊥ = omega arith in no)
-turned (suc k) zero n h = pick (digit-of n)
-  where
-    rest : onesIn k (bitXor n 1 / 2) ≡ onesIn k (n / 2)
-    rest = ap (onesIn k) (xor-half n 1 ∙ xor-zero-r (n / 2))
-
-    pick : (n % 2 ≡ 0) ⊎ (n % 2 ≡ 1)
-        → bitXor n 1 % 2 + onesIn k (bitXor n 1 / 2) + bit 0 n ≡ n % 2 + onesIn k (n / 2) + (1 - bit 0 n)
-    pick (inl e) = omega (arith, rest, bit-zero n, xor-odd n 1 ∙ ap (λ (x : ℕ). differ x 1) e)
-    pick (inr e) = omega (arith, rest, bit-zero n, xor-odd n 1 ∙ ap (λ (x : ℕ). differ x 1) e)
-turned (suc k) (suc i) n h = omega (arith, low, high, turned k i (n / 2) (let p : i < k = omega arith in p), bit-suc i n)
-  where
-    low : bitXor n (2 ^ suc i) % 2 ≡ n % 2
-    low = xor-odd n (2 ^ suc i) ∙ ap (differ (n % 2)) (pow-even i) ∙ differ-zero (n % 2)
-
-    high : onesIn k (bitXor n (2 ^ suc i) / 2) ≡ onesIn k (bitXor (n / 2) (2 ^ i))
-    high = ap (onesIn k) (xor-half n (2 ^ suc i) ∙ ap (bitXor (n / 2)) (pow-half i))
-
-ones-of-zero : (k : ℕ) → onesIn k 0 ≡ 0
+pub ones-of-zero : (k : ℕ) → onesIn k 0 ≡ 0
 unfolding onesIn
 ones-of-zero zero = refl
 ones-of-zero (suc k) = ap (λ (n : ℕ). 0 + n) (ones-of-zero k)
@@ -89,19 +52,6 @@ ones-of-zero (suc k) = ap (λ (n : ℕ). 0 + n) (ones-of-zero k)
 ones-zero : ones 0 ≡ 0
 unfolding ones onesIn
 ones-zero = refl
-
--- ---- where there are ones
-
-pub some-one : (k n : ℕ) → 0 < onesIn k n → (i : ℕ) × (i < k) × (bit i n ≡ 1)
-unfolding onesIn
-some-one zero n h = absurd (let no : ⊥ = omega arith in no)
-some-one (suc k) n h = pick (some-one k (n / 2)) (digit-of n)
-  where
-    pick : (0 < onesIn k (n / 2) → (i : ℕ) × (i < k) × (bit i (n / 2) ≡ 1)) → (n % 2 ≡ 0) ⊎ (n % 2 ≡ 1) → (i : ℕ) × (i < suc k) × (bit i n ≡ 1)
-    pick rest (inr e) = (0, (let p : 0 < suc k = omega arith in p), bit-zero n ∙ e)
-    pick rest (inl e) =
-        let found = rest (let p : 0 < onesIn k (n / 2) = omega arith in p) in
-        (suc (found .0), (let p : suc (found .0) < suc k = omega (arith, found .1) in p), bit-suc (found .0) n ∙ found .2)
 
 half-bound : (k n : ℕ) → n < 2 ^ suc k → n / 2 < 2 ^ k
 half-bound k n h = let p : n < 2 ^ k * 2 = subst (λ (m : ℕ). n < m) (pow-suc 2 k) h in omega arith
@@ -144,6 +94,34 @@ ones-low (suc k) n = ap₂ (λ (x y : ℕ). x + y) low (ap (onesIn k) high ∙ o
     high : n % 2 ^ suc k / 2 ≡ n / 2 % 2 ^ k
     high = ap (λ (m : ℕ). n % 2 ^ m / 2) (sym (add-one k)) ∙ field n k 1
 
+-- ---- a number of one bit more
+
+-- its highest bit is 0, or it is that bit and a number of the others
+abbrev pub Top : ℕ → ℕ → Type 0
+Top k n = (n < 2 ^ k) ⊎ ((rest : ℕ) × (rest < 2 ^ k) × (n ≡ 2 ^ k + rest))
+
+pub top : (k n : ℕ) → n < 2 ^ suc k → Top k n
+top k n h = pick (decLt n (2 ^ k))
+  where
+    pick : Dec (n < 2 ^ k) → Top k n
+    pick (yes low) = inl low
+    pick (no high) = inr (n - 2 ^ k, omega (arith, pow-suc 2 k), omega arith)
+
+-- the count of the one,
+pub without-top : (k n : ℕ) → n < 2 ^ k → onesIn (suc k) n ≡ onesIn k n
+without-top k n h =
+    let none : n / 2 ^ k ≡ 0 = div-eq-of-lt h in
+    omega (arith, ones-top k n, none)
+
+-- and of the other
+pub with-top : (k n : ℕ) → n < 2 ^ k → onesIn (suc k) (2 ^ k + n) ≡ suc (onesIn k n)
+with-top k n h =
+    let one : (2 ^ k + n) / 2 ^ k ≡ 1 = ap (λ (m : ℕ). (m + n) / 2 ^ k) (sym (one-mul (2 ^ k))) ∙ digits-div 1 h in
+    let rest : (2 ^ k + n) % 2 ^ k ≡ n = ap (λ (m : ℕ). (m + n) % 2 ^ k) (sym (one-mul (2 ^ k))) ∙ digits-mod 1 h in
+    omega (arith, ones-top k (2 ^ k + n), one, ones-low k (2 ^ k + n), ap (onesIn k) rest)
+
+-- ---- the count of an exclusive or
+
 differ-le : (x y : ℕ) → differ x y ≤ x + y
 differ-le zero y = omega arith
 differ-le (suc x) zero = omega arith
@@ -156,25 +134,6 @@ ones-xor (suc k) a b =
     omega (arith, xor-odd a b, differ-le (a % 2) (b % 2), ap (onesIn k) (xor-half a b), ones-xor k (a / 2) (b / 2))
 
 -- ---- the bits in which two numbers differ
-
--- n with its bit k turned over
-unfoldable pub flip : ℕ → ℕ → ℕ
-flip k n = bitXor n (2 ^ k)
-
-flip-out : (i a b : ℕ) → bitXor (flip i a) b ≡ bitXor (bitXor a b) (2 ^ i)
-unfolding flip
-flip-out i a b = xor-assoc a (2 ^ i) b ∙ ap (bitXor a) (xor-comm (2 ^ i) b) ∙ sym (xor-assoc a b (2 ^ i))
-
-flipped : (k i a b : ℕ) → i < k → differences k (flip i a) b + bit i (bitXor a b) ≡ differences k a b + (1 - bit i (bitXor a b))
-unfolding differences
-flipped k i a b h = ap (λ (n : ℕ). onesIn k n + bit i (bitXor a b)) (flip-out i a b) ∙ turned k i (bitXor a b) h
-
--- of two numbers that differ there is a bit that brings them nearer, turned over
-pub flip-nearer : (k a b : ℕ) → 0 < differences k a b → (i : ℕ) × (i < k) × (differences k a b ≡ suc (differences k (flip i a) b))
-unfolding differences
-flip-nearer k a b h =
-    let found = some-one k (bitXor a b) h in
-    (found .0, found .1, omega (arith, flipped k (found .0) a b (found .1), found .2))
 
 pub differences-self : (k a : ℕ) → differences k a a ≡ 0
 unfolding differences

@@ -5,9 +5,9 @@ use mathlib.Core.Bool.{Bool, true, false, not, _||_, Bool·beq}
 use Prim.Native.Nat.{ℕ, zero-le, _<_}
 use native.Mathlib.Omega.{arith}
 use lib.Dec.{T}
-use Rattle.codes.specs.Pack.{numbers}
+use Rattle.bits.specs.Numbers.{numbers}
 use Rattle.codes.proofs.EveryElement.{every, every-at}
-use Rattle.codes.proofs.NumberRanges.{numbers-in}
+use Rattle.bits.proofs.Numbers.{numbers-in}
 
 pub every-below : (n : ℕ) (f : ℕ → Bool) → T (every f (numbers 0 n)) → (c : ℕ) → c < n → T (f c)
 every-below n f t c h = every-at f (numbers 0 n) t c (numbers-in 0 n c zero-le (omega arith))

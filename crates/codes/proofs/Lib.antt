@@ -23,7 +23,6 @@ pub mod LineTables
 pub mod Lookup
 pub mod LowBits
 pub mod NonemptyText
-pub mod NumberRanges
 pub mod OneAnswer
 pub mod OneBuilding
 pub mod OneReading

@@ -3,11 +3,13 @@
 use mathlib.Core.Path.{_≡_, refl, ap₂, subst, subst⁻¹, _∙_}
 use mathlib.Core.Bool.{Bool, true, false, not, cond, _&&_}
 use mathlib.Core.Logic.{_⊎_, inl, inr, ⊎-elim}
-use mathlib.Core.List.{List, [], _∷_, List·Memᴰ·head, List·Memᴰ·tail, List·Memᴰ·not-nil, List·Memᴰ·cases-cons}
+use mathlib.Core.List.{List, [], _∷_, List·Memᴰ·not-nil, List·Memᴰ·cases-cons}
 use Prim.Native.Nat.{ℕ}
 use lib.Dec.{T, eqb, eqb→eq, eqb-refl}
 use Rattle.codes.specs.Chain.{Entry, In}
-use Rattle.codes.specs.Lookup.{same, found, first, saying, meaning}
+use Rattle.bits.specs.First.{first}
+use Rattle.codes.specs.Lookup.{same, found, saying, meaning}
+use Rattle.bits.proofs.First.{searched}
 use Rattle.bits.proofs.Said.{and-left, and-right, and-both}
 use Rattle.codes.proofs.EveryElement.{every, every-at}
 
@@ -24,20 +26,6 @@ unfolding same
 same-self [] = tt
 same-self (c ∷ a) = and-both (eqb c c) (same a a) (eqb-refl c) (same-self a)
 
--- what a search answers: nothing, or an entry of the table that passes
-abbrev pub Searched : List Entry → (Entry → Bool) → List Entry → Type 0
-Searched table test l = (l ≡ []) ⊎ ((e : Entry) × In e table × T (test e) × (l ≡ e ∷ []))
-
-searched : (table : List Entry) (test : Entry → Bool) → Searched table test (first test table)
-unfolding first
-searched [] test = inl refl
-searched (e ∷ es) test = pick (test e) refl (searched es test)
-  where
-    pick : (t : Bool) → test e ≡ t → Searched es test (first test es) → Searched (e ∷ es) test (cond t (e ∷ []) (first test es))
-    pick true x h = inr (e, List·Memᴰ·head refl, subst⁻¹ T x tt, refl)
-    pick false x (inl n) = inl n
-    pick false x (inr o) = inr (o .0, List·Memᴰ·tail (o .1), o .2, o .3)
-
 -- by its text
 abbrev pub Sayer : List Entry → List ℕ → List Entry → Type 0
 Sayer table text l = (l ≡ []) ⊎ ((e : Entry) × In e table × (e .says ≡ text) × (l ≡ e ∷ []))
@@ -45,7 +33,7 @@ Sayer table text l = (l ≡ []) ⊎ ((e : Entry) × In e table × (e .says ≡ t
 pub sayer : (table : List Entry) (text : List ℕ) → Sayer table text (saying table text)
 unfolding saying first
 sayer table text =
-    ⊎-elim (λ n. inl n) (λ o. inr (o .0, o .1, same-is (o .0 .says) text (o .2), o .3)) (searched table (λ (e : Entry). same (e .says) text))
+    ⊎-elim (λ n. inl (n .0)) (λ o. inr (o .0, o .1 .stands, same-is (o .0 .says) text (o .1 .passes), o .2)) (searched (λ (e : Entry). same (e .says) text) table)
 
 -- and by its code
 abbrev pub Meant : List Entry → List ℕ → List Entry → Type 0
@@ -54,7 +42,7 @@ Meant table code l = (l ≡ []) ⊎ ((e : Entry) × In e table × (e .code ≡ c
 pub meant : (table : List Entry) (code : List ℕ) → Meant table code (meaning table code)
 unfolding meaning first
 meant table code =
-    ⊎-elim (λ n. inl n) (λ o. inr (o .0, o .1, same-is (o .0 .code) code (o .2), o .3)) (searched table (λ (e : Entry). same (e .code) code))
+    ⊎-elim (λ n. inl (n .0)) (λ o. inr (o .0, o .1 .stands, same-is (o .0 .code) code (o .1 .passes), o .2)) (searched (λ (e : Entry). same (e .code) code) table)
 
 module _ (key : Entry → List ℕ) where
   -- no two entries have the same

@@ -1,9 +1,10 @@
 -- An entry looked up in a table.
 -- Assumes nothing.
-use mathlib.Core.Bool.{Bool, true, false, cond, _&&_}
+use mathlib.Core.Bool.{Bool, true, false, _&&_}
 use mathlib.Core.List.{List, [], _∷_}
 use Prim.Native.Nat.{ℕ}
 use lib.Dec.{eqb}
+use Rattle.bits.specs.First.{first}
 use Rattle.codes.specs.Chain.{Entry}
 
 -- two rows are the same
@@ -17,11 +18,6 @@ same (c ∷ cs) (d ∷ ds) = eqb c d && same cs ds
 unfoldable pub found : List Entry → Bool
 found [] = false
 found (e ∷ es) = true
-
--- the first entry of a table that passes a test; none where none does
-unfoldable pub first : (Entry → Bool) → List Entry → List Entry
-first test [] = []
-first test (e ∷ es) = cond (test e) (e ∷ []) (first test es)
 
 -- the entry that says the text
 unfoldable pub saying : List Entry → List ℕ → List Entry

@@ -41,8 +41,3 @@ filled bs = bs ++ replicate (gap (length bs)) 1
 -- the data of these entries: their codes in a row, then fill, in bytes
 unfoldable pub written : List Entry → List ℕ
 written es = packed (filled (codes es))
-
--- the n numbers from a on, for the tables
-unfoldable pub numbers : ℕ → ℕ → List ℕ
-numbers a zero = []
-numbers a (suc n) = a ∷ numbers (suc a) n

@@ -10,9 +10,9 @@ use lib.Count.{onesIn}
 use lib.Dec.{T, T-not, leb, ltb, eqb, leb→le, ltb→lt, eqb→eq}
 use lib.ListN.{length, take, getD}
 use Rattle.bits.specs.Row.{bits}
+use Rattle.bits.specs.Turnings.{chosen, turnings, maskOf}
 use Rattle.bits.specs.Word.{bit, differences}
 use Rattle.bits.proofs.All.{all, all-at}
-use Rattle.bits.proofs.Ones.{flip}
 use Rattle.bits.proofs.Said.{and-left, and-right}
 use Rattle.header.specs.declared.Format.{Format}
 use Rattle.header.specs.declared.Format.the-variants.{Open, PseudoBinary, Numeric, Shef, FullAscii}
@@ -23,12 +23,16 @@ use Rattle.header.specs.Fields.{fieldsIn, headerOf, lowFlag, bytesOf}
 use Rattle.mending.specs.declared.Mending.the-variants.{Mended}
 use Rattle.distance.specs.Distance.{distance}
 use Rattle.mending.specs.Mends.{MendsWithin}
+use Rattle.mending.specs.Search.{isValid, turnedOver, answerOf, search}
+use Rattle.mending.proofs.Search.{passing-valid}
 use Rattle.codes.specs.Chain.{Scheme, stateAfter, codes, texts, Builds, Stuck}
 use Rattle.codes.specs.Coded.{lastOf}
 use Rattle.codes.specs.Consecutive.{codeFor, consecutive}
 use Rattle.codes.specs.LineEnds.{eachAfter, ended, lineEnds}
-use Rattle.codes.specs.Lookup.{same, found, first, saying, meaning}
-use Rattle.codes.specs.Pack.{low, numbers, value, bytes, packed, gap, filled, written}
+use Rattle.bits.specs.First.{first}
+use Rattle.codes.specs.Lookup.{same, found, saying, meaning}
+use Rattle.bits.specs.Numbers.{numbers}
+use Rattle.codes.specs.Pack.{low, value, bytes, packed, gap, filled, written}
 use Rattle.codes.proofs.Beginning.{begun}
 use Rattle.codes.proofs.EveryElement.{every}
 use Rattle.codes.proofs.Lookup.{same-is}
@@ -57,7 +61,7 @@ use Rattle.packet.proofs.Sent.{header-valid, header-typed, header-length, heade
 use Rattle.reader.proofs.ExamineOnce.{too-many}
 use Rattle.reader.proofs.ReadOnce.{refused-packet}
 use Rattle.demands.specs.Edges.{Edge, checks, heads, reads, hopeless, foreign, unnamed, writes, carries, stops, lacks, RefusesAll, Holds, edges, Every}
-use Rattle.demands.proofs.HeaderTests.{valid, none, none-near, valid-by-test, mends-by-test, ours, other, other-none, refuses-hopeless, refuses-foreign, whichever}
+use Rattle.demands.proofs.HeaderTests.{findsNone, none, none-near, mends-by-test, ours, other, other-none, refuses-hopeless, refuses-foreign, whichever}
 
 -- ---- data, by a reading that computes
 
@@ -112,7 +116,7 @@ every-test (b ∷ bs) = b && every-test bs
 tests : Edge → List Bool
 tests (checks flag length check bytes) =
     let h = received (flag ∷ bytes) in
-    ltb h (2 ^ 32) ∷ valid h ∷ eqb (flagIn h) flag ∷ eqb (lengthIn h) length ∷ eqb (checkIn h) check ∷ []
+    ltb h (2 ^ 32) ∷ isValid h ∷ eqb (flagIn h) flag ∷ eqb (lengthIn h) length ∷ eqb (checkIn h) check ∷ []
 tests (heads format sync length bytes) = same (bytesOf (headerFor format sync length)) bytes ∷ []
 tests (reads numbers head format sync length mended mask) =
     let header = headerFor format sync length in
@@ -123,7 +127,7 @@ tests (hopeless numbers head) =
 tests (foreign numbers head header mended) =
     let h = received header in
     let d = distance (received head) h in
-    eqb (length head) 4 ∷ ltb h (2 ^ 32) ∷ valid h ∷ every (λ (mend : ℕ). _&&_ (leb mend 2) (_&&_ (leb d mend) (eqb mended d))) numbers ∷ other (fieldsIn h) ∷ []
+    eqb (length head) 4 ∷ ltb h (2 ^ 32) ∷ isValid h ∷ every (λ (mend : ℕ). _&&_ (leb mend 2) (_&&_ (leb d mend) (eqb mended d))) numbers ∷ other (fieldsIn h) ∷ []
 tests (unnamed numbers) = every (ltb 2) numbers ∷ []
 tests (writes format text carried) = same (dataOf format text) carried ∷ comes-to (reading format carried) (comesBack format text) ∷ []
 tests (carries format text carried) = comes-to (reading format carried) text ∷ []
@@ -145,7 +149,7 @@ row-holds : (e : Edge) → Passed (tests e) → Holds e
 unfolding tests Passed
 row-holds (checks flag length check bytes) (small, (v, (f, (l, (c, t))))) =
     let h = received (flag ∷ bytes) in
-    (valid-by-test h (ltb→lt h (2 ^ 32) small) v, eqb→eq (flagIn h) flag f, eqb→eq (lengthIn h) length l, eqb→eq (checkIn h) check c)
+    (passing-valid h (ltb→lt h (2 ^ 32) small) v, eqb→eq (flagIn h) flag f, eqb→eq (lengthIn h) length l, eqb→eq (checkIn h) check c)
 row-holds (heads format sync length bytes) (p, t) = same-is (bytesOf (headerFor format sync length)) bytes p
 row-holds (reads numbers head format sync length mended mask) (small, (near, (which, t))) =
     let few = ltb→lt length (2 ^ 14) small in
@@ -171,7 +175,7 @@ row-holds (foreign numbers head header mended) (four, (small, (v, (near, (none, 
     (λ (mend : ℕ). MendsWithin mend (received head) (Mended h mended) × RefusesAll mend head OtherType)
     (λ mend p.
     let mends =
-    mends-by-test mend (received head) h mended (valid-by-test h (ltb→lt h (2 ^ 32) small) v) (and-right (leb mend 2) (_&&_ (leb d mend) (eqb mended d)) p) in (
+    mends-by-test mend (received head) h mended (passing-valid h (ltb→lt h (2 ^ 32) small) v) (and-right (leb mend 2) (_&&_ (leb d mend) (eqb mended d)) p) in (
       mends,
       refuses-foreign mend (leb→le mend 2 (and-left (leb mend 2) (_&&_ (leb d mend) (eqb mended d)) p)) head (eqb→eq (length head) 4 four) h (mends .0) (other-none (fieldsIn h) none),
     ))
@@ -202,7 +206,7 @@ rows-hold (e ∷ es) (p, t) = (row-holds e (passed (tests e) p), rows-hold es t)
 
 -- every row's tests, computed: one `tt` a row
 computed : Passed (every-row edges)
-unfolding Passed every-row every-test tests same other ours reading comes-to stuck-at none all valid flip onesIn Odd received distance differences
+unfolding Passed every-row every-test tests same other ours reading comes-to stuck-at findsNone none isValid search answerOf turnedOver turnings chosen maskOf all onesIn Odd received distance differences
     flagIn checkIn checkOf informationIn lengthIn remainder generator bytesOf headerFor headerOf lowFlag parityFor fieldsIn messageTypeIn extendedTypeIn spareIn syncIn flagBits
     bits bit low numbers every begun fills find answer stateAfter codes texts value bytes packed gap filled written
     pseudo.isOf pseudo.coded pseudo.valueOf pseudo.characterOf pseudo.indicator pseudo.most pseudo.indicators pseudo.six pseudo.tables

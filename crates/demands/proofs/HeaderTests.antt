@@ -1,31 +1,26 @@
 -- What a row of edges says of headers, by computed tests: that one is valid, that none lies near, that one is of a format or of none of ours; and what is
 -- refused for it.
 -- Assumes nothing.
-use mathlib.Core.Bool.{Bool, not, _&&_}
+use mathlib.Core.Bool.{Bool, true, false, not, _&&_}
 use mathlib.Core.List.{List, [], _∷_, _++_, List·Memᴰ, List·Memᴰ·head, List·Memᴰ·tail}
 use mathlib.Core.Path.{_≡_, refl, sym, subst}
-use Prim.Native.Nat.{ℕ, zero, suc, _%_, _^_, _<_, _≤_}
+use Prim.Native.Nat.{ℕ, _^_, _<_, _≤_}
 use native.Mathlib.Omega.{arith}
-use lib.Bits.{xor-lt}
-use lib.Count.{onesIn}
 use lib.Dec.{T, T-not, leb, eqb, leb→le, eqb→eq, eqb-refl}
 use lib.ListN.{length, length-append}
-use lib.Pow.{pow-lt}
-use Rattle.bits.proofs.All.{all, all-at}
-use Rattle.bits.proofs.Ones.{flip}
 use Rattle.bits.proofs.Said.{and-left, and-right, and-both}
 use Rattle.header.specs.declared.Format.{Format}
 use Rattle.header.specs.declared.Format.the-variants.{Open, PseudoBinary, Numeric, Shef, FullAscii}
 use Rattle.header.specs.declared.Header.{Header}
-use Rattle.header.specs.Check.{checkOf}
-use Rattle.header.specs.Flag.{Odd}
-use Rattle.header.specs.Valid.{Valid, flagIn, checkIn, informationIn}
+use Rattle.header.specs.Valid.{Valid}
 use Rattle.header.specs.Fields.{fieldsIn}
 use Rattle.header.specs.Formats.{HasFormat, formatNumber}
-use Rattle.mending.specs.declared.Mending.the-variants.{Mended}
+use Rattle.mending.specs.declared.Mending.{Mending}
+use Rattle.mending.specs.declared.Mending.the-variants.{Mended, Hopeless}
 use Rattle.distance.specs.Distance.{distance, ValidWithin}
 use Rattle.mending.specs.Mends.{MendsWithin}
-use Rattle.distance.proofs.Search.{none-at, none-around}
+use Rattle.mending.specs.Search.{search}
+use Rattle.mending.proofs.Search.{search-mends}
 use Rattle.codes.proofs.EveryElement.{every, every-at}
 use Rattle.refusals.specs.declared.ExamineRefusal.the-variants.{NoHeader, OtherType}
 use Rattle.packet.specs.Packet.{received}
@@ -34,46 +29,25 @@ use Rattle.reader.proofs.ExamineStages.{clear-two, clear-three}
 use Rattle.reader.proofs.ReadOnce.{refused-packet}
 use Rattle.demands.specs.Edges.{Naming, RefusesAll}
 
--- ---- that no valid header lies near a word, as one computed test
+-- ---- that no valid header lies near a word: the search, computed, finds none
 
-unfoldable pub valid : ℕ → Bool
-valid h = eqb (onesIn 8 (flagIn h) % 2) 1 && eqb (checkIn h) (checkOf (informationIn h))
+unfoldable pub findsNone : Mending → Bool
+findsNone (Mended header bits) = false
+findsNone Hopeless = true
 
-valid-test : (h : ℕ) → Valid h → T (valid h)
-unfolding valid Odd
-valid-test h v =
-    and-both (eqb (onesIn 8 (flagIn h) % 2) 1) (eqb (checkIn h) (checkOf (informationIn h)))
-    (subst (λ (n : ℕ). T (eqb n 1)) (sym (v .parity)) tt)
-    (subst (λ (n : ℕ). T (eqb (checkIn h) n)) (v .checked) (eqb-refl (checkIn h)))
-
--- no valid header within so many bits
 unfoldable pub none : ℕ → ℕ → Bool
-none zero h = not (valid h)
-none (suc limit) h = not (valid h) && all (λ k. none limit (flip k h)) 32
+none limit h = findsNone (search limit h)
 
-flip-lt : (k h : ℕ) → k < 32 → h < 2 ^ 32 → flip k h < 2 ^ 32
-unfolding flip
-flip-lt k h lt small = xor-lt 32 h (2 ^ k) small (pow-lt lt)
+found-none : (limit h : ℕ) (found : Mending) → MendsWithin limit h found → T (findsNone found) → (v : ℕ) → ValidWithin limit h v → ⊥
+unfolding findsNone
+found-none limit h (Mended header bits) m t = absurd t
+found-none limit h Hopeless m t = m
 
 pub none-near : (limit h : ℕ) → h < 2 ^ 32 → T (none limit h) → (v : ℕ) → ValidWithin limit h v → ⊥
 unfolding none
-none-near zero h lt t = none-at h lt (λ v. T-not (valid h) t (valid-test h v))
-none-near (suc limit) h lt t =
-    none-around limit h lt (λ v. T-not (valid h) (and-left (not (valid h)) (all (λ k. none limit (flip k h)) 32) t) (valid-test h v))
-    (λ k below.
-    none-near limit (flip k h) (flip-lt k h below lt)
-    (all-at (λ k. none limit (flip k h)) 32 (and-right (not (valid h)) (all (λ k. none limit (flip k h)) 32) t) k below))
+none-near limit h lt = found-none limit h (search limit h) (search-mends limit h lt)
 
 -- ---- headers, by computed tests
-
-pub valid-by-test : (h : ℕ) → h < 2 ^ 32 → T (valid h) → Valid h
-unfolding valid Odd
-valid-by-test h lt t =
-    record {
-      bits = lt;
-      checked = eqb→eq (checkIn h) (checkOf (informationIn h)) (and-right (eqb (onesIn 8 (flagIn h) % 2) 1) (eqb (checkIn h) (checkOf (informationIn h))) t);
-      parity = eqb→eq (onesIn 8 (flagIn h) % 2) 1 (and-left (eqb (onesIn 8 (flagIn h) % 2) 1) (eqb (checkIn h) (checkOf (informationIn h))) t);
-    }
 
 pub mends-by-test : (mend h v bits : ℕ) → Valid v → T (_&&_ (leb (distance h v) mend) (eqb bits (distance h v))) → MendsWithin mend h (Mended v bits)
 mends-by-test mend h v bits valid t = (

@@ -5,20 +5,19 @@ use mathlib.Core.Path.{_≡_, sym, ap, ap₂, _∙_, subst}
 use mathlib.Core.Bool.{Bool, true, not, _&&_}
 use mathlib.Core.List.{List, [], _∷_}
 use mathlib.Core.Logic.{_⊎_, inl, inr}
-use Prim.Native.Nat.{ℕ, zero, suc, _+_, _*_, _/_, _%_, _^_, _≤_, _<_}
-use native.Mathlib.Nat.{mod-lt, one-mul, zero-mul, zero-add, add-comm}
+use Prim.Native.Nat.{ℕ, zero, suc, _+_, _%_, _^_, _≤_, _<_}
+use native.Mathlib.Nat.{mod-lt, one-mul}
 use native.Mathlib.Decide.{decLe}
-use native.Mathlib.Numerals.{add-one}
 use native.Mathlib.Omega.{arith}
 use lib.Arith.{lt-one}
 use lib.Bits.{bitXor, xor-shifted, xor-mod, xor-comm, xor-lt}
 use lib.Count.{onesIn}
 use lib.Dec.{T, T-not, eqb}
-use lib.Pow.{pow-pos, split, shr-lt}
+use lib.Pow.{pow-pos}
 use Rattle.bits.specs.Word.{differences}
 use Rattle.bits.proofs.Said.{and-left, and-right}
-use Rattle.bits.proofs.Xor.{digit, xor-undo, xor-zero}
-use Rattle.bits.proofs.Ones.{ones-top, ones-low, no-ones}
+use Rattle.bits.proofs.Xor.{xor-undo, xor-zero}
+use Rattle.bits.proofs.Ones.{ones-low, no-ones, Top, top, without-top, with-top}
 use Rattle.header.specs.Check.{generator, remainder}
 use Rattle.header.specs.Valid.{Valid}
 use Rattle.header.proofs.Made.{valid-low}
@@ -64,32 +63,21 @@ record Upper (k e : ℕ) : Type 0 where
   ones : onesIn (suc k) e ≡ suc (onesIn k rest)
 
 halves : (k e : ℕ) → e < 2 ^ suc k → Lower k e ⊎ Upper k e
-halves k e h = pick (digit (e / 2 ^ k) (shr-lt 1 k (subst (λ (n : ℕ). e < 2 ^ n) (sym (add-one k) ∙ add-comm k 1) h)))
+halves k e h = pick (top k e h)
   where
-    whole : e / 2 ^ k * 2 ^ k + e % 2 ^ k ≡ e
-    whole = split e k
-
-    pick : (e / 2 ^ k ≡ 0) ⊎ (e / 2 ^ k ≡ 1) → Lower k e ⊎ Upper k e
-    pick (inl z) =
-        inl
-        (record {
-          small =
-              subst (λ (n : ℕ). n < 2 ^ k)
-              (sym (zero-add (e % 2 ^ k)) ∙ ap (λ (n : ℕ). n + e % 2 ^ k) (sym (zero-mul (2 ^ k)) ∙ ap (λ (n : ℕ). n * 2 ^ k) (sym z)) ∙ whole)
-              (mod-lt e (pow-pos k));
-          ones = omega (arith, ones-top k e);
-        })
-    pick (inr o) =
+    pick : Top k e → Lower k e ⊎ Upper k e
+    pick (inl low) = inl (record { small = low; ones = without-top k e low })
+    pick (inr (rest, low, whole)) =
         inr
         (record {
-          rest = e % 2 ^ k;
-          small = mod-lt e (pow-pos k);
+          rest = rest;
+          small = low;
           leaves =
               ap left
-              (sym whole ∙ ap (λ (n : ℕ). n * 2 ^ k + e % 2 ^ k) o ∙ sym (xor-shifted 1 k (e % 2 ^ k) (mod-lt e (pow-pos k)))
-              ∙ ap (λ (n : ℕ). bitXor n (e % 2 ^ k)) (one-mul (2 ^ k)))
-              ∙ left-sum (2 ^ k) (e % 2 ^ k);
-          ones = omega (arith, ones-top k e, ones-low k e);
+              (whole ∙ ap (λ (n : ℕ). n + rest) (sym (one-mul (2 ^ k))) ∙ sym (xor-shifted 1 k rest low)
+              ∙ ap (λ (n : ℕ). bitXor n rest) (one-mul (2 ^ k)))
+              ∙ left-sum (2 ^ k) rest;
+          ones = ap (onesIn (suc k)) whole ∙ with-top k rest low;
         })
 
 -- ---- the walk is right, one column after the other

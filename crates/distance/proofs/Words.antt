@@ -1,11 +1,11 @@
--- The distance of words: none only of a word from itself, the same both ways, never longer than the way round, and a bit turned over brings nearer.
+-- The distance of words: none only of a word from itself, the same both ways, and never longer than the way round.
 -- Assumes nothing.
 use mathlib.Core.Path.{_≡_}
-use Prim.Native.Nat.{ℕ, suc, _+_, _^_, _≤_, _<_}
+use Prim.Native.Nat.{ℕ, _+_, _^_, _≤_, _<_}
 use native.Mathlib.Omega.{arith}
 use lib.Bits.{bitXor}
 use Rattle.bits.specs.Word.{differences}
-use Rattle.bits.proofs.Ones.{flip, flip-nearer, ones-top, differences-comm, differences-round, differences-same}
+use Rattle.bits.proofs.Ones.{ones-top, differences-comm, differences-round, differences-same}
 use Rattle.distance.specs.Distance.{distance}
 
 same : (width a b : ℕ) → differences width a b ≡ 0 → a < 2 ^ width → b < 2 ^ width → a ≡ b
@@ -28,8 +28,3 @@ distance-round = differences-round _
 pub low-near : (a b : ℕ) → differences 31 a b ≤ distance a b
 unfolding distance differences
 low-near a b = omega (arith, ones-top 31 (bitXor a b))
-
--- of two words that are apart there is a bit that brings them nearer, turned over
-pub nearer : (a b : ℕ) → 0 < distance a b → (place : ℕ) × (place < 32) × (distance a b ≡ suc (distance (flip place a) b))
-unfolding distance
-nearer a b apart = let found = flip-nearer _ a b apart in (found .0, omega (arith, found .1), found .2)

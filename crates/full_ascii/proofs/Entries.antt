@@ -11,9 +11,9 @@ use native.Mathlib.Omega.{arith}
 use lib.Dec.{T, leb, ltb, eqb, leb→le, eqb→eq}
 use borrow.Author.Tests.{eqb-true, lt-ltb, le-ltb, le-leb, ne-eqb}
 use Rattle.codes.specs.Chain.{Entry, In}
-use Rattle.codes.specs.Pack.{numbers}
+use Rattle.bits.specs.Numbers.{numbers}
 use Rattle.bits.proofs.Said.{and-left, and-right}
-use Rattle.codes.proofs.NumberRanges.{in-numbers, numbers-in}
+use Rattle.bits.proofs.Numbers.{in-numbers, numbers-in}
 use Rattle.full_ascii.specs.Table.{HT, LF, CR, six, seven, special, pair, table}
 use Rattle.full_ascii.specs.Writer.{coded, own}
 

@@ -12,7 +12,8 @@ use lib.ListN.{length, length-append}
 use Rattle.bits.specs.Word.{bit}
 use Rattle.codes.specs.Coded.{alone}
 use Rattle.codes.specs.Chain.{Entry, Row, codes, texts, Builds}
-use Rattle.codes.specs.Pack.{low, numbers}
+use Rattle.bits.specs.Numbers.{numbers}
+use Rattle.codes.specs.Pack.{low}
 use Rattle.codes.proofs.CodedTexts.{coded-rest}
 use Rattle.bits.proofs.Said.{and-left, and-right}
 use Rattle.codes.proofs.EveryElement.{every}

@@ -5,7 +5,8 @@ use Prim.Native.Nat.{ℕ, _-_}
 use lib.ListN.{replicate}
 use Rattle.codes.specs.Chain.{Entry, Scheme, single}
 pub use Rattle.codes.specs.LineEnds.{LF, CR}
-use Rattle.codes.specs.Pack.{low, numbers}
+use Rattle.bits.specs.Numbers.{numbers}
+use Rattle.codes.specs.Pack.{low}
 
 abbrev pub HT : ℕ
 HT = 9

@@ -1,2 +1,3 @@
+pub mod Search
 pub mod Turned
 pub mod Unique

@@ -11,8 +11,9 @@ use lib.ListN.{length, getD}
 use Rattle.codes.specs.Chain.{Entry, In, codes}
 use Rattle.codes.specs.Coded.{alone, CodedBelow}
 use Rattle.codes.specs.LineEnds.{LF, CR, eachAfter, ended}
-use Rattle.codes.specs.Lookup.{same, found, first, saying, meaning}
-use Rattle.codes.specs.Pack.{numbers}
+use Rattle.bits.specs.First.{first}
+use Rattle.codes.specs.Lookup.{same, found, saying, meaning}
+use Rattle.bits.specs.Numbers.{numbers}
 use Rattle.bits.proofs.Said.{and-left, and-right, and-both}
 use Rattle.codes.proofs.CodedBehind.{CodedAfter}
 use Rattle.codes.proofs.CodedTexts.{coded-rest}

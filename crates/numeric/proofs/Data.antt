@@ -10,7 +10,8 @@ use Rattle.bits.specs.Row.{bits}
 use Rattle.codes.specs.Chain as chain
 use Rattle.codes.specs.Chain.{Malformed, Builds}
 use Rattle.codes.specs.Consecutive.{codeFor}
-use Rattle.codes.specs.Pack.{low, numbers}
+use Rattle.bits.specs.Numbers.{numbers}
+use Rattle.codes.specs.Pack.{low}
 use Rattle.codes.proofs.BitsInBytes.{bits-cons}
 use Rattle.codes.proofs.ConsecutiveCodes.{consecutive-in}
 use Rattle.codes.proofs.Fill.{no-fill}

@@ -13,8 +13,10 @@ use Rattle.codes.specs.Chain.{Entry, codes}
 use Rattle.codes.specs.Coded.{lastOf}
 use Rattle.codes.specs.Consecutive.{codeFor, consecutive}
 use Rattle.codes.specs.LineEnds.{eachAfter, ended}
-use Rattle.codes.specs.Lookup.{same, found, first, saying}
-use Rattle.codes.specs.Pack.{Binary, low, numbers, written}
+use Rattle.bits.specs.First.{first}
+use Rattle.codes.specs.Lookup.{same, found, saying}
+use Rattle.bits.specs.Numbers.{numbers}
+use Rattle.codes.specs.Pack.{Binary, low, written}
 use Rattle.codes.proofs.BitsInBytes.{binary, length-written}
 use Rattle.codes.proofs.EachAfter.{each-append, each-every, each-next, each-end}
 use Rattle.codes.proofs.EveryElement.{every, every-append}

@@ -15,7 +15,8 @@ use Rattle.codes.specs.Coded.{lastOf}
 use Rattle.codes.specs.Consecutive.{codeFor, consecutive}
 use Rattle.codes.specs.LineEnds.{eachAfter, ended, lineEnds}
 use Rattle.codes.specs.Lookup.{same, found, saying, meaning}
-use Rattle.codes.specs.Pack.{low, numbers, gap, written}
+use Rattle.bits.specs.Numbers.{numbers}
+use Rattle.codes.specs.Pack.{low, gap, written}
 use Rattle.bits.proofs.Said.{and-left, and-right}
 use Rattle.codes.proofs.BitsInBytes.{length-written, written-built, length-bits}
 use Rattle.codes.proofs.CodedBehind.{coded-after, after-coded}

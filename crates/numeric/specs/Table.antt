@@ -4,7 +4,7 @@ use mathlib.Core.List.{List, [], _∷_, _++_}
 use Prim.Native.Nat.{ℕ}
 use Rattle.codes.specs.Chain.{Entry, Scheme, single}
 use Rattle.codes.specs.Consecutive.{consecutive}
-use Rattle.codes.specs.Pack.{numbers}
+use Rattle.bits.specs.Numbers.{numbers}
 
 -- the digits 0 to 9, then space + , - . /
 unfoldable pub characters : List ℕ

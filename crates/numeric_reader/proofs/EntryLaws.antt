@@ -8,9 +8,9 @@ use native.Mathlib.Omega.{arith}
 use lib.Bits.{bitAnd, and-block, and-mask, and-comm}
 use lib.Dec.{eqb, ltb, ltb→lt}
 use lib.ListN.{length, getD, drop}
-use Rattle.codes.specs.Pack.{numbers}
+use Rattle.bits.specs.Numbers.{numbers}
 use Rattle.codes.proofs.EveryElement.{every, every-at}
-use Rattle.codes.proofs.NumberRanges.{numbers-in}
+use Rattle.bits.proofs.Numbers.{numbers-in, map-numbers}
 use Rattle.numeric.specs.Steps.Text.{character, spelled}
 use Rattle.numeric.specs.Table.{characters}
 use Rattle.numeric_reader.specs.Steps.Signs.{signIf, sign, meet, one, entryFor, entryOf, entries, firstOf, secondOf, Entry}
@@ -103,12 +103,6 @@ module _ (before : ℕ) (held : before / 8 ≡ 1) where
 
 -- ---- the table
 
-mapped : (f : ℕ → ℕ) (a n k : ℕ) → k < n → getD (map f (numbers a n)) k 0 ≡ f (a + k)
-unfolding numbers
-mapped f a zero k h = absurd (let no′ : ⊥ = omega arith in no′)
-mapped f a (suc n) zero h = ap f (let e : a ≡ a + 0 = omega arith in e)
-mapped f a (suc n) (suc k) h = mapped f (suc a) n k (omega arith) ∙ ap f (let e : suc a + k ≡ a + suc k = omega arith in e)
-
 small : (code : ℕ) → code < 16 → character code < 256
 unfolding character characters numbers every
 small code h =
@@ -117,7 +111,7 @@ small code h =
 module _ (b : ℕ) (byte : b < 256) where
   pub looked-up : getD entries b 0 ≡ entryFor (character (b / 16 % 16)) (character (b % 16))
   unfolding entries entryOf
-  looked-up = mapped entryOf 0 256 b byte ∙ ap entryOf (let e : 0 + b ≡ b = omega arith in e)
+  looked-up = map-numbers entryOf 0 256 b byte ∙ ap entryOf (let e : 0 + b ≡ b = omega arith in e)
 
   pub looked-entry : Entry (getD entries b 0)
   looked-entry = entry-is (character (b / 16 % 16)) (character (b % 16)) (small (b / 16 % 16) (omega arith)) looked-up

@@ -10,8 +10,9 @@ use lib.ListN.{length, getD}
 use Rattle.codes.specs.Chain.{Entry, codes}
 use Rattle.codes.specs.Coded.{alone, CodedBelow}
 use Rattle.codes.specs.LineEnds.{ended}
-use Rattle.codes.specs.Lookup.{same, found, first, saying}
-use Rattle.codes.specs.Pack.{numbers}
+use Rattle.bits.specs.First.{first}
+use Rattle.codes.specs.Lookup.{same, found, saying}
+use Rattle.bits.specs.Numbers.{numbers}
 use Rattle.codes.specs.Steps.Summed.{sumAfter}
 use Rattle.bits.proofs.Said.{and-left, and-right}
 use Rattle.codes.proofs.ByteTests.{implied-below}

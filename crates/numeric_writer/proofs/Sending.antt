@@ -12,8 +12,10 @@ use Rattle.bits.specs.Word.{bit}
 use Rattle.codes.specs.Chain.{Entry, codes}
 use Rattle.codes.specs.Consecutive.{codeFor, consecutive}
 use Rattle.codes.specs.LineEnds.{eachAfter, ended}
-use Rattle.codes.specs.Lookup.{same, found, first, saying}
-use Rattle.codes.specs.Pack.{low, numbers, written}
+use Rattle.bits.specs.First.{first}
+use Rattle.codes.specs.Lookup.{same, found, saying}
+use Rattle.bits.specs.Numbers.{numbers}
+use Rattle.codes.specs.Pack.{low, written}
 use Rattle.codes.specs.Steps.Sending.{Sends, PutSoFar}
 use Rattle.codes.specs.declared.Held.{Held}
 use Rattle.bits.proofs.Said.{and-left, and-right, and-both}

@@ -10,8 +10,9 @@ use lib.Dec.{leb, eqb}
 use borrow.Author.Tests.{ne-eqb}
 use Rattle.codes.specs.Chain.{codes}
 use Rattle.codes.specs.LineEnds.{ended}
-use Rattle.codes.specs.Lookup.{same, found, first, saying, meaning}
-use Rattle.codes.specs.Pack.{numbers}
+use Rattle.bits.specs.First.{first}
+use Rattle.codes.specs.Lookup.{same, found, saying, meaning}
+use Rattle.bits.specs.Numbers.{numbers}
 use Rattle.codes.proofs.ByteTests.{same-below}
 use Rattle.codes.proofs.EveryElement.{every}
 use Rattle.numeric.specs.Table.{characters}

@@ -7,7 +7,8 @@ use native.Mathlib.Omega.{arith}
 use lib.Dec.{T}
 use lib.ListN.{length, replicate, length-replicate}
 use Rattle.codes.specs.Chain.{codes, Built}
-use Rattle.codes.specs.Pack.{low, numbers, written}
+use Rattle.bits.specs.Numbers.{numbers}
+use Rattle.codes.specs.Pack.{low, written}
 use Rattle.codes.proofs.EveryElement.{every}
 use Rattle.codes.proofs.BitsInBytes.{length-written}
 use Rattle.codes.proofs.SizeBounds.{sized, few-codes, short-text}

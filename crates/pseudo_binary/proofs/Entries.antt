@@ -7,8 +7,8 @@ use Prim.Native.Nat.{ℕ, suc, pred, _<_}
 use native.Mathlib.Nat.{add-zero}
 use native.Mathlib.Omega.{arith}
 use Rattle.codes.specs.Chain.{Entry, In, stateAfter}
-use Rattle.codes.specs.Pack.{numbers}
-use Rattle.codes.proofs.NumberRanges.{in-numbers, numbers-in}
+use Rattle.bits.specs.Numbers.{numbers}
+use Rattle.bits.proofs.Numbers.{in-numbers, numbers-in}
 use Rattle.pseudo_binary.specs.Table.{Kind, values, spaces, slashes, indicator, most, indicators, six, tables}
 
 -- an indicator counts one at the least

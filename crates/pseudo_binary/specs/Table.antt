@@ -6,7 +6,8 @@ use Prim.Native.Nat.{ℕ, zero, suc, _+_, _%_}
 use lib.Dec.{leb, eqb}
 use lib.ListN.{length, replicate}
 use Rattle.codes.specs.Chain.{Entry, Scheme}
-use Rattle.codes.specs.Pack.{low, numbers}
+use Rattle.bits.specs.Numbers.{numbers}
+use Rattle.codes.specs.Pack.{low}
 use Rattle.codes.specs.Coded.{alone, CodedBelow}
 
 abbrev pub SPACE : ℕ

@@ -13,7 +13,7 @@ use lib.ListN.{length, take, drop, getD}
 use lib.Pow.{pow-mono}
 use lib.Seq.{drop-cons, drop-drop, take-add}
 use borrow.Author.Tests.{eq-eqb}
-use Rattle.codes.specs.Pack.{numbers}
+use Rattle.bits.specs.Numbers.{numbers}
 use Rattle.codes.specs.Steps.EightBytes.{eightAt, eightOf}
 use Rattle.codes.proofs.ByteTests.{same-below}
 use Rattle.codes.proofs.CodedTexts.{coded-rest}

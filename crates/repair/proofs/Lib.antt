@@ -1,4 +1,3 @@
-pub mod Accounts
-pub mod Parts
-pub mod Rows
+pub mod Entries
+pub mod Told
 pub mod Unique

@@ -11,8 +11,9 @@ use Rattle.codes.specs.Chain.{Entry, Row, codes, texts, Built}
 use Rattle.codes.specs.Coded.{alone}
 use Rattle.codes.specs.Consecutive.{codeFor, consecutive}
 use Rattle.codes.specs.LineEnds.{LF, CR, eachAfter, ended, lineEnds}
-use Rattle.codes.specs.Lookup.{same, found, first, saying}
-use Rattle.codes.specs.Pack.{numbers}
+use Rattle.bits.specs.First.{first}
+use Rattle.codes.specs.Lookup.{same, found, saying}
+use Rattle.bits.specs.Numbers.{numbers}
 use Rattle.codes.proofs.BitsInBytes.{gap-few}
 use Rattle.codes.proofs.EveryElement.{every}
 use Rattle.codes.proofs.LineTables.{lined, onePiece, ended-some, line-pieces, line-whole, lines-kept}

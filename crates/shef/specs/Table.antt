@@ -3,7 +3,7 @@
 use mathlib.Core.List.{List, [], _∷_, _++_}
 use Rattle.codes.specs.Chain.{Entry, Scheme, single}
 use Rattle.codes.specs.Consecutive.{codeFor, consecutive}
-use Rattle.codes.specs.Pack.{numbers}
+use Rattle.bits.specs.Numbers.{numbers}
 use Rattle.numeric.specs.Table.{characters}
 
 -- the characters of Table 4 in five bits, the highest 0; in six bits, the highest 1: A to Z, CR LF, and # = : ; . Six ones are no code

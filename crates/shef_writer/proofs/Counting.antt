@@ -9,8 +9,10 @@ use lib.ListN.{length}
 use Rattle.bits.specs.Word.{bit}
 use Rattle.codes.specs.Chain.{Entry, codes}
 use Rattle.codes.specs.Consecutive.{codeFor, consecutive}
-use Rattle.codes.specs.Lookup.{first, same, saying}
-use Rattle.codes.specs.Pack.{low, numbers}
+use Rattle.bits.specs.First.{first}
+use Rattle.codes.specs.Lookup.{same, saying}
+use Rattle.bits.specs.Numbers.{numbers}
+use Rattle.codes.specs.Pack.{low}
 use Rattle.codes.specs.Steps.Summed.{sumAfter}
 use Rattle.codes.proofs.EachAfter.{each-length}
 use Rattle.codes.proofs.EveryElement.{every}

@@ -1,6 +1,6 @@
 -- `numeric_reader::table` meets its contract: each entry is computed. Assumes nothing.
 use mathlib.Core.Path.{refl}
-use Rattle.codes.specs.Pack.{numbers}
+use Rattle.bits.specs.Numbers.{numbers}
 use Rattle.numeric.specs.Steps.Text.{character}
 use Rattle.numeric.specs.Table.{characters}
 use Rattle.numeric_reader.specs.Steps.Signs.{signIf, sign, meet, one, entryFor, entryOf, entries}

@@ -10,7 +10,8 @@ use Rattle.codes.proofs.ReadSoFar.{laying-later, laying-last}
 use Rattle.codes.specs.Steps.Passed.{LaidSoFar}
 use Rattle.shef.specs.Table.{scheme}
 use Rattle.shef.proofs.Table.{laws}
-use Rattle.codes.specs.Pack.{low, numbers}
+use Rattle.bits.specs.Numbers.{numbers}
+use Rattle.codes.specs.Pack.{low}
 use Rattle.numeric.specs.Table.{characters}
 use Rattle.shef_reader.proofs.Six.{twice, firsts, firsts-right}
 use borrow.Author.Needs.{needs}

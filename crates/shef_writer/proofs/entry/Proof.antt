@@ -5,7 +5,7 @@ use Prim.Native.Nat.{ℕ}
 use native.Mathlib.Nat.{zero-add}
 use native.Mathlib.Omega.{arith}
 use lib.ListN.{getD}
-use Rattle.codes.proofs.NumberRanges.{map-numbers}
+use Rattle.bits.proofs.Numbers.{map-numbers}
 use Rattle.shef_writer.specs.Steps.Sending.{entryOf, entries}
 use Rattle.shef_writer.proofs.Telling.{coded-low}
 use Rattle.shef_writer.proofs.entry.Statement.{statement}

@@ -10,8 +10,10 @@ use Rattle.bits.specs.Word.{bit}
 use Rattle.codes.specs.Chain.{codes}
 use Rattle.codes.specs.Consecutive.{codeFor, consecutive}
 use Rattle.codes.specs.LineEnds.{ended}
-use Rattle.codes.specs.Lookup.{same, found, first, saying}
-use Rattle.codes.specs.Pack.{low, value, numbers}
+use Rattle.bits.specs.First.{first}
+use Rattle.codes.specs.Lookup.{same, found, saying}
+use Rattle.bits.specs.Numbers.{numbers}
+use Rattle.codes.specs.Pack.{low, value}
 use Rattle.codes.specs.Steps.Sending.{PutSoFar}
 use Rattle.codes.proofs.EachAfter.{each-end}
 use Rattle.codes.proofs.PutSoFar.{put-none, put-length, first-ready, first-sent, put-flush-room, put-flushed}

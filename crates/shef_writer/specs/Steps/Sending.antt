@@ -9,7 +9,8 @@ use lib.ListN.{length, take, drop}
 use Rattle.codes.specs.Chain.{codes}
 use Rattle.codes.specs.Coded.{lastOf}
 use Rattle.codes.specs.LineEnds.{LF, eachAfter}
-use Rattle.codes.specs.Pack.{value, numbers}
+use Rattle.bits.specs.Numbers.{numbers}
+use Rattle.codes.specs.Pack.{value}
 use Rattle.codes.specs.Steps.Sending.{OneOf, FirstOf}
 use Rattle.codes.specs.declared.Sent.{Sent}
 use Rattle.shef.specs.Writer.{coded, own}

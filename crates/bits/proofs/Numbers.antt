@@ -7,7 +7,7 @@ use Prim.Native.Nat.{ℕ, zero, suc, _+_, _≤_, _<_}
 use native.Mathlib.Decide.{ℕ-discrete}
 use native.Mathlib.Omega.{arith}
 use lib.ListN.{getD}
-use Rattle.codes.specs.Pack.{numbers}
+use Rattle.bits.specs.Numbers.{numbers}
 
 pub in-numbers : (a n k : ℕ) → List·Memᴰ k (numbers a n) → (a ≤ k) × (k < a + n)
 unfolding numbers
