@@ -67,18 +67,29 @@ module _ (limit received : ℕ) (word : received < 2 ^ 32) where
       let there : v ≡ bitXor received (maskOf (way .0)) = sym (xor-undo received v) ∙ ap (bitXor received) (sym (way .2)) in
       (way .0, way .1, subst (λ (h : ℕ). T (isValid h)) there (valid-passes v (n .valid)))
 
-  answers : Searched (λ (places : List ℕ). isValid (turnedOver places received)) (turnings limit 32)
-      (first (λ (places : List ℕ). isValid (turnedOver places received)) (turnings limit 32)) → MendsWithin limit received (search limit received)
-  unfolding search answerOf
+  -- what is found among the ways to turn over bits of so wide a word
+  abbrev foundIn : ℕ → List (List ℕ)
+  foundIn width = first (λ (places : List ℕ). isValid (turnedOver places received)) (turnings limit width)
+
+  answers : Searched (λ (places : List ℕ). isValid (turnedOver places received)) (turnings limit 32) (foundIn 32)
+      → MendsWithin limit received (answerOf received (foundIn 32))
+  unfolding answerOf
   answers (inl none) =
       subst⁻¹ (λ (found : List (List ℕ)). MendsWithin limit received (answerOf received found)) (none .0)
       (λ v n. let way = near-found v n in none .1 (way .0) (way .1) (way .2))
   answers (inr some) =
       subst⁻¹ (λ (found : List (List ℕ)). MendsWithin limit received (answerOf received found)) (some .2) (found-mends (some .0) (some .1 .stands) (some .1 .passes))
 
+  -- of all 32 bits
+  answers-of : (width : ℕ) → width ≡ 32 → MendsWithin limit received (answerOf received (foundIn width))
+  answers-of width e =
+      subst⁻¹ (λ (w : ℕ). MendsWithin limit received (answerOf received (foundIn w))) e
+      (answers (searched (λ (places : List ℕ). isValid (turnedOver places received)) (turnings limit 32)))
+
   -- the search keeps the promise of mending
   pub search-mends : MendsWithin limit received (search limit received)
-  search-mends = answers (searched (λ (places : List ℕ). isValid (turnedOver places received)) (turnings limit 32))
+  unfolding search
+  search-mends = answers-of _ (omega arith)
 
 pub as-searched : AsSearched
 as-searched limit received le word answer mends = one-answer limit received le answer (search limit received) mends (search-mends limit received word)

@@ -1,52 +1,51 @@
 -- The table of differences: one computed test of all its entries, and what it says.
 -- Assumes nothing.
-use mathlib.Core.Bool.{Bool, true, not, _&&_}
-use mathlib.Core.List.{List, [], _∷_, map}
+use mathlib.Core.Bool.{Bool, true, false, cond, not}
+use mathlib.Core.List.{List, [], _∷_, map, cons≢nil}
 use mathlib.Core.Path.{_≡_, refl, ap, ap₂, _∙_}
 use Prim.Native.Nat.{ℕ, suc}
-use lib.Dec.{T, eqb, eqb→eq}
+use lib.Dec.{eqb}
 use lib.ListN.{length}
+use borrow.Author.Tests.{eqb-true}
 use Rattle.bits.specs.Numbers.{numbers}
-use Rattle.bits.proofs.Said.{and-left, and-right}
 use Rattle.repair.specs.Table.{Way, ways, nothing, entryIn, entriesIn, entries, howMany, HasRule}
 
 -- ---- the test
 
--- entries are those of the differences from this one on
-unfoldable pub right : List Way → ℕ → List ℕ → Bool
-right table difference [] = true
-right table difference (entry ∷ more) = eqb entry (entryIn table difference) && right table (suc difference) more
+-- the differences, from this one on, whose entries are not theirs
+unfoldable pub wrong : List Way → ℕ → List ℕ → List ℕ
+wrong table difference [] = []
+wrong table difference (entry ∷ more) =
+    let further = wrong table (suc difference) more in
+    cond (eqb entry (entryIn table difference)) further (difference ∷ further)
 
-unfoldable pub tested : List ℕ → Bool
+-- these, how many entries there are, how many name bits, and how many have none
+unfoldable pub tested : List ℕ → List ℕ × ℕ × ℕ × ℕ
 tested table =
-    right ways 0 table
-    && (eqb (length table) 1024
-    && (eqb (howMany (λ entry. not (eqb entry nothing)) table) 497 && eqb (howMany (λ entry. eqb entry nothing) table) 527))
+    (wrong ways 0 table, length table, howMany (λ entry. not (eqb entry nothing)) table, howMany (λ entry. eqb entry nothing) table)
 
 -- ---- what it says
 
-right-are : (table : List Way) (difference : ℕ) (listed : List ℕ) → T (right table difference listed)
+none-wrong : (table : List Way) (difference : ℕ) (listed : List ℕ) → wrong table difference listed ≡ []
     → listed ≡ map (entryIn table) (numbers difference (length listed))
-unfolding right numbers
-right-are table difference [] t = refl
-right-are table difference (entry ∷ more) t =
-    let here = eqb entry (entryIn table difference) in
-    let rest = right table (suc difference) more in
-    ap₂ (λ (e : ℕ) (l : List ℕ). e ∷ l) (eqb→eq entry (entryIn table difference) (and-left here rest t))
-    (right-are table (suc difference) more (and-right here rest t))
+unfolding wrong numbers
+none-wrong table difference [] e = refl
+none-wrong table difference (entry ∷ more) e = pick (none-wrong table (suc difference) more) (eqb entry (entryIn table difference)) refl e
+  where
+    pick : (wrong table (suc difference) more ≡ [] → more ≡ map (entryIn table) (numbers (suc difference) (length more)))
+        → (right : Bool) → eqb entry (entryIn table difference) ≡ right
+        → cond right (wrong table (suc difference) more) (difference ∷ wrong table (suc difference) more) ≡ []
+        → entry ∷ more ≡ entryIn table difference ∷ map (entryIn table) (numbers (suc difference) (length more))
+    pick others true here rest = ap₂ (λ (x : ℕ) (l : List ℕ). x ∷ l) (eqb-true entry (entryIn table difference) here) (others rest)
+    pick others false here rest = absurd (cons≢nil rest)
 
-pub has-rule : (table : List ℕ) → T (tested table) → HasRule table
+pub has-rule : (table : List ℕ) → tested table ≡ ([], 1024, 497, 527) → HasRule table
 unfolding tested entries entriesIn
 has-rule table t =
-    let each = right ways 0 table in
-    let all = eqb (length table) 1024 in
-    let some = eqb (howMany (λ (entry : ℕ). not (eqb entry nothing)) table) 497 in
-    let none = eqb (howMany (λ (entry : ℕ). eqb entry nothing) table) 527 in
-    let counted = and-right all (some && none) (and-right each (all && (some && none)) t) in
     record {
       each =
-          right-are ways 0 table (and-left each (all && (some && none)) t)
-          ∙ ap (λ (n : ℕ). map (entryIn ways) (numbers 0 n)) (eqb→eq (length table) 1024 (and-left all (some && none) (and-right each (all && (some && none)) t)));
-      naming-bits = eqb→eq (howMany (λ (entry : ℕ). not (eqb entry nothing)) table) 497 (and-left some none counted);
-      naming-none = eqb→eq (howMany (λ (entry : ℕ). eqb entry nothing) table) 527 (and-right some none counted);
+          none-wrong ways 0 table (ap (λ (r : List ℕ × ℕ × ℕ × ℕ). r .0) t)
+          ∙ ap (λ (n : ℕ). map (entryIn ways) (numbers 0 n)) (ap (λ (r : List ℕ × ℕ × ℕ × ℕ). r .1) t);
+      naming-bits = ap (λ (r : List ℕ × ℕ × ℕ × ℕ). r .2) t;
+      naming-none = ap (λ (r : List ℕ × ℕ × ℕ × ℕ). r .3) t;
     }
