@@ -220,7 +220,7 @@ static void measure_wrong_headers(int rounds)
                 {"read, 2 header bits wrong, 2 named", 2, 2, 0},
                 {"refuse, 3 header bits wrong, 2 named", 3, 2, 2},
                 {"refuse, 2 header bits wrong, 1 named", 2, 1, 2}};
-    printf("\nWith wrong header bits. The library finds the bits to mend by four small tables, tuned C in one of 1,024 entries:\n\n");
+    printf("\nWith wrong header bits. Both look the bits to mend up in a table of 1,024 entries; the library copies its table, 2 KB, to the stack first:\n\n");
     print_heading();
     for (int r = 0; r < 4; r++) {
         struct job job = {.call = READ_MENDING, .mend = rows[r].mend, .refusal = rows[r].refusal};

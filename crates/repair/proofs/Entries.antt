@@ -8,35 +8,35 @@ use lib.Dec.{eqb}
 use lib.ListN.{length}
 use borrow.Author.Tests.{eqb-true}
 use Rattle.bits.specs.Numbers.{numbers}
-use Rattle.repair.specs.Table.{Way, ways, nothing, entryIn, entriesIn, entries, howMany, HasRule}
+use Rattle.repair.specs.Table.{Leaving, leavings, nothing, entryIn, entriesIn, entries, howMany, HasRule}
 
 -- ---- the test
 
 -- the differences, from this one on, whose entries are not theirs
-unfoldable pub wrong : List Way → ℕ → List ℕ → List ℕ
-wrong table difference [] = []
-wrong table difference (entry ∷ more) =
-    let further = wrong table (suc difference) more in
-    cond (eqb entry (entryIn table difference)) further (difference ∷ further)
+unfoldable pub wrong : List Leaving → ℕ → List ℕ → List ℕ
+wrong ways difference [] = []
+wrong ways difference (entry ∷ more) =
+    let further = wrong ways (suc difference) more in
+    cond (eqb entry (entryIn ways difference)) further (difference ∷ further)
 
 -- these, how many entries there are, how many name bits, and how many have none
 unfoldable pub tested : List ℕ → List ℕ × ℕ × ℕ × ℕ
 tested table =
-    (wrong ways 0 table, length table, howMany (λ entry. not (eqb entry nothing)) table, howMany (λ entry. eqb entry nothing) table)
+    (wrong leavings 0 table, length table, howMany (λ entry. not (eqb entry nothing)) table, howMany (λ entry. eqb entry nothing) table)
 
 -- ---- what it says
 
-none-wrong : (table : List Way) (difference : ℕ) (listed : List ℕ) → wrong table difference listed ≡ []
-    → listed ≡ map (entryIn table) (numbers difference (length listed))
+none-wrong : (ways : List Leaving) (difference : ℕ) (listed : List ℕ) → wrong ways difference listed ≡ []
+    → listed ≡ map (entryIn ways) (numbers difference (length listed))
 unfolding wrong numbers
-none-wrong table difference [] e = refl
-none-wrong table difference (entry ∷ more) e = pick (none-wrong table (suc difference) more) (eqb entry (entryIn table difference)) refl e
+none-wrong ways difference [] e = refl
+none-wrong ways difference (entry ∷ more) e = pick (none-wrong ways (suc difference) more) (eqb entry (entryIn ways difference)) refl e
   where
-    pick : (wrong table (suc difference) more ≡ [] → more ≡ map (entryIn table) (numbers (suc difference) (length more)))
-        → (right : Bool) → eqb entry (entryIn table difference) ≡ right
-        → cond right (wrong table (suc difference) more) (difference ∷ wrong table (suc difference) more) ≡ []
-        → entry ∷ more ≡ entryIn table difference ∷ map (entryIn table) (numbers (suc difference) (length more))
-    pick others true here rest = ap₂ (λ (x : ℕ) (l : List ℕ). x ∷ l) (eqb-true entry (entryIn table difference) here) (others rest)
+    pick : (wrong ways (suc difference) more ≡ [] → more ≡ map (entryIn ways) (numbers (suc difference) (length more)))
+        → (right : Bool) → eqb entry (entryIn ways difference) ≡ right
+        → cond right (wrong ways (suc difference) more) (difference ∷ wrong ways (suc difference) more) ≡ []
+        → entry ∷ more ≡ entryIn ways difference ∷ map (entryIn ways) (numbers (suc difference) (length more))
+    pick others true here rest = ap₂ (λ (x : ℕ) (l : List ℕ). x ∷ l) (eqb-true entry (entryIn ways difference) here) (others rest)
     pick others false here rest = absurd (cons≢nil rest)
 
 pub has-rule : (table : List ℕ) → tested table ≡ ([], 1024, 497, 527) → HasRule table
@@ -44,8 +44,8 @@ unfolding tested entries entriesIn
 has-rule table t =
     record {
       each =
-          none-wrong ways 0 table (ap (λ (r : List ℕ × ℕ × ℕ × ℕ). r .0) t)
-          ∙ ap (λ (n : ℕ). map (entryIn ways) (numbers 0 n)) (ap (λ (r : List ℕ × ℕ × ℕ × ℕ). r .1) t);
+          none-wrong leavings 0 table (ap (λ (r : List ℕ × ℕ × ℕ × ℕ). r .0) t)
+          ∙ ap (λ (n : ℕ). map (entryIn leavings) (numbers 0 n)) (ap (λ (r : List ℕ × ℕ × ℕ × ℕ). r .1) t);
       naming-bits = ap (λ (r : List ℕ × ℕ × ℕ × ℕ). r .2) t;
       naming-none = ap (λ (r : List ℕ × ℕ × ℕ × ℕ). r .3) t;
     }

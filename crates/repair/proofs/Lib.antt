@@ -1,3 +1,4 @@
+pub mod ByHand
 pub mod Entries
 pub mod Told
 pub mod Unique

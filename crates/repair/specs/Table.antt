@@ -4,45 +4,47 @@
 use mathlib.Core.Bool.{Bool, cond, not}
 use mathlib.Core.List.{List, [], _∷_, map}
 use mathlib.Core.Path.{_≡_}
-use Prim.Native.Nat.{ℕ, _+_, _*_}
+use Prim.Native.Nat.{ℕ, zero, suc, _+_, _*_, _^_}
+use lib.Bits.{bitXor}
 use lib.Dec.{eqb}
 use Rattle.bits.specs.First.{first}
 use Rattle.bits.specs.Numbers.{numbers}
 use Rattle.bits.specs.Turnings.{turnings, maskOf}
+use Rattle.bits.specs.Word.{bit}
 use Rattle.distance.specs.Steps.Left.{left}
 
--- a way to turn over bits, and the difference that they leave
-abbrev pub Way : Type 0
-Way = ℕ × List ℕ
+-- a way to turn over bits, behind the difference that they leave
+abbrev pub Leaving : Type 0
+Leaving = ℕ × List ℕ
 
 -- the ways to turn over none, one or two of the 31 bits
-unfoldable pub ways : List Way
-ways = map (λ (places : List ℕ). (left (maskOf places), places)) (turnings 2 31)
+unfoldable pub leavings : List Leaving
+leavings = map (λ (places : List ℕ). (left (maskOf places), places)) (turnings 2 31)
 
 -- an entry: two places, the higher first, by two decimal digits each; 31, which is none of the 31 bits, stands for no bit
-unfoldable pub naming : List ℕ → ℕ
-naming [] = 3131
-naming (place ∷ []) = 3100 + place
-naming (higher ∷ lower ∷ more) = higher * 100 + lower
+unfoldable pub entryFor : List ℕ → ℕ
+entryFor [] = 3131
+entryFor (place ∷ []) = 3100 + place
+entryFor (higher ∷ lower ∷ more) = higher * 100 + lower
 
 -- none to be had
 unfoldable pub nothing : ℕ
 nothing = 9999
 
-unfoldable pub entryOf : List Way → ℕ
+unfoldable pub entryOf : List Leaving → ℕ
 entryOf [] = nothing
-entryOf (way ∷ more) = naming (way .1)
+entryOf (way ∷ more) = entryFor (way .1)
 
 -- of a difference: that of the first way that leaves it
-unfoldable pub entryIn : List Way → ℕ → ℕ
-entryIn table difference = entryOf (first (λ way. eqb (way .0) difference) table)
+unfoldable pub entryIn : List Leaving → ℕ → ℕ
+entryIn ways difference = entryOf (first (λ way. eqb (way .0) difference) ways)
 
 -- of all differences of ten bits
-unfoldable pub entriesIn : List Way → List ℕ
-entriesIn table = map (entryIn table) (numbers 0 1024)
+unfoldable pub entriesIn : List Leaving → List ℕ
+entriesIn ways = map (entryIn ways) (numbers 0 1024)
 
 unfoldable pub entries : List ℕ
-entries = entriesIn ways
+entries = entriesIn leavings
 
 -- how many entries pass a test
 unfoldable pub howMany : (ℕ → Bool) → List ℕ → ℕ
@@ -54,3 +56,13 @@ pub record HasRule (table : List ℕ) : Type 0 where
   pub each : table ≡ entries
   pub naming-bits : howMany (λ entry. not (eqb entry nothing)) table ≡ 497
   pub naming-none : howMany (λ entry. eqb entry nothing) table ≡ 527
+
+-- ---- the difference by hand: the exclusive or of the numbers of all bits that are 1, where the number of a bit is what it leaves alone
+
+unfoldable pub numberOf : ℕ → ℕ
+numberOf place = left (2 ^ place)
+
+-- of the bits below a place
+unfoldable pub byHand : ℕ → ℕ → ℕ
+byHand zero h = 0
+byHand (suc place) h = bitXor (bit place h * numberOf place) (byHand place h)

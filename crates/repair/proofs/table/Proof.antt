@@ -4,13 +4,13 @@ use Rattle.bits.specs.First.{first}
 use Rattle.bits.specs.Turnings.{chosen, turnings, maskOf}
 use Rattle.header.specs.Check.{generator, remainder}
 use Rattle.distance.specs.Steps.Left.{left}
-use Rattle.repair.specs.Table.{ways, naming, nothing, entryOf, entryIn, howMany}
+use Rattle.repair.specs.Table.{leavings, entryFor, nothing, entryOf, entryIn, howMany}
 use Rattle.repair.proofs.Entries.{wrong, tested, has-rule}
 use Rattle.repair.proofs.table.Statement.{statement}
 use Rattle.repair.proofs.table.Tie as tie
 
 returns : tie.Need-returns
-unfolding ways naming nothing entryOf entryIn howMany wrong tested first chosen turnings maskOf left remainder generator
+unfolding leavings entryFor nothing entryOf entryIn howMany wrong tested first chosen turnings maskOf left remainder generator
 returns c = has-rule _ refl
 
 pub table-spec : {M : Type 1} → statement M
