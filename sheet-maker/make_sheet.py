@@ -67,10 +67,16 @@ def entry_of(line):
 
 
 def read_table(source):
+    """The entries. A comment among them must be the difference that the next one is for."""
     arrays = re.findall(rf"(?ms)\bconst ENTRIES: \[u16; {DIFFERENCES}\] = \[\n(.*?)^\];$", source)
     if len(arrays) != 1:
         sys.exit(f"{TABLE}: {len(arrays)} arrays ENTRIES of {DIFFERENCES} entries instead of one")
-    entries = [entry_of(line) for line in arrays[0].splitlines()]
+    entries = []
+    for line in arrays[0].splitlines():
+        if not line.lstrip().startswith("//"):
+            entries.append(entry_of(line))
+        elif line != f"    // {len(entries):03X}":
+            sys.exit(f"{TABLE}: {line!r} stands before the entry of {len(entries):03X}")
     if len(entries) != DIFFERENCES:
         sys.exit(f"{TABLE}: {len(entries)} entries instead of {DIFFERENCES}")
     return entries
