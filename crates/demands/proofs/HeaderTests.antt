@@ -1,5 +1,4 @@
--- What a row of edges says of headers, by computed tests: that one is valid, that none lies near, that one is of a format or of none of ours; and what is
--- refused for it.
+-- What a row of edges says of headers, by computed tests: that none lies near, that one is of a format or of none of ours; and what is refused for it.
 -- Assumes nothing.
 use mathlib.Core.Bool.{Bool, true, false, not, _&&_}
 use mathlib.Core.List.{List, [], _∷_, _++_, List·Memᴰ, List·Memᴰ·head, List·Memᴰ·tail}
