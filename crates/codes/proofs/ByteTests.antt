@@ -6,8 +6,8 @@ use Prim.Native.Nat.{ℕ, zero-le, _<_}
 use native.Mathlib.Omega.{arith}
 use lib.Dec.{T}
 use Rattle.bits.specs.Numbers.{numbers}
-use Rattle.codes.proofs.EveryElement.{every, every-at}
 use Rattle.bits.proofs.Numbers.{numbers-in}
+use Rattle.codes.proofs.EveryElement.{every, every-at}
 
 pub every-below : (n : ℕ) (f : ℕ → Bool) → T (every f (numbers 0 n)) → (c : ℕ) → c < n → T (f c)
 every-below n f t c h = every-at f (numbers 0 n) t c (numbers-in 0 n c zero-le (omega arith))

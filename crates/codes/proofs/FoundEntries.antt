@@ -8,9 +8,9 @@ use native.Mathlib.Nat.{mul-suc}
 use native.Mathlib.Omega.{arith}
 use lib.Dec.{T, leb, leb→le, eqb, eqb→eq}
 use lib.ListN.{length, length-append}
+use Rattle.bits.specs.First.{first}
 use Rattle.codes.specs.Chain.{Entry, codes}
 use Rattle.codes.specs.LineEnds.{eachAfter}
-use Rattle.bits.specs.First.{first}
 use Rattle.codes.specs.Lookup.{same, found, saying}
 use Rattle.codes.specs.Pack.{Binary}
 use Rattle.bits.proofs.Said.{and-left, and-right, and-both}

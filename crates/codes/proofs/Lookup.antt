@@ -6,10 +6,10 @@ use mathlib.Core.Logic.{_⊎_, inl, inr, ⊎-elim}
 use mathlib.Core.List.{List, [], _∷_, List·Memᴰ·not-nil, List·Memᴰ·cases-cons}
 use Prim.Native.Nat.{ℕ}
 use lib.Dec.{T, eqb, eqb→eq, eqb-refl}
-use Rattle.codes.specs.Chain.{Entry, In}
 use Rattle.bits.specs.First.{first}
-use Rattle.codes.specs.Lookup.{same, found, saying, meaning}
 use Rattle.bits.proofs.First.{searched}
+use Rattle.codes.specs.Chain.{Entry, In}
+use Rattle.codes.specs.Lookup.{same, found, saying, meaning}
 use Rattle.bits.proofs.Said.{and-left, and-right, and-both}
 use Rattle.codes.proofs.EveryElement.{every, every-at}
 

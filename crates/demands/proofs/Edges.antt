@@ -9,6 +9,8 @@ use lib.Bits.{bitXor}
 use lib.Count.{onesIn}
 use lib.Dec.{T, T-not, leb, ltb, eqb, leb→le, ltb→lt, eqb→eq}
 use lib.ListN.{length, take, getD}
+use Rattle.bits.specs.First.{first}
+use Rattle.bits.specs.Numbers.{numbers}
 use Rattle.bits.specs.Row.{bits}
 use Rattle.bits.specs.Turnings.{chosen, turnings, maskOf}
 use Rattle.bits.specs.Word.{bit, differences}
@@ -29,9 +31,7 @@ use Rattle.codes.specs.Chain.{Scheme, stateAfter, codes, texts, Builds, Stuck}
 use Rattle.codes.specs.Coded.{lastOf}
 use Rattle.codes.specs.Consecutive.{codeFor, consecutive}
 use Rattle.codes.specs.LineEnds.{eachAfter, ended, lineEnds}
-use Rattle.bits.specs.First.{first}
 use Rattle.codes.specs.Lookup.{same, found, saying, meaning}
-use Rattle.bits.specs.Numbers.{numbers}
 use Rattle.codes.specs.Pack.{low, value, bytes, packed, gap, filled, written}
 use Rattle.codes.proofs.Beginning.{begun}
 use Rattle.codes.proofs.EveryElement.{every}

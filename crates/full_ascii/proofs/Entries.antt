@@ -10,10 +10,10 @@ use native.Mathlib.Decide.{decLt}
 use native.Mathlib.Omega.{arith}
 use lib.Dec.{T, leb, ltb, eqb, leb→le, eqb→eq}
 use borrow.Author.Tests.{eqb-true, lt-ltb, le-ltb, le-leb, ne-eqb}
-use Rattle.codes.specs.Chain.{Entry, In}
 use Rattle.bits.specs.Numbers.{numbers}
-use Rattle.bits.proofs.Said.{and-left, and-right}
 use Rattle.bits.proofs.Numbers.{in-numbers, numbers-in}
+use Rattle.codes.specs.Chain.{Entry, In}
+use Rattle.bits.proofs.Said.{and-left, and-right}
 use Rattle.full_ascii.specs.Table.{HT, LF, CR, six, seven, special, pair, table}
 use Rattle.full_ascii.specs.Writer.{coded, own}
 

@@ -9,10 +9,10 @@ use native.Mathlib.Nat.{le-of-eq}
 use native.Mathlib.Omega.{arith}
 use lib.Dec.{T, eqb, eqb→eq, lit<}
 use lib.ListN.{length, length-append}
+use Rattle.bits.specs.Numbers.{numbers}
 use Rattle.bits.specs.Word.{bit}
 use Rattle.codes.specs.Coded.{alone}
 use Rattle.codes.specs.Chain.{Entry, Row, codes, texts, Builds}
-use Rattle.bits.specs.Numbers.{numbers}
 use Rattle.codes.specs.Pack.{low}
 use Rattle.codes.proofs.CodedTexts.{coded-rest}
 use Rattle.bits.proofs.Said.{and-left, and-right}

@@ -1,10 +1,9 @@
 -- Mending answers as the search does.
 -- Assumes nothing.
-use mathlib.Core.Bool.{_&&_}
-use mathlib.Core.List.{List, [], _∷_, List·Memᴰ}
-use mathlib.Core.Logic.{_⊎_, inl, inr}
-use mathlib.Core.Path.{_≡_, refl, sym, ap, _∙_, subst, subst⁻¹}
-use Prim.Native.Nat.{ℕ, _%_, _^_, _≤_, _<_}
+use mathlib.Core.List.{List, List·Memᴰ}
+use mathlib.Core.Logic.{inl, inr}
+use mathlib.Core.Path.{_≡_, sym, ap, _∙_, subst, subst⁻¹}
+use Prim.Native.Nat.{ℕ, _%_, _^_, _<_}
 use native.Mathlib.Omega.{arith}
 use lib.Bits.{bitXor, xor-lt}
 use lib.Count.{onesIn}
@@ -21,8 +20,7 @@ use Rattle.header.specs.Check.{checkOf}
 use Rattle.header.specs.Flag.{Odd}
 use Rattle.header.specs.Valid.{Valid, flagIn, checkIn, informationIn}
 use Rattle.distance.specs.Distance.{distance, ValidWithin}
-use Rattle.mending.specs.declared.Mending.{Mending}
-use Rattle.mending.specs.declared.Mending.the-variants.{Mended, Hopeless}
+use Rattle.mending.specs.declared.Mending.the-variants.{Mended}
 use Rattle.mending.specs.Mends.{MendsWithin}
 use Rattle.mending.specs.Search.{isValid, turnedOver, answerOf, search, AsSearched}
 use Rattle.mending.proofs.Unique.{one-answer}

@@ -8,12 +8,12 @@ use Prim.Native.Nat.{ℕ, _<_}
 use native.Mathlib.Omega.{arith}
 use lib.Dec.{T, T-not, eqb, eqb→eq}
 use lib.ListN.{length, getD}
+use Rattle.bits.specs.First.{first}
+use Rattle.bits.specs.Numbers.{numbers}
 use Rattle.codes.specs.Chain.{Entry, In, codes}
 use Rattle.codes.specs.Coded.{alone, CodedBelow}
 use Rattle.codes.specs.LineEnds.{LF, CR, eachAfter, ended}
-use Rattle.bits.specs.First.{first}
 use Rattle.codes.specs.Lookup.{same, found, saying, meaning}
-use Rattle.bits.specs.Numbers.{numbers}
 use Rattle.bits.proofs.Said.{and-left, and-right, and-both}
 use Rattle.codes.proofs.CodedBehind.{CodedAfter}
 use Rattle.codes.proofs.CodedTexts.{coded-rest}

@@ -6,11 +6,11 @@ use Prim.Native.Nat.{ℕ, zero, suc, _+_, _/_, _%_, _<_}
 use native.Mathlib.Nat.{zero-add}
 use native.Mathlib.Omega.{arith}
 use lib.ListN.{length, getD}
+use Rattle.bits.specs.Numbers.{numbers}
 use Rattle.bits.specs.Row.{bits}
 use Rattle.codes.specs.Chain as chain
 use Rattle.codes.specs.Chain.{Malformed, Builds}
 use Rattle.codes.specs.Consecutive.{codeFor}
-use Rattle.bits.specs.Numbers.{numbers}
 use Rattle.codes.specs.Pack.{low}
 use Rattle.codes.proofs.BitsInBytes.{bits-cons}
 use Rattle.codes.proofs.ConsecutiveCodes.{consecutive-in}

@@ -8,14 +8,14 @@ use native.Mathlib.Omega.{arith}
 use lib.Dec.{T, eqb}
 use lib.ListN.{length, take, drop, getD, length-append}
 use borrow.Author.Tests.{eqb-true, eqb-false, eq-eqb, ne-eqb}
+use Rattle.bits.specs.First.{first}
+use Rattle.bits.specs.Numbers.{numbers}
 use Rattle.bits.specs.Word.{bit}
 use Rattle.codes.specs.Chain.{Entry, codes}
 use Rattle.codes.specs.Coded.{lastOf}
 use Rattle.codes.specs.Consecutive.{codeFor, consecutive}
 use Rattle.codes.specs.LineEnds.{eachAfter, ended}
-use Rattle.bits.specs.First.{first}
 use Rattle.codes.specs.Lookup.{same, found, saying}
-use Rattle.bits.specs.Numbers.{numbers}
 use Rattle.codes.specs.Pack.{Binary, low, written}
 use Rattle.codes.proofs.BitsInBytes.{binary, length-written}
 use Rattle.codes.proofs.EachAfter.{each-append, each-every, each-next, each-end}

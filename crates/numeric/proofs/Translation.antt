@@ -9,9 +9,9 @@ use Prim.Native.Nat.{ℕ}
 use native.Mathlib.Omega.{arith}
 use lib.Dec.{T, eqb, eqb→eq}
 use lib.ListN.{length}
+use Rattle.bits.specs.Numbers.{numbers}
 use Rattle.codes.specs.Chain.{Entry, In, codes, texts}
 use Rattle.codes.specs.Lookup.{same, found, meaning}
-use Rattle.bits.specs.Numbers.{numbers}
 use Rattle.codes.proofs.EveryElement.{every, every-at}
 use Rattle.codes.proofs.Lookup.{unlike, meant, meaning-own}
 use Rattle.codes.proofs.Pieces.{AllIn, row-all}

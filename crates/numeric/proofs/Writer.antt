@@ -8,6 +8,7 @@ use Prim.Native.Nat.{ℕ, _+_, _-_, _*_, _/_, _%_, _≤_, _<_, zero-le}
 use native.Mathlib.Omega.{arith}
 use lib.Dec.{T, T-not, eqb, eqb→eq, lit<}
 use lib.ListN.{length, length-append, take, getD}
+use Rattle.bits.specs.Numbers.{numbers}
 use Rattle.bits.specs.Row.{bits, Bytes}
 use Rattle.codes.specs.Chain as chain
 use Rattle.codes.specs.Chain.{Entry, In, Row, codes, texts, Malformed}
@@ -15,7 +16,6 @@ use Rattle.codes.specs.Coded.{lastOf}
 use Rattle.codes.specs.Consecutive.{codeFor, consecutive}
 use Rattle.codes.specs.LineEnds.{eachAfter, ended, lineEnds}
 use Rattle.codes.specs.Lookup.{same, found, saying, meaning}
-use Rattle.bits.specs.Numbers.{numbers}
 use Rattle.codes.specs.Pack.{low, gap, written}
 use Rattle.bits.proofs.Said.{and-left, and-right}
 use Rattle.codes.proofs.BitsInBytes.{length-written, written-built, length-bits}

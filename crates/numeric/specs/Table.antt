@@ -2,9 +2,9 @@
 -- Assumes nothing.
 use mathlib.Core.List.{List, [], _∷_, _++_}
 use Prim.Native.Nat.{ℕ}
+use Rattle.bits.specs.Numbers.{numbers}
 use Rattle.codes.specs.Chain.{Entry, Scheme, single}
 use Rattle.codes.specs.Consecutive.{consecutive}
-use Rattle.bits.specs.Numbers.{numbers}
 
 -- the digits 0 to 9, then space + , - . /
 unfoldable pub characters : List ℕ

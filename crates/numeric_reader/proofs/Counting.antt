@@ -12,8 +12,8 @@ use lib.Dec.{T, eqb}
 use lib.ListN.{length, getD, drop}
 use borrow.Author.Tests.{eq-eqb, ne-eqb}
 use Rattle.bits.specs.Numbers.{numbers}
-use Rattle.codes.proofs.EveryElement.{every, every-at}
 use Rattle.bits.proofs.Numbers.{numbers-in}
+use Rattle.codes.proofs.EveryElement.{every, every-at}
 use Rattle.numeric.specs.Steps.Text.{character, spelled, textOf}
 use Rattle.numeric.specs.Table.{characters}
 use Rattle.numeric_reader.specs.Steps.Reached.{Reached, CountsByte, Counts}

@@ -1,16 +1,16 @@
 -- The entries of bytes: their parts, and what the tests of them say.
 -- Assumes nothing.
 use mathlib.Core.Bool.{Bool, true, false}
-use mathlib.Core.List.{List, _∷_, map}
+use mathlib.Core.List.{List, _∷_}
 use mathlib.Core.Path.{_≡_, sym, ap, ap₂, _∙_}
-use Prim.Native.Nat.{ℕ, zero, suc, _+_, _*_, _/_, _%_, _^_, _<_}
+use Prim.Native.Nat.{ℕ, _+_, _*_, _/_, _%_, _^_, _<_}
 use native.Mathlib.Omega.{arith}
 use lib.Bits.{bitAnd, and-block, and-mask, and-comm}
 use lib.Dec.{eqb, ltb, ltb→lt}
 use lib.ListN.{length, getD, drop}
 use Rattle.bits.specs.Numbers.{numbers}
-use Rattle.codes.proofs.EveryElement.{every, every-at}
 use Rattle.bits.proofs.Numbers.{numbers-in, map-numbers}
+use Rattle.codes.proofs.EveryElement.{every, every-at}
 use Rattle.numeric.specs.Steps.Text.{character, spelled}
 use Rattle.numeric.specs.Table.{characters}
 use Rattle.numeric_reader.specs.Steps.Signs.{signIf, sign, meet, one, entryFor, entryOf, entries, firstOf, secondOf, Entry}

@@ -12,9 +12,9 @@ use lib.Bits.{bitAnd}
 use lib.Dec.{eqb, ltb}
 use lib.ListN.{length, set, length-append}
 use borrow.Author.Tests.{ne-eqb, lt-ltb, le-ltb, eqb-true, eqb-false, not-true, not-false}
+use Rattle.bits.specs.First.{first}
 use Rattle.codes.specs.Chain.{Entry, texts}
 use Rattle.codes.specs.LineEnds.{LF, CR}
-use Rattle.bits.specs.First.{first}
 use Rattle.codes.specs.Lookup.{same, found, meaning}
 use Rattle.codes.specs.Steps.Laid.{laid}
 use Rattle.codes.proofs.LaidRows.{set-laid, set-laid-two}

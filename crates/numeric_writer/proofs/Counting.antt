@@ -7,12 +7,12 @@ use Prim.Native.Nat.{ℕ, _≤_, _<_}
 use native.Mathlib.Omega.{arith}
 use lib.Dec.{T, eqb, eqb→eq, lit≤}
 use lib.ListN.{length, getD}
+use Rattle.bits.specs.First.{first}
+use Rattle.bits.specs.Numbers.{numbers}
 use Rattle.codes.specs.Chain.{Entry, codes}
 use Rattle.codes.specs.Coded.{alone, CodedBelow}
 use Rattle.codes.specs.LineEnds.{ended}
-use Rattle.bits.specs.First.{first}
 use Rattle.codes.specs.Lookup.{same, found, saying}
-use Rattle.bits.specs.Numbers.{numbers}
 use Rattle.codes.specs.Steps.Summed.{sumAfter}
 use Rattle.bits.proofs.Said.{and-left, and-right}
 use Rattle.codes.proofs.ByteTests.{implied-below}

@@ -8,13 +8,13 @@ use native.Mathlib.Omega.{arith}
 use lib.Dec.{T, leb, ltb, eqb, leb→le, le→leb, ltb→lt, eqb→eq, lit≤, lit<}
 use lib.ListN.{length, getD}
 use borrow.Author.Tests.{ne-eqb}
+use Rattle.bits.specs.First.{first}
+use Rattle.bits.specs.Numbers.{numbers}
 use Rattle.bits.specs.Word.{bit}
 use Rattle.codes.specs.Chain.{Entry, codes}
 use Rattle.codes.specs.Consecutive.{codeFor, consecutive}
 use Rattle.codes.specs.LineEnds.{eachAfter, ended}
-use Rattle.bits.specs.First.{first}
 use Rattle.codes.specs.Lookup.{same, found, saying}
-use Rattle.bits.specs.Numbers.{numbers}
 use Rattle.codes.specs.Pack.{low, written}
 use Rattle.codes.specs.Steps.Sending.{Sends, PutSoFar}
 use Rattle.codes.specs.declared.Held.{Held}

@@ -8,11 +8,11 @@ use Prim.Native.Nat.{ℕ, _<_}
 use native.Mathlib.Decide.{ℕ-discrete}
 use lib.Dec.{leb, eqb}
 use borrow.Author.Tests.{ne-eqb}
+use Rattle.bits.specs.First.{first}
+use Rattle.bits.specs.Numbers.{numbers}
 use Rattle.codes.specs.Chain.{codes}
 use Rattle.codes.specs.LineEnds.{ended}
-use Rattle.bits.specs.First.{first}
 use Rattle.codes.specs.Lookup.{same, found, saying, meaning}
-use Rattle.bits.specs.Numbers.{numbers}
 use Rattle.codes.proofs.ByteTests.{same-below}
 use Rattle.codes.proofs.EveryElement.{every}
 use Rattle.numeric.specs.Table.{characters}

@@ -9,8 +9,8 @@ use Prim.Native.Nat.{ℕ, zero, suc, _+_}
 use lib.Dec.{eqb}
 use lib.ListN.{length, length-map}
 use borrow.Author.Tests.{eqb-true}
-use Rattle.codes.specs.Chain.{Entry, Scheme, Built, Malformed}
 use Rattle.bits.specs.Numbers.{numbers}
+use Rattle.codes.specs.Chain.{Entry, Scheme, Built, Malformed}
 use Rattle.codes.specs.Pack.{low}
 use Rattle.codes.proofs.Renamed.{renamed, renamed-built, built-renamed, renamed-malformed}
 use Rattle.pseudo_binary.specs.Table.{QUESTION_MARK, values, spaces, slashes, characterOf, indicator, most, indicators, six, tables, scheme}

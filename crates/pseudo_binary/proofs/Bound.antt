@@ -6,8 +6,8 @@ use Prim.Native.Nat.{ℕ, zero, suc, _+_, _*_, _/_, _≤_}
 use native.Mathlib.Omega.{arith}
 use lib.Dec.{T}
 use lib.ListN.{length, replicate, length-replicate}
-use Rattle.codes.specs.Chain.{codes, Built}
 use Rattle.bits.specs.Numbers.{numbers}
+use Rattle.codes.specs.Chain.{codes, Built}
 use Rattle.codes.specs.Pack.{low, written}
 use Rattle.codes.proofs.EveryElement.{every}
 use Rattle.codes.proofs.BitsInBytes.{length-written}

@@ -6,9 +6,9 @@ use mathlib.Core.List.{List·Memᴰ·append-cases, Memᴰ·append-left, Memᴰ·
 use Prim.Native.Nat.{ℕ, suc, pred, _<_}
 use native.Mathlib.Nat.{add-zero}
 use native.Mathlib.Omega.{arith}
-use Rattle.codes.specs.Chain.{Entry, In, stateAfter}
 use Rattle.bits.specs.Numbers.{numbers}
 use Rattle.bits.proofs.Numbers.{in-numbers, numbers-in}
+use Rattle.codes.specs.Chain.{Entry, In, stateAfter}
 use Rattle.pseudo_binary.specs.Table.{Kind, values, spaces, slashes, indicator, most, indicators, six, tables}
 
 -- an indicator counts one at the least

@@ -9,9 +9,9 @@ use Prim.Native.Nat.{ℕ, zero, suc, pred, _≤_, _<_}
 use native.Mathlib.Omega.{arith}
 use lib.Dec.{T, eqb, eqb→eq, lit<}
 use lib.ListN.{length, length-map}
+use Rattle.bits.specs.Numbers.{numbers}
 use Rattle.codes.specs.Coded.{alone, CodedBelow}
 use Rattle.codes.specs.Chain.{Entry, Row, codes, texts}
-use Rattle.bits.specs.Numbers.{numbers}
 use Rattle.codes.proofs.CodedTexts.{coded-none, coded-cons, coded-rest}
 use Rattle.codes.proofs.EveryElement.{every}
 use Rattle.codes.proofs.ReadingAgrees.{Agrees, agrees}

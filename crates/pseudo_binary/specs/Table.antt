@@ -5,8 +5,8 @@ use mathlib.Core.List.{List, [], _∷_, _++_, map}
 use Prim.Native.Nat.{ℕ, zero, suc, _+_, _%_}
 use lib.Dec.{leb, eqb}
 use lib.ListN.{length, replicate}
-use Rattle.codes.specs.Chain.{Entry, Scheme}
 use Rattle.bits.specs.Numbers.{numbers}
+use Rattle.codes.specs.Chain.{Entry, Scheme}
 use Rattle.codes.specs.Pack.{low}
 use Rattle.codes.specs.Coded.{alone, CodedBelow}
 

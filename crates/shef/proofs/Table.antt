@@ -2,9 +2,9 @@
 -- Assumes nothing.
 use Prim.Native.Nat.{ℕ}
 use lib.Dec.{T}
+use Rattle.bits.specs.Numbers.{numbers}
 use Rattle.bits.specs.Word.{bit}
 use Rattle.codes.specs.Consecutive.{codeFor, consecutive}
-use Rattle.bits.specs.Numbers.{numbers}
 use Rattle.codes.specs.Pack.{low}
 use Rattle.codes.proofs.Beginning.{begun}
 use Rattle.codes.proofs.BitsInBytes.{binary}

@@ -6,14 +6,14 @@ use Prim.Native.Nat.{ℕ}
 use native.Mathlib.Nat.{le-of-eq}
 use lib.Dec.{T, lit<}
 use lib.ListN.{length}
+use Rattle.bits.specs.First.{first}
+use Rattle.bits.specs.Numbers.{numbers}
 use Rattle.bits.specs.Row.{Bytes}
 use Rattle.codes.specs.Chain.{Entry, Row, codes, texts, Built}
 use Rattle.codes.specs.Coded.{alone}
 use Rattle.codes.specs.Consecutive.{codeFor, consecutive}
 use Rattle.codes.specs.LineEnds.{LF, CR, eachAfter, ended, lineEnds}
-use Rattle.bits.specs.First.{first}
 use Rattle.codes.specs.Lookup.{same, found, saying}
-use Rattle.bits.specs.Numbers.{numbers}
 use Rattle.codes.proofs.BitsInBytes.{gap-few}
 use Rattle.codes.proofs.EveryElement.{every}
 use Rattle.codes.proofs.LineTables.{lined, onePiece, ended-some, line-pieces, line-whole, lines-kept}

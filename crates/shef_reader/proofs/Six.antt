@@ -13,11 +13,12 @@ use lib.Bits.{bitAnd, and-zero-r, and-mask}
 use lib.Dec.{T, eqb, eqb→eq, lit≤}
 use lib.ListN.{length, take, getD, set, replicate, length-append}
 use lib.Pow.{pow-pos}
+use Rattle.bits.specs.Numbers.{numbers}
 use Rattle.bits.specs.Word.{bit}
+use Rattle.bits.proofs.Numbers.{numbers-in}
 use Rattle.bits.proofs.Said.{and-left, and-right}
 use Rattle.codes.specs.Chain.{Entry, Fill, Begins}
 use Rattle.codes.specs.Consecutive.{codeFor, consecutive}
-use Rattle.bits.specs.Numbers.{numbers}
 use Rattle.codes.specs.Pack.{low}
 use Rattle.codes.specs.Steps.BitBuffer.{Window}
 use Rattle.codes.specs.Steps.Laid.{Readable}
@@ -28,7 +29,6 @@ use Rattle.codes.proofs.BitBuffer.{window-whole, window-top, window-begins, beg
 use Rattle.codes.proofs.EightBytes.{shifted-on, top-bits, top-on}
 use Rattle.codes.proofs.EveryElement.{every, every-at}
 use Rattle.codes.proofs.LowBits.{length-low, low-add}
-use Rattle.bits.proofs.Numbers.{numbers-in}
 use Rattle.codes.proofs.OneReading.{Halts, stuck-here, never-both}
 use Rattle.codes.proofs.SchemeLaws.{parted, parted-never}
 use Rattle.codes.proofs.TableSearch.{find, Found, found}

@@ -6,12 +6,12 @@ use mathlib.Core.List.{List}
 use Prim.Native.Nat.{ℕ, _*_, _≤_, _<_}
 use lib.Dec.{T, leb, eqb, lit≤}
 use lib.ListN.{length}
+use Rattle.bits.specs.First.{first}
+use Rattle.bits.specs.Numbers.{numbers}
 use Rattle.bits.specs.Word.{bit}
 use Rattle.codes.specs.Chain.{Entry, codes}
 use Rattle.codes.specs.Consecutive.{codeFor, consecutive}
-use Rattle.bits.specs.First.{first}
 use Rattle.codes.specs.Lookup.{same, saying}
-use Rattle.bits.specs.Numbers.{numbers}
 use Rattle.codes.specs.Pack.{low}
 use Rattle.codes.specs.Steps.Summed.{sumAfter}
 use Rattle.codes.proofs.EachAfter.{each-length}

@@ -5,21 +5,21 @@ use mathlib.Core.Bool.{Bool, true, false, cond, not, _&&_, _||_}
 use mathlib.Core.List.{[]}
 use Prim.Native.Nat.{ℕ, _+_, _-_, _/_, _%_, _≤_, _<_}
 use lib.Dec.{T, leb, eqb, eqb→eq, ltb, ltb→lt, leb→le, le→leb, lit≤}
+use Rattle.bits.specs.First.{first}
+use Rattle.bits.specs.Numbers.{numbers}
 use Rattle.bits.specs.Word.{bit}
+use Rattle.bits.proofs.Numbers.{numbers-in}
 use Rattle.bits.proofs.Said.{and-left, and-right}
 use Rattle.codes.specs.Chain.{codes}
 use Rattle.codes.specs.Consecutive.{codeFor, consecutive}
 use Rattle.codes.specs.LineEnds.{ended}
-use Rattle.bits.specs.First.{first}
 use Rattle.codes.specs.Lookup.{same, found, saying}
-use Rattle.bits.specs.Numbers.{numbers}
 use Rattle.codes.specs.Pack.{Binary, low, value}
 use Rattle.codes.proofs.BitsInBytes.{binary}
 use Rattle.codes.proofs.ByteTests.{same-below, implied-below}
 use Rattle.codes.proofs.EveryElement.{every, every-at}
 use Rattle.codes.proofs.FoundEntries.{saying-every, codes-binary}
 use Rattle.codes.proofs.LineEnds.{ended-same}
-use Rattle.bits.proofs.Numbers.{numbers-in}
 use Rattle.numeric.specs.Table.{characters}
 use Rattle.shef.specs.Table.{table}
 use Rattle.shef.specs.Writer.{coded, own}

@@ -7,8 +7,8 @@ use Prim.Native.Nat.{ℕ, _+_, _*_, _/_, _%_}
 use lib.Bits.{bitAnd}
 use lib.Dec.{eqb, ltb}
 use lib.ListN.{length}
-use Rattle.codes.specs.LineEnds.{LF, CR}
 use Rattle.bits.specs.Numbers.{numbers}
+use Rattle.codes.specs.LineEnds.{LF, CR}
 use Rattle.numeric.specs.Steps.Text.{character}
 
 unfoldable pub signIf : Bool → Bool → Bool → ℕ

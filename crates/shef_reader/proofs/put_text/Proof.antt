@@ -4,13 +4,13 @@ use mathlib.Core.List.{List}
 use Prim.Native.Nat.{ℕ, _+_, _-_}
 use native.Mathlib.Omega.{arith}
 use lib.ListN.{length}
+use Rattle.bits.specs.Numbers.{numbers}
 use Rattle.bits.specs.Row.{bits}
 use Rattle.codes.specs.Steps.Laid.{Readable}
 use Rattle.codes.proofs.ReadSoFar.{laying-later, laying-last}
 use Rattle.codes.specs.Steps.Passed.{LaidSoFar}
 use Rattle.shef.specs.Table.{scheme}
 use Rattle.shef.proofs.Table.{laws}
-use Rattle.bits.specs.Numbers.{numbers}
 use Rattle.codes.specs.Pack.{low}
 use Rattle.numeric.specs.Table.{characters}
 use Rattle.shef_reader.proofs.Six.{twice, firsts, firsts-right}

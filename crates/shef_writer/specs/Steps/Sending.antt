@@ -6,10 +6,10 @@ use mathlib.Core.List.{List, map}
 use Prim.Native.Nat.{ℕ, _+_, _/_, _%_}
 use lib.Dec.{eqb}
 use lib.ListN.{length, take, drop}
+use Rattle.bits.specs.Numbers.{numbers}
 use Rattle.codes.specs.Chain.{codes}
 use Rattle.codes.specs.Coded.{lastOf}
 use Rattle.codes.specs.LineEnds.{LF, eachAfter}
-use Rattle.bits.specs.Numbers.{numbers}
 use Rattle.codes.specs.Pack.{value}
 use Rattle.codes.specs.Steps.Sending.{OneOf, FirstOf}
 use Rattle.codes.specs.declared.Sent.{Sent}
