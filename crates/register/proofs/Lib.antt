@@ -1,5 +1,4 @@
-pub mod Entered
-pub mod Leaving
+pub mod Halves
 pub mod Register
 pub mod Row
-pub mod Words
+pub mod Together

@@ -2,13 +2,13 @@
 -- Assumes nothing.
 use mathlib.Core.Path.{_≡_, refl, sym, ap, ap₂, _∙_}
 use mathlib.Core.Logic.{⊎-elim}
-use Prim.Native.Nat.{ℕ, zero, suc, _+_, _*_, _/_, _%_, _^_, _-_, _<_, _≤_}
+use Prim.Native.Nat.{ℕ, zero, suc, _+_, _*_, _/_, _%_, _^_, _<_, _≤_}
 use native.Mathlib.Nat.{mod-lt, add-zero, zero-add, suc-add, mul-one, mul-assoc, pow-succ', le-mul-of-pos-right}
 use native.Mathlib.Omega.{arith}
 use lib.Bits.{bitXor, differ, xor-lt, xor-self, xor-zero-r, xor-mod, xor-shr, xor-block}
 use lib.Pow.{pow-pos}
 use Rattle.bits.proofs.Xor.{digit, xor-odd, xor-digits, xor-cross, xor-zero, xor-cancel}
-use Rattle.register.specs.Register.{feedback, bitStep, bitSteps, byteStep}
+use Rattle.register.specs.Register.{feedback, bitStep, bitSteps}
 
 -- a zero leaves at the top: the register only moves
 pub bit-low : (r : ℕ) → r < 2 ^ 15 → bitStep r ≡ r * 2
@@ -82,16 +82,11 @@ unfolding bitSteps
 steps-add zero n r = rw zero-add
 steps-add (suc m) n r = rw suc-add (steps-add m n (bitStep r))
 
--- a byte at the register's top, before its eight steps
-pub byte-enters : (r b : ℕ) {top : ℕ} → top ≡ b * 2 ^ 8 → bitSteps 8 (bitXor r top) ≡ byteStep r b
-unfolding byteStep
-byte-enters r b e = ap (λ (n : ℕ). bitSteps 8 (bitXor r n)) e
-
--- one of n steps, after i of them
-pub steps-next : (n i r : ℕ) → i < n → bitSteps (n - (i + 1)) (bitStep r) ≡ bitSteps (n - i) r
+-- the first of some steps may be the last
+pub steps-last : (n r : ℕ) → bitSteps n (bitStep r) ≡ bitStep (bitSteps n r)
 unfolding bitSteps
-steps-next n i r h =
-    let one : n - i ≡ suc (n - (i + 1)) = omega arith in rw one
+steps-last zero r = refl
+steps-last (suc n) r = steps-last n (bitStep r)
 
 -- what lies below the top only moves, until it gets there
 pub steps-low : (n r : ℕ) → r * 2 ^ n < 2 ^ 16 → bitSteps n r ≡ r * 2 ^ n

@@ -11,10 +11,10 @@ use Rattle.register.proofs.all_steps.Statement.{statement}
 use Rattle.register.proofs.all_steps.Tie as tie
 
 abbrev Inv-loop : tie.InvT-loop
-Inv-loop register «data» moved₀ i₀ moved i = (i ≤ length «data») × (checksumFrom moved (drop i «data») ≡ checksumFrom register «data»)
+Inv-loop table register «data» moved₀ i₀ moved i = (i ≤ length «data») × (checksumFrom moved (drop i «data») ≡ checksumFrom register «data»)
 
 abbrev μ-loop : tie.MeasureT-loop
-μ-loop register «data» moved₀ i₀ moved i = length «data» - i
+μ-loop table register «data» moved₀ i₀ moved i = length «data» - i
 
 most-steps-requires : tie.Need-most-steps-requires Inv-loop μ-loop
 most-steps-requires c κs = search needs
@@ -25,7 +25,7 @@ mul-i c = search needs
 loop-holds : tie.Need-loop-holds Inv-loop μ-loop
 loop-holds c =
     let bytes = c .before .before .args .«data» .now in
-    let most = length bytes / 8 * 8 in (
+    let most = length bytes / 96 * 96 in (
       omega arith,
       ap (λ (r : ℕ). checksumFrom r (drop most bytes)) (c .most-steps .ensures) ∙ checksum-rest most (c .before .before .args .register) bytes,
     )
