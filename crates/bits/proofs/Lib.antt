@@ -1,5 +1,6 @@
 pub mod All
 pub mod First
+pub mod Listed
 pub mod Numbers
 pub mod Ones
 pub mod Said

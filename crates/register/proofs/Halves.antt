@@ -1,18 +1,31 @@
 -- Half a byte by the table: what lies below the register's top only moves up, and what leaves at its top is looked up.
 -- Assumes nothing.
-use mathlib.Core.List.{List, map}
+use mathlib.Core.List.{List, [], map}
 use mathlib.Core.Path.{_≡_, refl, sym, ap, ap₂, _∙_}
 use Prim.Native.Nat.{ℕ, _+_, _*_, _/_, _%_, _^_, _<_}
 use native.Mathlib.Nat.{mod-lt, add-zero, zero-mul}
 use native.Mathlib.Omega.{arith}
 use lib.Bits.{bitXor, xor-comm, xor-lt, xor-shifted, xor-block}
-use lib.ListN.{getD}
+use lib.ListN.{length, getD}
 use lib.Pow.{pow-pos}
+use Rattle.bits.specs.Numbers.{numbers}
+use Rattle.bits.proofs.Listed.{wrong, none-wrong}
 use Rattle.bits.proofs.Numbers.{map-numbers}
 use Rattle.bits.proofs.Xor.{xor-assoc}
 use Rattle.register.specs.Register.{bitSteps, byteStep}
 use Rattle.register.specs.Steps.Halves.{halfStep, entryOf, entries}
 use Rattle.register.proofs.Register.{steps-xor, steps-add, steps-low}
+
+-- the halves whose entries are not theirs, and how many entries there are
+unfoldable pub tested : List ℕ → List ℕ × ℕ
+tested table = (wrong entryOf 0 table, length table)
+
+-- what the test says
+pub all-right : (table : List ℕ) → tested table ≡ ([], 16) → table ≡ entries
+unfolding tested entries
+all-right table t =
+    none-wrong entryOf 0 table (ap (λ (r : List ℕ × ℕ). r .0) t)
+    ∙ ap (λ (n : ℕ). map entryOf (numbers 0 n)) (ap (λ (r : List ℕ × ℕ). r .1) t)
 
 entry-at : (half : ℕ) → half < 16 → getD entries half 0 ≡ bitSteps 4 (half * 2 ^ 12)
 unfolding entries entryOf
