@@ -155,29 +155,16 @@ fn parity_for(low: u32) -> u32
     (u32::count_ones(low) + 1) % 2
 }
 
-// The multiple of the generator whose coefficients from x^10 up are these four bits.
+// The multiple of the generator whose coefficients from x^10 up are these four bits: first those of the quotient, then its product with the generator.
 fn multiple_for(top: u32) -> u32
     requires { ⌜ top < 16 ⌝ }
     ensures { λ r. ⌜ Multiple top r ⌝ }
 {
-    match top {
-        0 => 0,
-        1 => Header::GENERATOR,
-        2 => 0x9bb,
-        3 => 0xed2,
-        4 => 0x1376,
-        5 => 0x141f,
-        6 => 0x1acd,
-        7 => 0x1da4,
-        8 => 0x2185,
-        9 => 0x26ec,
-        10 => 0x283e,
-        11 => 0x2f57,
-        12 => 0x32f3,
-        13 => 0x359a,
-        14 => 0x3b48,
-        _ => 0x3c21,
-    }
+    let quotient = (top ^ (top >> 1)) ^ (top >> 3);
+    let lower = (quotient % 2 * Header::GENERATOR) ^ (quotient / 2 % 2 * (Header::GENERATOR * 2));
+    let upper = (quotient / 4 % 2 * (Header::GENERATOR * 4))
+        ^ (quotient / 8 % 2 * (Header::GENERATOR * 8));
+    upper ^ lower
 }
 
 // The check bits: the remainder of a long division, four coefficients of the quotient at a time.

@@ -1,59 +1,76 @@
--- `header::multiple_for` meets its contract: each row of the table passes a computed test.
+-- `header::multiple_for` meets its contract: what is worked out of each four bits passes one computed test.
 -- Assumes nothing.
 use mathlib.Core.Bool.{Bool, _&&_}
-use mathlib.Core.Path.{_≡_, sym, _∙_}
-use Prim.Native.Nat.{ℕ, zero, suc, _/_, _^_, _≤_, _<_, zero-le}
-use native.Mathlib.Omega.{arith}
+use Prim.Native.Nat.{ℕ, _*_, _/_, _%_, _^_, _<_}
+use borrow.Author.Needs.{needs}
+use lib.Bits.{bitXor}
 use lib.Dec.{T, eqb, eqb→eq}
+use Rattle.bits.proofs.All.{all, all-at}
 use Rattle.bits.proofs.Said.{and-left, and-right}
 use Rattle.header.specs.Check.{generator, remainder}
 use Rattle.header.specs.Steps.Differences.{Multiple}
 use Rattle.header.proofs.multiple_for.Statement.{statement}
 use Rattle.header.proofs.multiple_for.Tie as tie
 
--- m, divided, leaves nothing, and has these coefficients from x^10 up
-right : ℕ → ℕ → Bool
-right upper m = eqb (m / 2 ^ 10) upper && eqb (remainder 4 m) 0
+-- the coefficients of the quotient, and its product with the generator
+quotient : ℕ → ℕ
+quotient top = bitXor (bitXor top (top / 2)) (top / 8)
 
-row : {top m : ℕ} (upper : ℕ) → top ≡ upper → T (right upper m) → Multiple top m
+product : ℕ → ℕ
+product q = bitXor (bitXor (q / 4 % 2 * (generator * 4)) (q / 8 % 2 * (generator * 8))) (bitXor (q % 2 * generator) (q / 2 % 2 * (generator * 2)))
+
+-- divided, it leaves nothing, and it has these coefficients from x^10 up
+right : ℕ → Bool
+right top = eqb (product (quotient top) / 2 ^ 10) top && eqb (remainder 4 (product (quotient top))) 0
+
+all-right : T (all right 16)
+unfolding all right product quotient remainder generator
+all-right = tt
+
+told : (top : ℕ) → top < 16 → Multiple top (product (quotient top))
 unfolding right
-row {top} {m} upper e t =
+told top h =
+    let m = product (quotient top) in
+    let t : T (right top) = all-at right 16 all-right top h in
     record {
-      upper = eqb→eq (m / 2 ^ 10) upper (and-left (eqb (m / 2 ^ 10) upper) (eqb (remainder 4 m) 0) t) ∙ sym e;
-      divided = eqb→eq (remainder 4 m) 0 (and-right (eqb (m / 2 ^ 10) upper) (eqb (remainder 4 m) 0) t);
+      upper = eqb→eq (m / 2 ^ 10) top (and-left (eqb (m / 2 ^ 10) top) (eqb (remainder 4 m) 0) t);
+      divided = eqb→eq (remainder 4 m) 0 (and-right (eqb (m / 2 ^ 10) top) (eqb (remainder 4 m) 0) t);
     }
 
--- a number that is none of those below k
-abbrev NoneOf : ℕ → ℕ → Type 0
-NoneOf zero n = Unit {0}
-NoneOf (suc k) n = NoneOf k n × (n ≡ k → ⊥)
+mul-lower : tie.Need-mul-lower
+mul-lower c = search needs
 
-past : (k n : ℕ) → NoneOf k n → k ≤ n
-past zero n none = zero-le
-past (suc k) n none = omega (arith, past k n (none .0), none .1)
+mul-lower-2 : tie.Need-mul-lower-2
+mul-lower-2 c = search needs
 
--- of the numbers below 16 the other rows leave 15 to the last
-last : (top : ℕ) → NoneOf 15 top → top < 16 → top ≡ 15
-last top none high = let low : 15 ≤ top = past 15 top none in omega arith
+mul-lower-3 : tie.Need-mul-lower-3
+mul-lower-3 c = search needs
+
+mul-upper : tie.Need-mul-upper
+mul-upper c = search needs
+
+mul-upper-2 : tie.Need-mul-upper-2
+mul-upper-2 c = search needs
+
+mul-upper-3 : tie.Need-mul-upper-3
+mul-upper-3 c = search needs
+
+mul-upper-4 : tie.Need-mul-upper-4
+mul-upper-4 c = search needs
+
+returns : tie.Need-returns
+unfolding product quotient generator
+returns c = told (c .args .top) (c .pre)
 
 pub multiple-for-spec : {M : Type 1} → statement M
-unfolding right remainder generator
 multiple-for-spec =
     tie.close
     (tie.spec
-    (λ c. row 0 (c .match .keys1) tt)
-    (λ c. row 1 (c .match .keys2) tt)
-    (λ c. row 2 (c .match .keys3) tt)
-    (λ c. row 3 (c .match .keys4) tt)
-    (λ c. row 4 (c .match .keys5) tt)
-    (λ c. row 5 (c .match .keys6) tt)
-    (λ c. row 6 (c .match .keys7) tt)
-    (λ c. row 7 (c .match .keys8) tt)
-    (λ c. row 8 (c .match .keys9) tt)
-    (λ c. row 9 (c .match .keys10) tt)
-    (λ c. row 10 (c .match .keys11) tt)
-    (λ c. row 11 (c .match .keys12) tt)
-    (λ c. row 12 (c .match .keys13) tt)
-    (λ c. row 13 (c .match .keys14) tt)
-    (λ c. row 14 (c .match .keys15) tt)
-    (λ c. row 15 (last (c .before .args .top) (c .match .rest) (c .before .pre)) tt))
+    mul-lower
+    mul-lower-2
+    mul-lower-3
+    mul-upper
+    mul-upper-2
+    mul-upper-3
+    mul-upper-4
+    returns)
