@@ -5,7 +5,6 @@ pub mod ByteTests
 pub mod CodedBehind
 pub mod CodedTexts
 pub mod ConsecutiveCodes
-pub mod DataInBuffer
 pub mod DataLaws
 pub mod EachAfter
 pub mod EachByte

@@ -1,14 +1,12 @@
 -- The contracts of measuring, reading and sizing leave one answer, and one content of the buffer.
 -- Assumes nothing.
 use mathlib.Core.Path.{_≡_, refl, sym, ap, _∙_}
-use mathlib.Core.Bool.{Bool, cond}
+use mathlib.Core.Bool.{Bool}
 use mathlib.Core.Logic.{by-cases}
 use mathlib.Core.List.{List, _++_}
 use Prim.Native.Nat.{ℕ, _+_}
 use native.Mathlib.Decide.{decLt}
 use native.Mathlib.Omega.{arith}
-use borrow.Author.Tests.{lt-ltb, le-ltb}
-use lib.Dec.{ltb}
 use lib.ListN.{length, drop}
 use Rattle.codes.specs.Chain.{Scheme}
 use Rattle.codes.specs.Steps.Laid.{laid, Placed, Fronted}
@@ -18,11 +16,9 @@ use Rattle.codes.specs.declared.Measured.the-variants as Measured
 use Rattle.codes.specs.declared.Outcome.{Outcome}
 use Rattle.codes.specs.declared.Outcome.the-variants as Outcome
 use Rattle.codes.specs.Coded.{CodedBelow, FirstUncoded}
-use Rattle.codes.specs.Steps.Size.{FindsUncoded, Needs, PutsData}
+use Rattle.codes.specs.Steps.Size.{FindsUncoded, Needs}
 use Rattle.codes.specs.declared.Needed.{Needed}
 use Rattle.codes.specs.declared.Needed.the-variants.{NoCode, TooMany, Bytes}
-use Rattle.codes.specs.declared.Stored.{Stored}
-use Rattle.codes.specs.declared.Stored.the-variants as Stored
 use Rattle.codes.specs.declared.Uncoded.{Uncoded}
 use Rattle.codes.specs.declared.Uncoded.the-variants.{At, Nowhere}
 use Rattle.codes.proofs.SchemeLaws.{Laws}
@@ -86,33 +82,6 @@ module _ (has : List ℕ → ℕ → Bool) (text : List ℕ) where
     one-need (Bytes m) (NoCode j) h k = absurd (all-coded j k (h .0))
     one-need (Bytes m) TooMany h k = absurd (let no′ : ⊥ = omega (arith, k .1, h .1, h .2) in no′)
     one-need (Bytes m) (Bytes n) h k = ap {B = Needed} Bytes (h .1 ∙ sym (k .1))
-
-    module _ (entry : List ℕ) where
-      -- what is stored is what the text needs, in this room
-      need : Stored → Needed
-      need (Stored.NoCode i) = NoCode i
-      need Stored.TooMany = TooMany
-      need (Stored.NoRoom n) = Bytes n
-      need (Stored.Bytes n) = Bytes n
-
-      stored : Needed → Stored × List ℕ
-      stored (NoCode i) = (Stored.NoCode i, entry)
-      stored TooMany = (Stored.TooMany, entry)
-      stored (Bytes n) = cond (ltb (length entry) n) (Stored.NoRoom n, entry) (Stored.Bytes n, carried ++ drop n entry)
-
-      needed : (a : Stored) (x : List ℕ) → PutsData most has text carried entry a x → Needs most has text carried (need a) × ((a, x) ≡ stored (need a))
-      unfolding need stored
-      needed (Stored.NoCode i) x h = (h .0, ap (λ (l : List ℕ). (Stored.NoCode i, l)) (h .1))
-      needed Stored.TooMany x h = (h .0, ap (λ (l : List ℕ). (Stored.TooMany, l)) (h .1))
-      needed (Stored.NoRoom n) x h =
-          (h .0, ap (λ (l : List ℕ). (Stored.NoRoom n, l)) (h .2) ∙ sym (ap (λ (t : Bool). cond t (Stored.NoRoom n, entry) (Stored.Bytes n, carried ++ drop n entry)) (lt-ltb (length entry) n (h .1))))
-      needed (Stored.Bytes n) x h =
-          (h .0, ap (λ (l : List ℕ). (Stored.Bytes n, l)) (h .2) ∙ sym (ap (λ (t : Bool). cond t (Stored.NoRoom n, entry) (Stored.Bytes n, carried ++ drop n entry)) (le-ltb (length entry) n (h .1))))
-
-      pub one-store : (a b : Stored) (x y : List ℕ) → PutsData most has text carried entry a x → PutsData most has text carried entry b y → (a ≡ b) × (x ≡ y)
-      one-store a b x y h k =
-          let same = needed a x h .1 ∙ ap stored (one-need (need a) (need b) (needed a x h .0) (needed b y k .0)) ∙ sym (needed b y k .1) in
-          (ap (λ (p : Stored × List ℕ). p .0) same, ap (λ (p : Stored × List ℕ). p .1) same)
 
 pub one-front : {row entry x y : List ℕ} {r q : ℕ} → Fronted row entry x r → Fronted row entry y q → (x ≡ y) × (r ≡ q)
 one-front {row} {entry} h k =

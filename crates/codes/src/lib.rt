@@ -32,14 +32,6 @@ pub enum Needed {
     Bytes(usize),
 }
 
-// What writing the data of a text into a buffer comes to: how many bytes, with the data in the buffer; or nothing is changed, and why.
-pub enum Stored {
-    NoCode(usize),
-    TooMany,
-    NoRoom(usize),
-    Bytes(usize),
-}
-
 // A code that was taken out of the bits: how many it has, and the one or two characters that it says.
 pub struct Code {
     pub width: u64,

@@ -4,3 +4,4 @@ pub mod OfScheme
 pub mod Once
 pub mod OpenData
 pub mod TakenApart
+pub mod Which

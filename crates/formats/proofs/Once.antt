@@ -7,12 +7,11 @@ use lib.ListN.{length}
 use Rattle.header.specs.declared.Format.{Format}
 use Rattle.codes.specs.Steps.Laid.{Fronted}
 use Rattle.codes.specs.Steps.Measure.{TakesApart}
-use Rattle.codes.specs.Steps.Size.{FindsUncoded, Needs, PutsData}
+use Rattle.codes.specs.Steps.Size.{FindsUncoded, Needs}
 use Rattle.codes.specs.declared.Needed.{Needed}
 use Rattle.codes.specs.declared.Outcome.{Outcome}
-use Rattle.codes.specs.declared.Stored.{Stored}
 use Rattle.codes.specs.declared.Uncoded.{Uncoded}
-use Rattle.codes.proofs.OneAnswer.{one-coming, one-search, one-need, one-store, one-front}
+use Rattle.codes.proofs.OneAnswer.{one-coming, one-search, one-need, one-front}
 use Rattle.formats.specs.Data.{Carries, Unreadable, coded, dataOf}
 use Rattle.formats.specs.Steps.Text.{PutsText}
 use Rattle.formats.proofs.Formats.{carries-one, unreadable-one, never-unreadable}
@@ -25,9 +24,8 @@ module _ (format : Format) (text : List ℕ) where
     pub data-length-once : (a b : Needed) → Needs most (coded format) text (dataOf format text) a → Needs most (coded format) text (dataOf format text) b → a ≡ b
     data-length-once = one-need (coded format) text most (dataOf format text)
 
-    pub write-once : (entry : List ℕ) (a b : Stored) (x y : List ℕ) → PutsData most (coded format) text (dataOf format text) entry a x
-        → PutsData most (coded format) text (dataOf format text) entry b y → (a ≡ b) × (x ≡ y)
-    write-once = one-store (coded format) text most (dataOf format text)
+  pub put-data-once : (entry x y : List ℕ) (r q : ℕ) → Fronted (dataOf format text) entry x r → Fronted (dataOf format text) entry y q → (x ≡ y) × (r ≡ q)
+  put-data-once entry x y r q h k = one-front h k
 
 module _ (format : Format) (carried : List ℕ) where
   pub take-apart-once : (a b : Outcome) → TakesApart (λ text. Carries format text carried) (Unreadable format carried) (length carried) a

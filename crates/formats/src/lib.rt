@@ -1,19 +1,20 @@
-// What all formats do: characters without a code found, data measured and written, data taken apart and its text put into a buffer. A match of the format
-// picks the format's own function; in Open Binary each byte is its own.
+// What all formats do: characters without a code found, data measured and written, data taken apart and its text put into a buffer. The format picks the
+// format's own function; in Open Binary each byte is its own. The writer's are picked by the format's number, the lower two first: of a match of five LLVM
+// makes a table of places to go to, and a logger has no room for one.
 
 use codes::Measured;
 use codes::Needed;
 use codes::Outcome;
-use codes::Stored;
 use codes::Uncoded;
 use header::Format;
+use header::Header;
 ghost use mathlib.Core.Path.{_≡_};
 ghost use Prim.Native.Nat.{_≤_, _<_};
 ghost use lib.ListN.{length, take, getD};
 ghost use Rattle.bits.specs.Says.{Says};
 ghost use Rattle.codes.specs.Steps.Laid.{Fronted};
 ghost use Rattle.codes.specs.Steps.Measure.{countable, TakesApart};
-ghost use Rattle.codes.specs.Steps.Size.{FindsUncoded, Needs, PutsData};
+ghost use Rattle.codes.specs.Steps.Size.{FindsUncoded, Needs};
 ghost use Rattle.header.specs.declared.Format.the-variants.{Open};
 ghost use Rattle.formats.specs.Data.{Carries, Unreadable, coded, AllCoded, dataOf};
 ghost use Rattle.formats.specs.Steps.Text.{MeasuresData, HasRoom, PutsText};
@@ -23,12 +24,17 @@ fn has_code(format: Format, text: &[u8], i: usize) -> bool
     requires { ⌜ i < length (now text) ⌝ }
     ensures { λ r. ⌜ r ≡ coded format (take i (now (text .entry))) (getD (now (text .entry)) i 0) ⌝ }
 {
-    match format {
-        Format::Open => true,
-        Format::PseudoBinary => pseudo_binary_writer::is_coded(text[i]),
-        Format::Numeric => numeric_writer::is_coded(text, i),
-        Format::Shef => shef_writer::is_coded(text[i]),
-        Format::FullAscii => full_ascii_writer::is_coded(text[i]),
+    let number = Header::number(format);
+    if number < Header::NUMERIC {
+        if number == Header::OPEN {
+            return true;
+        }
+        return pseudo_binary_writer::is_coded(text[i]);
+    }
+    match number {
+        Header::NUMERIC => numeric_writer::is_coded(text, i),
+        Header::SHEF => shef_writer::is_coded(text[i]),
+        _ => full_ascii_writer::is_coded(text[i]),
     }
 }
 
@@ -53,12 +59,17 @@ fn all_coded(format: Format, text: &[u8]) -> bool
     if text.len() == 0 {
         return true;
     }
-    match format {
-        Format::Open => all_coded_in(Format::Open, text),
-        Format::PseudoBinary => all_coded_in(Format::PseudoBinary, text),
-        Format::Numeric => all_coded_in(Format::Numeric, text),
-        Format::Shef => all_coded_in(Format::Shef, text),
-        Format::FullAscii => all_coded_in(Format::FullAscii, text),
+    let number = Header::number(format);
+    if number < Header::NUMERIC {
+        if number == Header::OPEN {
+            return all_coded_in(Format::Open, text);
+        }
+        return all_coded_in(Format::PseudoBinary, text);
+    }
+    match number {
+        Header::NUMERIC => all_coded_in(Format::Numeric, text),
+        Header::SHEF => all_coded_in(Format::Shef, text),
+        _ => all_coded_in(Format::FullAscii, text),
     }
 }
 
@@ -94,12 +105,17 @@ fn coded_length(format: Format, text: &[u8], most: u16) -> Needed
     requires { ⌜ AllCoded format (now text) ⌝ }
     ensures { λ r. ⌜ Needs most (coded format) (now (text .entry)) (dataOf format (now (text .entry))) r ⌝ }
 {
-    match format {
-        Format::Open => open_length(text, most),
-        Format::PseudoBinary => pseudo_binary_writer::coded_length(text, most),
-        Format::Numeric => numeric_writer::coded_length(text, most),
-        Format::Shef => shef_writer::coded_length(text, most),
-        Format::FullAscii => full_ascii_writer::coded_length(text, most),
+    let number = Header::number(format);
+    if number < Header::NUMERIC {
+        if number == Header::OPEN {
+            return open_length(text, most);
+        }
+        return pseudo_binary_writer::coded_length(text, most);
+    }
+    match number {
+        Header::NUMERIC => numeric_writer::coded_length(text, most),
+        Header::SHEF => shef_writer::coded_length(text, most),
+        _ => full_ascii_writer::coded_length(text, most),
     }
 }
 
@@ -115,33 +131,21 @@ pub fn data_length(format: Format, text: &[u8], most: u16) -> Needed
 }
 
 // Our data of the text, at the front of the buffer; how many bytes it is.
-fn put_data(format: Format, text: &[u8], out: &mut [u8]) -> usize
+pub fn put_data(format: Format, text: &[u8], out: &mut [u8]) -> usize
     requires { ⌜ AllCoded format (now text) × (length (dataOf format (now text)) ≤ length (now out)) ⌝ }
     ensures { λ r. ⌜ Fronted (dataOf format (now (text .entry))) (now (out .entry)) (now (out .exit)) r ⌝ }
 {
-    match format {
-        Format::Open => bytes::copy(text, out),
-        Format::PseudoBinary => pseudo_binary_writer::put_data(text, out),
-        Format::Numeric => numeric_writer::put_data(text, out),
-        Format::Shef => shef_writer::put_data(text, out),
-        Format::FullAscii => full_ascii_writer::put_data(text, out),
-    }
-}
-
-// Our data of the text at the front of the buffer, where the text has it and there is room for it; whatever their lengths.
-pub fn write(format: Format, text: &[u8], most: u16, out: &mut [u8]) -> Stored
-    ensures { λ r. ⌜ PutsData most (coded format) (now (text .entry)) (dataOf format (now (text .entry))) (now (out .entry)) r (now (out .exit)) ⌝ }
-{
-    let needed = data_length(format, text, most);
-    match needed {
-        Needed::NoCode(index) => Stored::NoCode(index),
-        Needed::TooMany => Stored::TooMany,
-        Needed::Bytes(n) => {
-            if out.len() < n {
-                return Stored::NoRoom(n);
-            }
-            Stored::Bytes(put_data(format, text, out))
+    let number = Header::number(format);
+    if number < Header::NUMERIC {
+        if number == Header::OPEN {
+            return bytes::copy(text, out);
         }
+        return pseudo_binary_writer::put_data(text, out);
+    }
+    match number {
+        Header::NUMERIC => numeric_writer::put_data(text, out),
+        Header::SHEF => shef_writer::put_data(text, out),
+        _ => full_ascii_writer::put_data(text, out),
     }
 }
 

@@ -2,67 +2,62 @@
 -- Assumes nothing.
 use mathlib.Core.Bool.{Bool}
 use mathlib.Core.List.{List, _++_}
-use mathlib.Core.Path.{_≡_, ap, ap₂, subst⁻¹, _∙_}
-use Prim.Native.Nat.{ℕ, _+_, _<_}
+use mathlib.Core.Path.{_≡_, refl, ap, subst⁻¹, _∙_}
+use Prim.Native.Nat.{ℕ, _+_, _≤_, _<_}
 use native.Mathlib.Omega.{arith}
-use lib.ListN.{length, take, drop}
+use lib.ListN.{length, drop}
 use Rattle.header.specs.declared.Format.{Format}
 use Rattle.header.specs.Formats.{formatNumber}
-use Rattle.codes.specs.declared.Stored.the-variants as Stored
+use Rattle.codes.specs.Steps.Size.{Needs}
+use Rattle.codes.specs.declared.Needed.{Needed}
+use Rattle.codes.specs.declared.Needed.the-variants as Needed
 use Rattle.refusals.specs.declared.WriteRefusal.the-variants.{NoCode, TooLong, NoRoom}
 use Rattle.terms.specs.declared.Terms.{Terms}
 use Rattle.writer.specs.declared.WriteAnswer.the-variants.{Written, Refused}
-use Rattle.formats.specs.Data.{Uncoded, dataOf}
-use Rattle.packet.specs.Packet.{packetOf, headerFor}
-use Rattle.writer.specs.Steps.Writing.{DataInPlace}
+use Rattle.formats.specs.Data.{Uncoded, coded, dataOf}
 use Rattle.writer.specs.Writer.{Writes, ourPacket}
-use Rattle.writer.proofs.InPlace.{data-read, behind-data}
 use Rattle.writer.proofs.WriteStages.{clear-nine, clear-eleven, clear-eight}
 
+-- what the text needs
+abbrev pub NeedsIn : ℕ → Format → List ℕ → Needed → Type 0
+NeedsIn most format text = Needs most (coded format) text (dataOf format text)
+
 -- each number of the answer with what it must be, so that a wrong one is refused where it stands
-module _ (terms : Terms) (number : ℕ) (sync : Bool) (text entry exit : List ℕ) (format : Format) (is : formatNumber format ≡ number) (some : 0 < length text) where
-  pub refused-code : (i : ℕ) → DataInPlace (terms .most) format text entry (Stored.NoCode i) exit → (index : ℕ) → index ≡ i
-      → Writes terms number sync text entry (Refused (NoCode index)) exit
+module _ (terms : Terms) (number : ℕ) (sync : Bool) (text entry : List ℕ) (format : Format) (is : formatNumber format ≡ number) (some : 0 < length text) where
+  pub refused-code : (i : ℕ) → NeedsIn (terms .most) format text (Needed.NoCode i) → (index : ℕ) → index ≡ i
+      → Writes terms number sync text entry (Refused (NoCode index)) entry
   refused-code i p index e = (
     record {
-      fault = (format, is, subst⁻¹ (Uncoded format text) e (p .0));
+      fault = (format, is, subst⁻¹ (Uncoded format text) e p);
       first = clear-nine terms number text (length entry) format is some;
     },
-    p .1,
+    refl,
   )
 
-  pub refused-many : DataInPlace (terms .most) format text entry Stored.TooMany exit → Writes terms number sync text entry (Refused TooLong) exit
-  refused-many p =
-      (record { fault = (format, is, p .0 .1); first = clear-eleven terms number text (length entry) format is some (p .0 .0) }, p .1)
+  pub refused-many : NeedsIn (terms .most) format text Needed.TooMany → Writes terms number sync text entry (Refused TooLong) entry
+  refused-many p = (record { fault = (format, is, p .1); first = clear-eleven terms number text (length entry) format is some (p .0) }, refl)
 
-  pub refused-room : (n : ℕ) → DataInPlace (terms .most) format text entry (Stored.NoRoom n) exit → (needed : ℕ) → needed ≡ n + 6
-      → Writes terms number sync text entry (Refused (NoRoom needed)) exit
-  refused-room n p needed e = (
-    record {
-      fault = (format, is, (e ∙ ap (λ (m : ℕ). m + 6) (p .0 .1), omega (arith, p .1)));
-      first = clear-eight terms number text (length entry) format is some (p .0 .0) (omega (arith, p .0 .1, p .0 .2));
-    },
-    p .2,
-  )
+  module _ (n : ℕ) (p : NeedsIn (terms .most) format text (Needed.Bytes n)) (after : List ℕ) where
+    pub refused-room : length entry < n + 6 → (needed : ℕ) → needed ≡ n + 6 → after ≡ entry → Writes terms number sync text entry (Refused (NoRoom needed)) after
+    refused-room short needed e same = (
+      record {
+        fault = (format, is, (e ∙ ap (λ (m : ℕ). m + 6) (p .1), omega arith));
+        first = clear-eight terms number text (length entry) format is some (p .0) (omega (arith, p .1, p .2));
+      },
+      same,
+    )
 
-  -- with header and checksum around the data that is in its place
-  pub written : (n : ℕ) → DataInPlace (terms .most) format text entry (Stored.Bytes n) exit → (long : ℕ) → long ≡ n + 6 → (after : List ℕ)
-      → after ≡ packetOf (headerFor format sync n) (take n (drop 4 exit)) ++ drop (n + 6) exit
-      → Writes terms number sync text entry (Written long) after
-  unfolding ourPacket
-  written n p long e after framed =
-      let carried = dataOf format text in (
-        format,
-        record {
-          named = is;
-          some = some;
-          coded = p .0 .0;
-          few = omega (arith, p .0 .1, p .0 .2);
-          fits = e ∙ ap (λ (m : ℕ). m + 6) (p .0 .1);
-          held = omega (arith, p .1);
-        },
-        framed
-            ∙ ap (λ (l : List ℕ). packetOf (headerFor format sync n) (take n (drop 4 l)) ++ drop (n + 6) l) (p .2)
-            ∙ ap₂ (λ (l m : List ℕ). packetOf (headerFor format sync n) l ++ m) (data-read entry carried n (p .0 .1) (p .1)) (behind-data entry carried n (p .0 .1) (p .1))
-            ∙ ap₂ (λ (k m : ℕ). packetOf (headerFor format sync k) carried ++ drop m entry) (p .0 .1) (let same : n + 6 ≡ long = omega arith in same),
-      )
+    pub written : n + 6 ≤ length entry → (long : ℕ) → long ≡ n + 6 → after ≡ ourPacket format sync text ++ drop (n + 6) entry
+        → Writes terms number sync text entry (Written long) after
+    written room long e there = (
+      format,
+      record {
+        named = is;
+        some = some;
+        coded = p .0;
+        few = omega (arith, p .1, p .2);
+        fits = e ∙ ap (λ (m : ℕ). m + 6) (p .1);
+        held = omega arith;
+      },
+      there ∙ ap (λ (m : ℕ). ourPacket format sync text ++ drop m entry) (let same : n + 6 ≡ long = omega arith in same),
+    )

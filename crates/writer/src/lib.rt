@@ -1,5 +1,5 @@
 // The writer: the entry point `write`.
-use codes::Stored;
+use codes::Needed;
 use header::Format;
 use header::Header;
 use header::WhichFormat;
@@ -11,26 +11,14 @@ ghost use Prim.Native.Nat.{_+_, _^_, _≤_, _<_};
 ghost use lib.ListN.{length, take, drop};
 ghost use Rattle.header.specs.Fields.{bytesOf};
 ghost use Rattle.checksum.specs.Checksum.{checksumBytes};
+ghost use Rattle.formats.specs.Data.{AllCoded, dataOf};
 ghost use Rattle.packet.specs.Packet.{packetOf, headerFor};
 ghost use Rattle.terms.specs.Terms.{MayBeNamed, usual};
-ghost use Rattle.writer.specs.Steps.Writing.{DataInPlace};
-ghost use Rattle.writer.specs.Writer.{Writes};
+ghost use Rattle.writer.specs.Writer.{ourPacket, Writes};
 
 pub enum WriteAnswer {
     Written(usize),
     Refused(WriteRefusal),
-}
-
-// Tests 9, 11 and 8; the data of the text in its place where they are passed. What is lent leaves four bytes before it and two behind.
-fn put_data(most: u16, format: Format, text: &[u8], packet: &mut [u8]) -> Stored
-    requires { ⌜ 0 < length (now text) ⌝ }
-    ensures { λ r. ⌜ DataInPlace most format (now (text .entry)) (now (packet .entry)) r (now (packet .exit)) ⌝ }
-{
-    if packet.len() < 6 {
-        return formats::write(format, text, most, &mut packet[..0]);
-    }
-    let end = packet.len() - 2;
-    formats::write(format, text, most, &mut packet[4..end])
 }
 
 // The four bytes of a header, at the front of the packet.
@@ -67,6 +55,16 @@ fn put_frame(format: Format, sync: bool, n: usize, packet: &mut [u8])
     );
 }
 
+// The packet of a text with codes, whose data has n bytes, at the front of the packet buffer: the data in its place, then the frame around it.
+fn put_packet(format: Format, sync: bool, text: &[u8], n: usize, packet: &mut [u8])
+    requires { ⌜ AllCoded format (now text) × (n ≡ length (dataOf format (now text))) × (n < 2 ^ 14) × (n + 6 ≤ length (now packet)) ⌝ }
+    ensures { λ r. ⌜ now (packet .exit) ≡ ourPacket format sync (now (text .entry)) ++ drop (n + 6) (now (packet .entry)) ⌝ }
+{
+    let end = n + 4;
+    formats::put_data(format, text, &mut packet[4..end]);
+    put_frame(format, sync, n, packet);
+}
+
 // A text written as a packet into a packet buffer, under terms.
 fn write_under(terms: Terms, format: u32, sync: bool, text: &[u8], packet: &mut [u8]) -> WriteAnswer
     requires { ⌜ MayBeNamed terms ⌝ }
@@ -79,13 +77,15 @@ fn write_under(terms: Terms, format: u32, sync: bool, text: &[u8], packet: &mut 
     if text.len() == 0 {
         return WriteAnswer::Refused(WriteRefusal::Empty);
     }
-    let stored = put_data(terms.most, named, text, packet);
-    match stored {
-        Stored::NoCode(index) => WriteAnswer::Refused(WriteRefusal::NoCode(index)),
-        Stored::TooMany => WriteAnswer::Refused(WriteRefusal::TooLong),
-        Stored::NoRoom(n) => WriteAnswer::Refused(WriteRefusal::NoRoom(n + 6)),
-        Stored::Bytes(n) => {
-            put_frame(named, sync, n, packet);
+    let needed = formats::data_length(named, text, terms.most);
+    match needed {
+        Needed::NoCode(index) => WriteAnswer::Refused(WriteRefusal::NoCode(index)),
+        Needed::TooMany => WriteAnswer::Refused(WriteRefusal::TooLong),
+        Needed::Bytes(n) => {
+            if packet.len() < n + 6 {
+                return WriteAnswer::Refused(WriteRefusal::NoRoom(n + 6));
+            }
+            put_packet(named, sync, text, n, packet);
             WriteAnswer::Written(n + 6)
         }
     }

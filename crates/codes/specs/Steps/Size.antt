@@ -1,15 +1,13 @@
 -- What a text asks before it is written, as functions answer it: a code for each character, and data of no more bytes than a caller allows.
 -- Assumes nothing.
 use mathlib.Core.Bool.{Bool}
-use mathlib.Core.List.{List, _++_}
+use mathlib.Core.List.{List}
 use mathlib.Core.Path.{_≡_}
 use Prim.Native.Nat.{ℕ, _≤_, _<_}
-use lib.ListN.{length, drop}
+use lib.ListN.{length}
 use Rattle.codes.specs.Coded.{CodedBelow, FirstUncoded}
 use Rattle.codes.specs.declared.Needed.{Needed}
 use Rattle.codes.specs.declared.Needed.the-variants.{NoCode, TooMany, Bytes}
-use Rattle.codes.specs.declared.Stored.{Stored}
-use Rattle.codes.specs.declared.Stored.the-variants as Stored
 use Rattle.codes.specs.declared.Uncoded.{Uncoded}
 use Rattle.codes.specs.declared.Uncoded.the-variants.{At, Nowhere}
 
@@ -24,11 +22,3 @@ abbrev pub Needs : ℕ → (List ℕ → ℕ → Bool) → List ℕ → List ℕ
 Needs most has text carried (NoCode index) = FirstUncoded has text index
 Needs most has text carried TooMany = CodedBelow has text (length text) × (most < length carried)
 Needs most has text carried (Bytes n) = CodedBelow has text (length text) × (n ≡ length carried) × (n ≤ most)
-
--- that data written into a buffer: at its front, so many bytes, and behind it the buffer as it was; or the buffer as it was, and why
-abbrev pub PutsData : ℕ → (List ℕ → ℕ → Bool) → List ℕ → List ℕ → List ℕ → Stored → List ℕ → Type 0
-PutsData most has text carried entry (Stored.NoCode index) exit = Needs most has text carried (NoCode index) × (exit ≡ entry)
-PutsData most has text carried entry Stored.TooMany exit = Needs most has text carried TooMany × (exit ≡ entry)
-PutsData most has text carried entry (Stored.NoRoom n) exit = Needs most has text carried (Bytes n) × (length entry < n) × (exit ≡ entry)
-PutsData most has text carried entry (Stored.Bytes n) exit =
-    Needs most has text carried (Bytes n) × (n ≤ length entry) × (exit ≡ carried ++ drop n entry)

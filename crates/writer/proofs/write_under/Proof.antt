@@ -1,19 +1,16 @@
 -- `writer::write_under` meets its contract: at each return the conditions of the tests passed do not hold, and the next one's does.
 -- Assumes nothing.
 use mathlib.Core.List.{List, [], _∷_}
-use mathlib.Core.Path.{_≡_, refl, ap, subst}
-use Prim.Native.Nat.{ℕ, _+_, _^_, _≤_, _<_}
+use mathlib.Core.Path.{_≡_, refl, subst}
+use Prim.Native.Nat.{ℕ, _<_}
 use native.Mathlib.Omega.{arith}
 use borrow.Author.Needs.{needs}
 use lib.ListN.{length}
 use Rattle.header.specs.declared.Format.{Format}
 use Rattle.header.specs.Formats.{FormatOfNumber, formatNumber}
-use Rattle.codes.specs.declared.Stored.{Stored}
-use Rattle.codes.specs.declared.Stored.the-variants.{NoCode, TooMany, NoRoom, Bytes}
-use Rattle.formats.specs.Data.{dataOf}
-use Rattle.writer.specs.Steps.Writing.{DataInPlace}
-use Rattle.writer.proofs.InPlace.{same-room}
-use Rattle.writer.proofs.WriteAnswers.{refused-code, refused-many, refused-room, written}
+use Rattle.codes.specs.declared.Needed.{Needed}
+use Rattle.codes.specs.declared.Needed.the-variants.{NoCode, TooMany, Bytes}
+use Rattle.writer.proofs.WriteAnswers.{NeedsIn, refused-code, refused-many, refused-room, written}
 use Rattle.writer.proofs.WriteStages.{clear-twelve, clear-ten}
 use Rattle.writer.proofs.write_under.Statement.{statement}
 use Rattle.writer.proofs.write_under.Tie as tie
@@ -34,27 +31,28 @@ named-at : (c : tie.After-known-told) → formatNumber (format-at c) ≡ start c
 named-at c =
     subst (FormatOfNumber (start c .args .format)) (c .before .which .given .1) (c .before .before .before .format-of .ensures)
 
-abbrev known : tie.After-put-data → tie.After-known-told
-known p = p .before .before .before
+abbrev known : tie.After-data-length → tie.After-known-told
+known d = d .before .before
 
-some-at : (p : tie.After-put-data) → 0 < length (start (known p) .args .text .now)
-some-at p = omega (arith, p .before .before .if1 .left)
+some-at : (d : tie.After-data-length) → 0 < length (start (known d) .args .text .now)
+some-at d = omega (arith, d .before .if1 .left)
 
-placed-at : (p : tie.After-put-data) (r : Stored) → p .put-data .result ≡ r
-    → DataInPlace (start (known p) .args .terms .most) (format-at (known p)) (start (known p) .args .text .now) (start (known p) .args .packet .now) r (p .put-data .last .1 .1 .1 .0)
-placed-at p r e =
-    let k = known p in
-    subst
-    (λ (answer : Stored). DataInPlace (start k .args .terms .most) (format-at k) (start k .args .text .now) (start k .args .packet .now) answer (p .put-data .last .1 .1 .1 .0))
-    e (p .put-data .ensures)
+needs-at : (d : tie.After-data-length) (r : Needed) → d .data-length .result ≡ r
+    → NeedsIn (start (known d) .args .terms .most) (format-at (known d)) (start (known d) .args .text .now) r
+needs-at d r e =
+    let k = known d in
+    subst (NeedsIn (start k .args .terms .most) (format-at k) (start k .args .text .now)) e (d .data-length .ensures)
 
--- where the data is in its place, there is room around it
-room-at : (p : tie.After-put-data) (n : ℕ) → p .put-data .result ≡ Bytes n → (n < 2 ^ 14) × (n + 6 ≤ length (p .put-data .last .1 .1 .1 .0))
-room-at p n e =
-    let k = start (known p) .args in
-    let d = placed-at p (Bytes n) e in
-    let same = same-room (k .packet .now) (dataOf (format-at (known p)) (k .text .now)) n (d .0 .1) (d .1) in
-    (omega (arith, d .0 .2, start (known p) .pre .bytes), omega (arith, d .1, same, ap length (d .2)))
+-- where the text has codes and its data is short enough
+abbrev bytes-at : tie.After-known-told3 → ℕ
+bytes-at c = c .before .needed2 .given .0 .0
+
+abbrev measured : tie.After-known-told3 → tie.After-data-length
+measured c = c .before .before .before
+
+enough-at : (c : tie.After-known-told3)
+    → NeedsIn (start (known (measured c)) .args .terms .most) (format-at (known (measured c))) (start (known (measured c)) .args .text .now) (Bytes (bytes-at c))
+enough-at c = needs-at (measured c) (Bytes (bytes-at c)) (c .before .needed2 .given .1)
 
 format-of-requires : tie.Need-format-of-requires
 format-of-requires c κs = search needs
@@ -86,82 +84,68 @@ returns-2 c =
       refl,
     )
 
-put-data-requires : tie.Need-put-data-requires
-put-data-requires c κs = search needs
+data-length-requires : tie.Need-data-length-requires
+data-length-requires c κs = search needs
 
-enum-known-stored : tie.Need-enum-known-stored
-enum-known-stored c = search needs
+enum-known-needed : tie.Need-enum-known-needed
+enum-known-needed c = search needs
 
 enum-told-2 : tie.Need-enum-told-2
 enum-told-2 c = search needs
 
-enum-known-stored-2 : tie.Need-enum-known-stored-2
-enum-known-stored-2 c = search needs
+enum-known-needed-2 : tie.Need-enum-known-needed-2
+enum-known-needed-2 c = search needs
+
+add-if2 : tie.Need-add-if2
+add-if2 c = omega (arith, enough-at c .2)
 
 add-t21 : tie.Need-add-t21
-add-t21 c =
-    let p = c .before .before .before .before .before in
-    let n = c .before .stored2 .given in
-    omega (arith, placed-at p (NoRoom (n .0 .0)) (n .1) .0 .2)
+add-t21 c = omega (arith, enough-at (c .before) .2)
 
-enum-known-stored-3 : tie.Need-enum-known-stored-3
-enum-known-stored-3 c = search needs
+returns-3 : tie.Need-returns-3
+returns-3 c =
+    let passed = c .before in
+    let d = measured passed in
+    let a = start (known d) .args in
+    refused-room (a .terms) (a .format) (a .sync) (a .text .now) (a .packet .now) (format-at (known d)) (named-at (known d)) (some-at d) (bytes-at passed) (enough-at passed) _
+    (omega (arith, c .if2 .taken)) _ (omega arith) refl
 
-put-frame-requires : tie.Need-put-frame-requires
-put-frame-requires c κs =
-    let p = c .before .before .before .before .before .before in
-    let n = c .before .before .stored3 .given in
-    room-at p (n .0 .0) (n .1)
+put-packet-requires : tie.Need-put-packet-requires
+put-packet-requires c κs =
+    let k = c .before .before in
+    let enough = enough-at k in
+    (enough .0, enough .1, omega (arith, enough .2, start (known (measured k)) .pre .bytes), omega (arith, c .before .if2 .left))
 
-add-t26 : tie.Need-add-t26
-add-t26 c =
-    let p = c .before .before .before .before .before .before .before .before .before in
-    let n = c .before .before .before .before .before .stored3 .given in
-    omega (arith, room-at p (n .0 .0) (n .1) .0)
+add-t18 : tie.Need-add-t18
+add-t18 c = search needs
+
+returns-4 : tie.Need-returns-4
+returns-4 c =
+    let d = c .before .before .before in
+    let a = start (known d) .args in
+    let i = c .before .needed .given in
+    refused-code (a .terms) (a .format) (a .sync) (a .text .now) (a .packet .now) (format-at (known d)) (named-at (known d)) (some-at d) (i .0 .0)
+    (needs-at d (NoCode (i .0 .0)) (i .1)) _ (omega arith)
+
+returns-5 : tie.Need-returns-5
+returns-5 c =
+    let d = c .before .before in
+    let a = start (known d) .args in
+    refused-many (a .terms) (a .format) (a .sync) (a .text .now) (a .packet .now) (format-at (known d)) (named-at (known d)) (some-at d)
+    (needs-at d TooMany (c .enum-told2 .given .1))
 
 same-length : tie.Need-same-length
 same-length c = search needs
 
-returns-3 : tie.Need-returns-3
-returns-3 c =
-    let p = c .before .before .before .before .before in
-    let a = start (known p) .args in
-    let i = c .before .stored .given in
-    refused-code (a .terms) (a .format) (a .sync) (a .text .now) (a .packet .now) (p .put-data .last .1 .1 .1 .0) (format-at (known p)) (named-at (known p)) (some-at p)
-    (i .0 .0) (placed-at p (NoCode (i .0 .0)) (i .1)) _ (omega arith)
-
-same-length-2 : tie.Need-same-length-2
-same-length-2 c = search needs
-
-returns-4 : tie.Need-returns-4
-returns-4 c =
-    let p = c .before .before .before .before in
-    let a = start (known p) .args in
-    refused-many (a .terms) (a .format) (a .sync) (a .text .now) (a .packet .now) (p .put-data .last .1 .1 .1 .0) (format-at (known p)) (named-at (known p)) (some-at p)
-    (placed-at p TooMany (c .enum-told2 .given .1))
-
-same-length-3 : tie.Need-same-length-3
-same-length-3 c = search needs
-
-returns-5 : tie.Need-returns-5
-returns-5 c =
-    let p = c .before .before .before .before .before in
-    let a = start (known p) .args in
-    let n = c .before .stored2 .given in
-    refused-room (a .terms) (a .format) (a .sync) (a .text .now) (a .packet .now) (p .put-data .last .1 .1 .1 .0) (format-at (known p)) (named-at (known p)) (some-at p)
-    (n .0 .0) (placed-at p (NoRoom (n .0 .0)) (n .1)) _ (omega arith)
-
-same-length-4 : tie.Need-same-length-4
-same-length-4 c = search needs
-
 returns-6 : tie.Need-returns-6
 returns-6 c =
-    let p = c .before .before .before .before .before .before .before .before .before in
-    let a = start (known p) .args in
-    let n = c .before .before .before .before .before .stored3 .given in
-    let f = c .before .before .put-frame in
-    written (a .terms) (a .format) (a .sync) (a .text .now) (a .packet .now) (p .put-data .last .1 .1 .1 .0) (format-at (known p)) (named-at (known p)) (some-at p)
-    (n .0 .0) (placed-at p (Bytes (n .0 .0)) (n .1)) _ (omega arith) (f .last .1 .1 .1 .0) (f .ensures)
+    let p = c .before .before in
+    let e = p .before .before in
+    let k = e .before in
+    let d = measured k in
+    let a = start (known d) .args in
+    written (a .terms) (a .format) (a .sync) (a .text .now) (a .packet .now) (format-at (known d)) (named-at (known d)) (some-at d) (bytes-at k) (enough-at k)
+    (p .put-packet .last .1 .1 .1 .1 .0) (omega (arith, e .if2 .left)) _ (omega arith) (p .put-packet .ensures)
 
 pub write-under-spec : {M : Type 1} → statement M
 write-under-spec =
@@ -172,19 +156,16 @@ write-under-spec =
     enum-told
     returns
     returns-2
-    put-data-requires
-    enum-known-stored
+    data-length-requires
+    enum-known-needed
     enum-told-2
-    enum-known-stored-2
+    enum-known-needed-2
+    add-if2
     add-t21
-    enum-known-stored-3
-    put-frame-requires
-    add-t26
-    same-length
     returns-3
-    same-length-2
+    put-packet-requires
+    add-t18
     returns-4
-    same-length-3
     returns-5
-    same-length-4
+    same-length
     returns-6)
