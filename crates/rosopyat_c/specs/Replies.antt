@@ -1,7 +1,6 @@
--- The answers of the entry points as plain structs: `refusal` is its number (RULES, Refusals), 0 where the call is accepted; `number` comes with it; and every
+-- The reader's answer as a plain struct: `refusal` is its number (RULES, Refusals), 0 where the call is accepted; `number` comes with it; and every
 -- member that a refusal does not name is 0.
 -- Assumes nothing.
-use mathlib.Core.Bool.{Bool}
 use mathlib.Core.List.{List}
 use mathlib.Core.Path.{_≡_}
 use Prim.Native.Nat.{ℕ}
@@ -9,15 +8,10 @@ use Rattle.header.specs.Fields.{oneIf}
 use Rattle.header.specs.Formats.{formatNumber}
 use Rattle.reader.specs.declared.ReadAnswer.{ReadAnswer}
 use Rattle.reader.specs.declared.ReadAnswer.the-variants.{Accepted, Refused}
-use Rattle.writer.specs.declared.WriteAnswer.{WriteAnswer}
-use Rattle.writer.specs.declared.WriteAnswer.the-variants.{Written, Refused as NotWritten}
-use Rattle.refusals.specs.Refusals.{numberIn, valueIn, readTold, writeTold}
+use Rattle.refusals.specs.Refusals.{numberIn, valueIn, readTold}
 use Rattle.reader.specs.Reader.{Reads}
 use Rattle.terms.specs.declared.Terms.{Terms}
-use Rattle.terms.specs.Terms.{usual}
-use Rattle.writer.specs.Writer.{Writes}
 use Rattle.rosopyat_c.specs.declared.ReadReply.{ReadReply}
-use Rattle.rosopyat_c.specs.declared.WriteReply.{WriteReply}
 
 abbrev pub readReply : ReadAnswer → ReadReply
 readReply (Accepted reading) =
@@ -45,17 +39,8 @@ readReply (Refused refusal) =
       used = 0;
     }
 
-abbrev pub writeReply : WriteAnswer → WriteReply
-writeReply (Written length) = record { refusal = 0; number = 0; length = length }
-writeReply (NotWritten refusal) = record { refusal = numberIn (writeTold refusal); number = valueIn (writeTold refusal); length = 0 }
-
 -- the reply is that of an answer that the entry point may give, under the terms of the call
 pub record RepliesToRead (terms : Terms) (packet entry : List ℕ) (reply : ReadReply) (exit : List ℕ) : Type 0 where
   pub answer : ReadAnswer
   pub reads : Reads terms packet entry answer exit
   pub is : reply ≡ readReply answer
-
-pub record RepliesToWrite (number : ℕ) (sync : Bool) (text entry : List ℕ) (reply : WriteReply) (exit : List ℕ) : Type 0 where
-  pub answer : WriteAnswer
-  pub writes : Writes usual number sync text entry answer exit
-  pub is : reply ≡ writeReply answer

@@ -1,10 +1,11 @@
 // The reader and the writer for C and Rust: the entry points that need a buffer, their answers as plain structs.
 use header::Header;
 use reader::ReadAnswer;
-use writer::WriteAnswer;
+use rosopyat_logger::WriteReply;
 ghost use mathlib.Core.Path.{_≡_};
 ghost use Rattle.terms.specs.Terms.{naming, usual};
-ghost use Rattle.rosopyat_c.specs.Replies.{readReply, RepliesToRead, RepliesToWrite};
+ghost use Rattle.rosopyat_logger.specs.Replies.{RepliesToWrite};
+ghost use Rattle.rosopyat_c.specs.Replies.{readReply, RepliesToRead};
 
 // A packet that was read (`refusal` 0), or why not: then every member but `refusal` and `number` is 0.
 #[repr(C)]
@@ -18,13 +19,6 @@ pub struct ReadReply {
     pub data_length: usize,
     pub text_length: usize,
     pub used: usize,
-}
-
-#[repr(C)]
-pub struct WriteReply {
-    pub refusal: u32,
-    pub number: usize,
-    pub length: usize,
 }
 
 // The reader's answer as a plain struct.
@@ -74,6 +68,7 @@ pub extern "C" fn rosopyat_read(packet: &[u8], text: &mut [u8]) -> ReadReply
     reply(reader::read(packet, text))
 }
 
+// As for loggers.
 #[no_mangle]
 pub extern "C" fn rosopyat_write(
     format: u32,
@@ -83,17 +78,5 @@ pub extern "C" fn rosopyat_write(
 ) -> WriteReply
     ensures { λ r. ⌜ RepliesToWrite format sync (now (text .entry)) (now (packet .entry)) r (now (packet .exit)) ⌝ }
 {
-    let answer = writer::write(format, sync, text, packet);
-    match answer {
-        WriteAnswer::Written(length) => WriteReply {
-            refusal: 0,
-            number: 0,
-            length,
-        },
-        WriteAnswer::Refused(refusal) => WriteReply {
-            refusal: refusal.number(),
-            number: refusal.value(),
-            length: 0,
-        },
-    }
+    rosopyat_logger::rosopyat_write(format, sync, text, packet)
 }

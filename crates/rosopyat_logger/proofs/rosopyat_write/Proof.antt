@@ -1,4 +1,4 @@
--- `rosopyat_c::rosopyat_write` meets its contract.
+-- `rosopyat_logger::rosopyat_write` meets its contract.
 -- Assumes nothing.
 use mathlib.Core.Path.{refl, subst}
 use borrow.Author.Needs.{needs}
@@ -6,8 +6,8 @@ use Rattle.writer.specs.declared.WriteAnswer.{WriteAnswer}
 use Rattle.writer.specs.declared.WriteAnswer.the-variants.{Written, Refused}
 use Rattle.terms.specs.Terms.{usual}
 use Rattle.writer.specs.Writer.{Writes}
-use Rattle.rosopyat_c.proofs.rosopyat_write.Statement.{statement}
-use Rattle.rosopyat_c.proofs.rosopyat_write.Tie as tie
+use Rattle.rosopyat_logger.proofs.rosopyat_write.Statement.{statement}
+use Rattle.rosopyat_logger.proofs.rosopyat_write.Tie as tie
 
 write-requires : tie.Need-write-requires
 write-requires c κs = search needs
