@@ -3,6 +3,7 @@
 
 use codes::Held;
 use codes::Sent;
+ghost use mathlib.Core.Bool.{cond};
 ghost use mathlib.Core.Path.{_≡_};
 ghost use mathlib.Core.Logic.{_⊎_};
 ghost use Prim.Native.Nat.{_+_, _/_, _^_, _≤_, _<_};
@@ -106,4 +107,11 @@ pub fn block_end(from: usize, length: usize) -> usize
         return length;
     }
     from + 7000
+}
+
+// One of two numbers that are both at hand: a choice without a branch, which is made for several characters at once.
+pub fn pick(yes: bool, one: u16, other: u16) -> u16
+    ensures { λ r. ⌜ r ≡ cond yes one other ⌝ }
+{
+    if yes { one } else { other }
 }

@@ -1,7 +1,7 @@
 -- What goes for a text as the writer sends it: for a character, for the next ones, and the space at the end.
 -- Assumes nothing.
 use mathlib.Core.Path.{_≡_, refl, sym, ap, subst, subst⁻¹, subst₂, _∙_}
-use mathlib.Core.Bool.{Bool, true, false, not, _&&_, _||_, and-false}
+use mathlib.Core.Bool.{Bool, true, false, cond, not, _&&_, _||_, and-false}
 use mathlib.Core.List.{List, [], _∷_, _++_, append-nil}
 use Prim.Native.Nat.{ℕ, zero, suc, _+_, _*_, _/_, _%_, _^_, _≤_, _<_}
 use native.Mathlib.Omega.{arith}
@@ -35,11 +35,10 @@ use Rattle.numeric_writer.proofs.Counting.{own-nothing, own-same}
 
 -- ---- what goes for one character
 
--- what goes for a character that is no line end, by what it is modulo 32: how many bits, and in the lowest eight the codes
-abbrev rows : List ℕ
-rows =
-    0x40A ∷ 0x8DD ∷ 0x8DD ∷ 0x8BD ∷ 0x8DD ∷ 0x8DD ∷ 0x8DD ∷ 0x8DD ∷ 0x8DD ∷ 0x8DD ∷ 0x8DD ∷ 0x40B ∷ 0x40C ∷ 0x40D ∷ 0x40E ∷ 0x40F
-    ∷ 0x400 ∷ 0x401 ∷ 0x402 ∷ 0x403 ∷ 0x404 ∷ 0x405 ∷ 0x406 ∷ 0x407 ∷ 0x408 ∷ 0x409 ∷ 0x8EE ∷ 0x8DD ∷ 0x8DD ∷ 0x8DB ∷ 0x8DD ∷ 0x800 ∷ []
+-- what goes for a character that is no line end, as the code picks it: how many bits, and in the lowest eight the codes
+abbrev picked : ℕ → ℕ
+picked c =
+    cond (eqb c 69) 0x8DD (cond (eqb c 61) 0x8DB (cond (eqb c 58) 0x8EE (cond (eqb c 35) 0x8BD (cond (eqb c 32) 0x40A (0x400 + c % 16)))))
 
 abbrev goes : ℕ → ℕ → Bool
 goes c packed = same (bitsFor 0 c) (low (packed / 256) (packed % 256)) && (ltb (packed % 256) (2 ^ (packed / 256)) && leb (packed / 256) 8)
@@ -47,7 +46,7 @@ goes c packed = same (bitsFor 0 c) (low (packed / 256) (packed % 256)) && (ltb (
 abbrev plain : ℕ → Bool
 plain c = stands c && leb 32 c
 
-all-go : T (every (λ (c : ℕ). not (plain c) || goes c (getD rows (c % 32) 0)) (numbers 0 256))
+all-go : T (every (λ (c : ℕ). not (plain c) || goes c (picked c)) (numbers 0 256))
 unfolding bitsFor inFour own eachAfter translation itself specials sent table consecutive codeFor characters numbers ended found saying same codes low bit first
     every
 all-go = tt
@@ -64,35 +63,16 @@ own-goes c packed t =
       long = leb→le (packed / 256) 8 (and-right small few sizes);
     }
 
-pub row-goes : (c k : ℕ) {packed : ℕ} → c < 256 → T (stands c) × (32 ≤ c) → c % 32 ≡ k → packed ≡ getD rows k 0 → Packed c packed
-row-goes c k h s e p =
-    subst⁻¹ (Packed c) (p ∙ ap (λ (n : ℕ). getD rows n 0) (sym e))
-    (own-goes c (getD rows (c % 32) 0)
-    (implied-below 256 plain (λ (x : ℕ). goes x (getD rows (x % 32) 0)) all-go c h (and-both (stands c) (leb 32 c) (s .0) (le→leb 32 c (s .1)))))
+picked-goes : (c : ℕ) → c < 256 → T (stands c) × (32 ≤ c) → Packed c (picked c)
+picked-goes c h s =
+    own-goes c (picked c) (implied-below 256 plain (λ (x : ℕ). goes x (picked x)) all-go c h (and-both (stands c) (leb 32 c) (s .0) (le→leb 32 c (s .1))))
 
--- the rows that are left where the others are ruled out, the last first
-abbrev pub NoneOf : List ℕ → ℕ → Type 0
-NoneOf [] k = Unit
-NoneOf (j ∷ js) k = NoneOf js k × (k ≡ j → ⊥)
-
-abbrev others : List ℕ
-others = 31 ∷ 26 ∷ 29 ∷ 3 ∷ 15 ∷ 14 ∷ 13 ∷ 12 ∷ 11 ∷ 0 ∷ 25 ∷ 24 ∷ 23 ∷ 22 ∷ 21 ∷ 20 ∷ 19 ∷ 18 ∷ 17 ∷ 16 ∷ []
-
-abbrev either : List ℕ → ℕ → Bool
-either [] k = eqb (getD rows k 0) 0x8DD
-either (j ∷ js) k = eqb k j || either js k
-
-left-over : (js : List ℕ) (k : ℕ) → NoneOf js k → T (either js k) → T (eqb (getD rows k 0) 0x8DD)
-left-over [] k n t = t
-left-over (j ∷ js) k n t = left-over js k (n .0) (subst (λ (b : Bool). T (b || either js k)) (ne-eqb k j (n .1)) t)
-
-all-rows : T (every (either others) (numbers 0 32))
-unfolding numbers every
-all-rows = tt
-
-pub rest-goes : (c k : ℕ) {packed : ℕ} → c < 256 → T (stands c) × (32 ≤ c) → c % 32 ≡ k → k < 32 → NoneOf others k → packed ≡ 0x8DD → Packed c packed
-rest-goes c k h s e l n p =
-    row-goes c k h s e (p ∙ sym (eqb→eq (getD rows k 0) 0x8DD (left-over others k n (every-below 32 (either others) all-rows k l))))
+pub picks-goes : (c : ℕ) {base hash colon equals last : ℕ} → c < 256 → T (stands c) × (32 ≤ c) → base ≡ cond (eqb c 32) 0x40A (0x400 + c % 16)
+    → hash ≡ cond (eqb c 35) 0x8BD base → colon ≡ cond (eqb c 58) 0x8EE hash → equals ≡ cond (eqb c 61) 0x8DB colon → last ≡ cond (eqb c 69) 0x8DD equals
+    → Packed c last
+picks-goes c h s e₁ e₂ e₃ e₄ e₅ =
+    let or : ℕ → ℕ → ℕ → ℕ = λ character code. cond (eqb c character) code in
+    subst⁻¹ (Packed c) (e₅ ∙ ap (or 69 0x8DD) (e₄ ∙ ap (or 61 0x8DB) (e₃ ∙ ap (or 58 0x8EE) (e₂ ∙ ap (or 35 0x8BD) e₁)))) (picked-goes c h s)
 
 -- ---- after another character
 

@@ -118,40 +118,17 @@ pub fn coded_length(text: &[u8], most: u16) -> Needed
     Needed::Bytes((n + 1) / 2)
 }
 
-// What goes for a character that is no line end, by Table 4 and Table 5: how many bits, and in the lowest eight the codes. No two of these characters are the
-// same modulo 32, and none is 31: with 31 LLVM makes a table of 32 rows of the match, and tests no bound. One of 64 rows is too long to be taken into callers.
+// What goes for a character that is no line end, by Table 4 and Table 5: how many bits, and in the lowest eight the codes. The base characters but the space
+// have the number of their code in their lowest four bits. Of a match LLVM makes a table, and a logger has no room for one.
 fn packed_codes(c: u8) -> u16
     requires { ⌜ T (stands c) × (32 ≤ c) ⌝ }
     ensures { λ r. ⌜ Packed c r ⌝ }
 {
-    match c % 32 {
-        // the digits
-        16 => 0x400,
-        17 => 0x401,
-        18 => 0x402,
-        19 => 0x403,
-        20 => 0x404,
-        21 => 0x405,
-        22 => 0x406,
-        23 => 0x407,
-        24 => 0x408,
-        25 => 0x409,
-        // space + , - . /
-        0 => 0x40A,
-        11 => 0x40B,
-        12 => 0x40C,
-        13 => 0x40D,
-        14 => 0x40E,
-        15 => 0x40F,
-        // # = :
-        3 => 0x8BD,
-        29 => 0x8DB,
-        26 => 0x8EE,
-        // none of them
-        31 => 0x800,
-        // E
-        _ => 0x8DD,
-    }
+    let base = bit_sender::pick(c == b' ', 0x40A, 0x400 + (c % 16) as u16);
+    let hash = bit_sender::pick(c == b'#', 0x8BD, base);
+    let colon = bit_sender::pick(c == b':', 0x8EE, hash);
+    let equals = bit_sender::pick(c == b'=', 0x8DB, colon);
+    bit_sender::pick(c == b'E', 0x8DD, equals)
 }
 
 // What goes for a line end: nothing where it is LF right behind CR.

@@ -40,75 +40,6 @@ coded-told = same-below 256 codedTest coded tt
 abbrev number : ℕ → ℕ
 number c = value (codes (own 0 c))
 
--- for the characters of a range
-number-in : (a n : ℕ) (f : ℕ → ℕ) → T (every (λ (c : ℕ). eqb (number c) (f c)) (numbers a n)) → (c : ℕ) → a ≤ c → c < a + n → f c ≡ number c
-number-in a n f t c h k = sym (eqb→eq (number c) (f c) (every-at (λ (x : ℕ). eqb (number x) (f x)) (numbers a n) t c (numbers-in a n c h k)))
-
--- a line end's, those of three characters, and of three ranges
-module _ (c : ℕ) where
-  pub number-return : c ≡ 13 → 58 ≡ number c
-  unfolding table consecutive codeFor characters numbers low bit value ended saying same own codes first
-  number-return e = subst⁻¹ (λ (x : ℕ). 58 ≡ number x) e refl
-
-  pub number-feed : c ≡ 10 → 58 ≡ number c
-  unfolding table consecutive codeFor characters numbers low bit value ended saying same own codes first
-  number-feed e = subst⁻¹ (λ (x : ℕ). 58 ≡ number x) e refl
-
-  pub number-space : c ≡ 32 → 10 ≡ number c
-  unfolding table consecutive codeFor characters numbers low bit value ended saying same own codes first
-  number-space e = subst⁻¹ (λ (x : ℕ). 10 ≡ number x) e refl
-
-  pub number-hash : c ≡ 35 → 59 ≡ number c
-  unfolding table consecutive codeFor characters numbers low bit value ended saying same own codes first
-  number-hash e = subst⁻¹ (λ (x : ℕ). 59 ≡ number x) e refl
-
-  pub number-equals : c ≡ 61 → 60 ≡ number c
-  unfolding table consecutive codeFor characters numbers low bit value ended saying same own codes first
-  number-equals e = subst⁻¹ (λ (x : ℕ). 60 ≡ number x) e refl
-
-  pub number-sign : 43 ≤ c → c < 48 → c - 32 ≡ number c
-  unfolding table consecutive codeFor characters numbers low bit value ended saying same own codes every first
-  number-sign h k = number-in 43 5 (λ (x : ℕ). x - 32) tt c h k
-
-  pub number-digit : 48 ≤ c → c < 58 → c - 48 ≡ number c
-  unfolding table consecutive codeFor characters numbers low bit value ended saying same own codes every first
-  number-digit h k = number-in 48 10 (λ (x : ℕ). x - 48) tt c h k
-
-  pub number-colon : 58 ≤ c → c < 60 → c + 3 ≡ number c
-  unfolding table consecutive codeFor characters numbers low bit value ended saying same own codes every first
-  number-colon h k = number-in 58 2 (λ (x : ℕ). x + 3) tt c h k
-
-  pub number-letter : 65 ≤ c → c < 91 → c - 33 ≡ number c
-  unfolding table consecutive codeFor characters numbers low bit value ended saying same own codes every first
-  number-letter h k = number-in 65 26 (λ (x : ℕ). x - 33) tt c h k
-
--- the others are letters
-or-else : (a b : Bool) → (T a → ⊥) → T (a || b) → T b
-or-else true b h t = absurd (h tt)
-or-else false b h t = t
-
-neither : (a b : Bool) → (T a → ⊥) → (T b → ⊥) → T (a || b) → ⊥
-neither a b h k t = k (or-else a b h t)
-
-not-at : (c d : ℕ) → (c ≡ d → ⊥) → T (eqb c d) → ⊥
-not-at c d h t = h (eqb→eq c d t)
-
-between : (a b c : ℕ) → T (leb a c && leb c b) → (a ≤ c) × (c ≤ b)
-between a b c t = (leb→le a c (and-left (leb a c) (leb c b) t), leb→le c b (and-right (leb a c) (leb c b) t))
-
-pub letter : (c : ℕ) → c < 256 → T (coded c) → (c ≡ 13 → ⊥) → (c ≡ 10 → ⊥) → (c ≡ 32 → ⊥) → (c ≡ 35 → ⊥) → (c ≡ 61 → ⊥)
-    → ((43 ≤ c) → (c ≤ 59) → ⊥) → (65 ≤ c) × (c ≤ 90)
-letter c h t return feed space hash equals middle =
-    let singles : Bool = eqb c 32 || (eqb c 35 || eqb c 61) in
-    let range : Bool = leb 43 c && leb c 59 in
-    let letters : Bool = leb 65 c && leb c 90 in
-    between 65 90 c
-    (or-else range letters (λ x. let m = between 43 59 c x in middle (m .0) (m .1))
-    (or-else singles (range || letters)
-    (neither (eqb c 32) (eqb c 35 || eqb c 61) (not-at c 32 space) (neither (eqb c 35) (eqb c 61) (not-at c 35 hash) (not-at c 61 equals)))
-    (or-else (eqb c 13 || eqb c 10) (singles || (range || letters)) (neither (eqb c 13) (eqb c 10) (not-at c 13 return) (not-at c 10 feed))
-    (subst⁻¹ T (coded-told c h) t))))
-
 -- ---- its width
 
 -- the code of a character that comes after another: none for LF right behind CR, and else what it has by itself
@@ -152,7 +83,7 @@ module _ (c : ℕ) (small : c < 256) (t : T (coded c)) where
   pub bits-few : bitsFor 0 c ≤ 6
   bits-few = subst⁻¹ (λ (n : ℕ). n ≤ 6) bits-told (either (sixTest c))
 
--- ---- what it has in the table
+-- ---- what it has
 
 pub coded-low : (c : ℕ) → c < 256 → T (coded c) → c < 91
 unfolding table consecutive codeFor characters numbers ended saying same found coded every first
@@ -187,6 +118,27 @@ module _ (c : ℕ) (small : c < 256) (t : T (coded c)) where
       (not-feed (leb 64 (entryOf c)) (eqb c 10)
       (and-right (eqb (entryOf c % 64) (number c)) (not (leb 64 (entryOf c) && eqb c 10)) (entry-test c small t)) (le→leb 64 (entryOf c) h))
       ∙ and-no (eqb before 13)
+
+-- as the code picks it
+abbrev picked : ℕ → ℕ
+picked c =
+    cond (eqb c 10) 58
+    (cond (eqb c 13) 122
+    (cond (eqb c 58 || eqb c 59) (c + 67) (cond (eqb c 61) 124 (cond (eqb c 35) 123 (cond (leb 65 c) (c + 31) (cond (eqb c 32) 74 (64 + c % 16)))))))
+
+picked-entry : (c : ℕ) → c < 256 → T (coded c) → picked c ≡ entryOf c
+unfolding table consecutive codeFor characters numbers low bit value ended saying same found coded own codes every entryOf first
+picked-entry c h t = eqb→eq (picked c) (entryOf c) (implied-below 256 coded (λ (x : ℕ). eqb (picked x) (entryOf x)) tt c h t)
+
+pub picks-entry : (c : ℕ) {base letter hash equals colon return last : ℕ} → c < 256 → T (coded c) → base ≡ cond (eqb c 32) 74 (64 + c % 16)
+    → letter ≡ cond (leb 65 c) (c + 31) base → hash ≡ cond (eqb c 35) 123 letter → equals ≡ cond (eqb c 61) 124 hash
+    → colon ≡ cond (eqb c 58 || eqb c 59) (c + 67) equals → return ≡ cond (eqb c 13) 122 colon → last ≡ cond (eqb c 10) 58 return → last ≡ entryOf c
+picks-entry c h t e₁ e₂ e₃ e₄ e₅ e₆ e₇ =
+    let or : ℕ → ℕ → ℕ → ℕ = λ character entry. cond (eqb c character) entry in
+    e₇
+    ∙ ap (or 10 58)
+    (e₆ ∙ ap (or 13 122) (e₅ ∙ ap (cond (eqb c 58 || eqb c 59) (c + 67)) (e₄ ∙ ap (or 61 124) (e₃ ∙ ap (or 35 123) (e₂ ∙ ap (cond (leb 65 c) (c + 31)) e₁)))))
+    ∙ picked-entry c h t
 
 -- codes are bits
 pub own-binary : (before c : ℕ) → Binary (codes (own before c))

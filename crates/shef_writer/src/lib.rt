@@ -15,7 +15,7 @@ ghost use Rattle.codes.specs.Steps.Laid.{Fronted};
 ghost use Rattle.codes.specs.Steps.Size.{Needs};
 ghost use Rattle.codes.specs.Steps.Summed.{SumUpTo};
 ghost use Rattle.shef.specs.Writer.{coded, AllCoded, own, ours};
-ghost use Rattle.shef_writer.specs.Steps.Sending.{CodeOf, OwnOf, FirstCodesOf, bitsFor, entryOf, entries};
+ghost use Rattle.shef_writer.specs.Steps.Sending.{CodeOf, OwnOf, FirstCodesOf, bitsFor, entryOf};
 
 // Whether the character has a code: no branch, so that a loop over a text is done for many characters at once.
 pub fn is_coded(c: u8) -> bool
@@ -26,27 +26,24 @@ pub fn is_coded(c: u8) -> bool
     line_end | (single | (((b'+' <= c) & (c <= b';')) | ((b'A' <= c) & (c <= b'Z'))))
 }
 
-// The number that is a character's code, for CR and LF that of a line end: a match over its ranges and single characters.
-fn number_of(c: u8) -> u8
+// What a character has: the number that is its code, for CR and LF that of a line end; and 64, but for LF, which may be a part of a line end. The base
+// characters but the space have the number of their code in their lowest four bits. No branch here either, and no table: a logger has no room for one.
+fn entry(c: u8) -> u16
     requires { ⌜ T (coded c) ⌝ }
-    ensures { λ r. ⌜ r ≡ value (codes (own 0 c)) ⌝ }
+    ensures { λ r. ⌜ r ≡ entryOf c ⌝ }
 {
-    match c {
-        b'\r' => 58,
-        b'\n' => 58,
-        b' ' => 10,
-        b'#' => 59,
-        b'=' => 60,
-        b'+'..=b'/' => c - 32,
-        b'0'..=b'9' => c - 48,
-        b':'..=b';' => c + 3,
-        // A to Z
-        _ => c - 33,
-    }
+    let character = c as u16;
+    let base = bit_sender::pick(c == b' ', 74, 64 + character % 16);
+    let letter = bit_sender::pick(b'A' <= c, character + 31, base);
+    let hash = bit_sender::pick(c == b'#', 123, letter);
+    let equals = bit_sender::pick(c == b'=', 124, hash);
+    let colon = bit_sender::pick((c == b':') | (c == b';'), character + 67, equals);
+    let line_end = bit_sender::pick(c == b'\r', 122, colon);
+    bit_sender::pick(c == b'\n', 58, line_end)
 }
 
 // The code that a number is, if 64 or nothing is added to it: five bits, or six if the highest is 1.
-fn code_of(entry: u8) -> Sent
+fn code_of(entry: u16) -> Sent
     ensures { λ r. ⌜ CodeOf entry r ⌝ }
 {
     let number = (entry % 64) as u64;
@@ -69,7 +66,7 @@ fn own_code(before: u8, c: u8) -> Sent
             count: 1,
         };
     }
-    code_of(number_of(c))
+    code_of(entry(c))
 }
 
 // How many bits that code has: again no branch.
@@ -135,24 +132,16 @@ pub fn coded_length(text: &[u8], most: u16) -> Needed
     Needed::Bytes((n + 7) / 8)
 }
 
-// What a character has in the table of `put_data`.
-fn entry(table: &[u8; 91], c: u8) -> u8
-    requires { ⌜ (now table ≡ entries) × T (coded c) ⌝ }
-    ensures { λ r. ⌜ r ≡ entryOf c ⌝ }
-{
-    table[c as usize]
-}
-
 // The first of our codes of the text from i on, or the first four, if no LF is among their characters: one test, for mostly none is.
-fn next_codes(table: &[u8; 91], text: &[u8], i: usize) -> Sent
-    requires { ⌜ (now table ≡ entries) × AllCoded (now text) × (i < length (now text)) ⌝ }
+fn next_codes(text: &[u8], i: usize) -> Sent
+    requires { ⌜ AllCoded (now text) × (i < length (now text)) ⌝ }
     ensures { λ r. ⌜ FirstCodesOf (now (text .entry)) i 24 r ⌝ }
 {
     if 4 <= text.len() - i {
-        let first = entry(table, text[i]);
-        let second = entry(table, text[i + 1]);
-        let third = entry(table, text[i + 2]);
-        let fourth = entry(table, text[i + 3]);
+        let first = entry(text[i]);
+        let second = entry(text[i + 1]);
+        let third = entry(text[i + 2]);
+        let fourth = entry(text[i + 3]);
         if 64 <= first & (second & (third & fourth)) {
             return bit_sender::four_joined(
                 code_of(first),
@@ -170,9 +159,6 @@ pub fn put_data(text: &[u8], out: &mut [u8]) -> usize
     requires { ⌜ AllCoded (now text) × (length (written (ours (now text))) ≤ length (now out)) ⌝ }
     ensures { λ r. ⌜ Fronted (written (ours (now (text .entry)))) (now (out .entry)) (now (out .exit)) r ⌝ }
 {
-    // by character, 64 and the number that is its code, as a character; without the 64 for LF, which may be a part of a line end; ? where there is none
-    let table =
-        b"??????????:??z??????????????????J??{???????KLMNO@ABCDEFGHI}~?|???`abcdefghijklmnopqrstuvwxy";
     let mut b = Held {
         n: 0,
         held: 0,
@@ -180,7 +166,7 @@ pub fn put_data(text: &[u8], out: &mut [u8]) -> usize
     };
     let mut i: usize = 0;
     while i < text.len() {
-        let next = next_codes(table, text, i);
+        let next = next_codes(text, i);
         b = bit_sender::send(out, b, next.bits, next.width);
         i += next.count;
     }

@@ -21,7 +21,7 @@ shared-slice-read-entry c = search needs
 entry-requires : tie.Need-entry-requires
 entry-requires c κs =
     let e = c .before .before .before in
-    (e .pre .0, e .pre .1 (e .args .i) (omega arith))
+    e .pre .0 (e .args .i) (omega arith)
 
 add-entry : tie.Need-add-entry
 add-entry c = search needs
@@ -32,7 +32,7 @@ shared-slice-read-entry-2 c = search needs
 entry-requires-2 : tie.Need-entry-requires-2
 entry-requires-2 c κs =
     let e = c .before .before .before .before .before in
-    (e .pre .0, e .pre .1 (e .args .i + 1) (omega arith))
+    e .pre .0 (e .args .i + 1) (omega arith)
 
 add-entry-2 : tie.Need-add-entry-2
 add-entry-2 c = search needs
@@ -43,7 +43,7 @@ shared-slice-read-entry-3 c = search needs
 entry-requires-3 : tie.Need-entry-requires-3
 entry-requires-3 c κs =
     let e = c .before .before .before .before .before .before .before in
-    (e .pre .0, e .pre .1 (e .args .i + 2) (omega arith))
+    e .pre .0 (e .args .i + 2) (omega arith)
 
 add-entry-3 : tie.Need-add-entry-3
 add-entry-3 c = search needs
@@ -54,7 +54,7 @@ shared-slice-read-entry-4 c = search needs
 entry-requires-4 : tie.Need-entry-requires-4
 entry-requires-4 c κs =
     let e = c .before .before .before .before .before .before .before .before .before in
-    (e .pre .0, e .pre .1 (e .args .i + 3) (omega arith))
+    e .pre .0 (e .args .i + 3) (omega arith)
 
 code-of-requires : tie.Need-code-of-requires
 code-of-requires c κs = search needs
@@ -92,7 +92,7 @@ returns c =
     let first = second .before .before in
     let known = first .before .before .before in
     let e = known .before in
-    four-entries (e .args .text .now) (e .args .i) (e .pre .1) (λ k. omega (arith, known .shared-slice-known .given k)) (first .entry .result)
+    four-entries (e .args .text .now) (e .args .i) (e .pre .0) (λ k. omega (arith, known .shared-slice-known .given k)) (first .entry .result)
     (second .entry2 .result) (third .entry3 .result) (fourth .entry4 .result) (n .code-of .result) (o .code-of2 .result) (p .code-of3 .result)
     (q .code-of4 .result) (c .four-joined .result) (omega arith) (first .entry .ensures) (second .entry2 .ensures) (third .entry3 .ensures)
     (fourth .entry4 .ensures) (test .if2 .taken) (n .code-of .ensures) (o .code-of2 .ensures) (p .code-of3 .ensures) (q .code-of4 .ensures)
@@ -107,14 +107,14 @@ shared-slice-read-own-code c = search needs
 own-code-requires : tie.Need-own-code-requires
 own-code-requires c κs =
     let e = c .before .before .before .before in
-    e .pre .1 (e .args .i) (e .pre .2)
+    e .pre .0 (e .args .i) (e .pre .1)
 
 returns-2 : tie.Need-returns-2
 returns-2 c =
     let b = c .before .before in
     let e = b .before .before .before in
     let t = e .args .text .now in
-    first-own t (λ (x y : ℕ). codes (own x y)) (codesFrom t) (each-next own t) 24 (e .args .i) (b .before-at .result) (c .own-code .result) (e .pre .2)
+    first-own t (λ (x y : ℕ). codes (own x y)) (codesFrom t) (each-next own t) 24 (e .args .i) (b .before-at .result) (c .own-code .result) (e .pre .1)
     (b .before-at .ensures) (one-wider (lit≤ tt) (c .own-code .ensures))
 
 pub next-codes-spec : {M : Type 1} → statement M

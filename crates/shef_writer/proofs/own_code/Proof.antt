@@ -1,4 +1,6 @@
 -- `shef_writer::own_code` meets its contract. Assumes nothing.
+use mathlib.Core.Path.{ap, _∙_}
+use Prim.Native.Nat.{ℕ, _%_}
 use native.Mathlib.Omega.{arith}
 use borrow.Author.Needs.{needs}
 use Rattle.shef_writer.proofs.Sending.{sends-none, sends-own}
@@ -9,8 +11,8 @@ use Rattle.shef_writer.proofs.own_code.Tie as tie
 returns : tie.Need-returns
 returns c = sends-none (c .before .args .before) (c .before .args .c) (c .if1 .taken)
 
-number-of-requires : tie.Need-number-of-requires
-number-of-requires c κs = search needs
+entry-requires : tie.Need-entry-requires
+entry-requires c κs = search needs
 
 code-of-requires : tie.Need-code-of-requires
 code-of-requires c κs = search needs
@@ -20,8 +22,8 @@ returns-2 c =
     let n = c .before in
     let l = n .before in
     let e = l .before in
-    sends-own (e .args .before) (e .args .c) (n .number-of .result) (c .code-of .result) (omega arith) (e .pre) (l .if1 .left)
-    (omega (arith, n .number-of .ensures, entry-number (e .args .c) (omega arith) (e .pre))) (c .code-of .ensures)
+    sends-own (e .args .before) (e .args .c) (n .entry .result) (c .code-of .result) (omega arith) (e .pre) (l .if1 .left)
+    (ap (λ (k : ℕ). k % 64) (n .entry .ensures) ∙ entry-number (e .args .c) (omega arith) (e .pre)) (c .code-of .ensures)
 
 pub own-code-spec : {M : Type 1} → statement M
-own-code-spec = tie.close (tie.spec returns number-of-requires code-of-requires returns-2)
+own-code-spec = tie.close (tie.spec returns entry-requires code-of-requires returns-2)

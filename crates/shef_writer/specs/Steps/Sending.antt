@@ -2,18 +2,17 @@
 -- Assumes nothing.
 use mathlib.Core.Path.{_≡_}
 use mathlib.Core.Bool.{cond}
-use mathlib.Core.List.{List, map}
+use mathlib.Core.List.{List}
 use Prim.Native.Nat.{ℕ, _+_, _/_, _%_}
 use lib.Dec.{eqb}
 use lib.ListN.{length, take, drop}
-use Rattle.bits.specs.Numbers.{numbers}
 use Rattle.codes.specs.Chain.{codes}
 use Rattle.codes.specs.Coded.{lastOf}
 use Rattle.codes.specs.LineEnds.{LF, eachAfter}
 use Rattle.codes.specs.Pack.{value}
 use Rattle.codes.specs.Steps.Sending.{OneOf, FirstOf}
 use Rattle.codes.specs.declared.Sent.{Sent}
-use Rattle.shef.specs.Writer.{coded, own}
+use Rattle.shef.specs.Writer.{own}
 
 -- the code whose number is the entry's lowest six bits: five bits, or six if the highest is 1
 pub record CodeOf (entry : ℕ) (r : Sent) : Type 0 where
@@ -37,10 +36,6 @@ codesFrom text i = codes (eachAfter own (lastOf (take i text)) (drop i text))
 abbrev pub FirstCodesOf : List ℕ → ℕ → ℕ → Sent → Type 0
 FirstCodesOf text = FirstOf (codesFrom text) (length text)
 
--- what a character has in the writer's table: the number that is its code, and 64, but for LF, which may be a part of a line end; 63 where it has no code
+-- what a character has: the number that is its code, and 64, but for LF, which may be a part of a line end
 unfoldable pub entryOf : ℕ → ℕ
-entryOf c = cond (coded c) (cond (eqb c LF) 0 64 + value (codes (own 0 c))) 63
-
--- the table, up to the last character that has a code
-unfoldable pub entries : List ℕ
-entries = map entryOf (numbers 0 91)
+entryOf c = cond (eqb c LF) 0 64 + value (codes (own 0 c))
