@@ -67,14 +67,15 @@ pub fn four_joined(first: Sent, second: Sent, third: Sent, fourth: Sent) -> Sent
     joined(left, right)
 }
 
-// The lowest `have` bits of `held`, then ones up to the byte's end, from place `at` on; the place after them.
+// The lowest `have` bits of `held`, then ones up to the byte's end, from place `at` on; the place after them. That fewer than 32 are left is said in the loop,
+// where LLVM sees it and makes no loop for many bytes of it.
 pub fn flush(out: &mut [u8], at: usize, held: u64, have: u64) -> usize
-    requires { ⌜ (have ≤ 64) × (at + (have + 7) / 8 ≤ length (now out)) ⌝ }
+    requires { ⌜ (have < 32) × (at + (have + 7) / 8 ≤ length (now out)) ⌝ }
     ensures { λ r. ⌜ Flushed (low have held) (now (out .entry)) (now (out .exit)) at r ⌝ }
 {
     let mut left = have;
     let mut n = at;
-    while 8 <= left {
+    while 8 <= left % 32 {
         left -= 8;
         out[n] = ((held >> left) % 256) as u8;
         n += 1;

@@ -38,6 +38,16 @@ same a =
     pending-length (last (e .args .held) (e .args .have)) (e .args .out .now) (e .args .at) (last-bytes (e .args .held) (e .args .have)) (room a)
     (a .loop .out) (a .loop .n) (e .args .held) (a .loop .left) (replicate (gap (e .args .have)) 1) (a .loop .inv .2)
 
+-- in the loop eight bits are there, and after it no eight
+eight : (c : tie.In-loop Inv-loop μ-loop) → 8 ≤ c .before .loop .left
+eight c = omega (arith, c .loop-test .taken)
+
+fewer : (c : tie.After-loop Inv-loop μ-loop) → c .before .loop .left < 8
+fewer c = omega (arith, c .loop-test .left, c .before .loop .inv .0, c .before .before .before .pre .0)
+
+sub-left : tie.Need-sub-left Inv-loop μ-loop
+sub-left c = omega (arith, eight c)
+
 shr-out : tie.Need-shr-out Inv-loop μ-loop
 shr-out c = omega arith
 
@@ -49,7 +59,7 @@ byte-room c =
     let a = c .before in
     let e = a .before .before in
     pending-room (last (e .args .held) (e .args .have)) (e .args .out .now) (e .args .at) (last-bytes (e .args .held) (e .args .have)) (room a)
-    (a .loop .out) (a .loop .n) (e .args .held) (a .loop .left) (replicate (gap (e .args .have)) 1) (c .loop-test .taken) (a .loop .inv .2)
+    (a .loop .out) (a .loop .n) (e .args .held) (a .loop .left) (replicate (gap (e .args .have)) 1) (eight c) (a .loop .inv .2)
 
 slice-write-out : tie.Need-slice-write-out Inv-loop μ-loop
 slice-write-out c = omega (arith, byte-room c, same (c .before))
@@ -65,9 +75,9 @@ loop-again c =
     let a = c .before in
     let e = a .before .before in (
       omega arith,
-      omega (arith, a .loop .inv .1, c .loop-test .taken),
+      omega (arith, a .loop .inv .1, eight c),
       pending-byte (last (e .args .held) (e .args .have)) (e .args .out .now) (e .args .at) (last-bytes (e .args .held) (e .args .have)) (room a)
-          (a .loop .out) (a .loop .n) (e .args .held) (a .loop .left) (replicate (gap (e .args .have)) 1) (c .loop-test .taken) (a .loop .inv .2),
+          (a .loop .out) (a .loop .n) (e .args .held) (a .loop .left) (replicate (gap (e .args .have)) 1) (eight c) (a .loop .inv .2),
     )
 
 same-length : tie.Need-same-length Inv-loop μ-loop
@@ -82,7 +92,7 @@ returns c =
     pending-done (last (e .args .held) (e .args .have)) (e .args .out .now) (e .args .at) (last-bytes (e .args .held) (e .args .have)) (room a)
     (a .loop .out) (a .loop .n) (e .args .held)
     (subst₂ (λ (k : ℕ) (l : List ℕ). Pending (last (e .args .held) (e .args .have)) (e .args .out .now) (a .loop .out) (e .args .at) (a .loop .n)
-    (e .args .held) k l) (let none : a .loop .left ≡ 0 = omega (arith, c .if1 .taken, c .before .loop-test .left) in none)
+    (e .args .held) k l) (let none : a .loop .left ≡ 0 = omega (arith, c .if1 .taken, fewer (c .before)) in none)
     (ap (λ (k : ℕ). replicate k 1) (gap-none (e .args .have) (a .loop .n - e .args .at) (omega (arith, a .loop .inv .1, p .place, c .if1 .taken)))) p) in
     record { place = d .1; whole = d .0 }
 
@@ -102,9 +112,9 @@ final c =
     let e = a .before .before in
     let p = a .loop .inv .2 in
     pending-last (last (e .args .held) (e .args .have)) (e .args .out .now) (a .loop .out) (e .args .at) (a .loop .n) (e .args .held) (a .loop .left)
-    (c .window .result) (gap (e .args .have)) (c .before .before .loop-test .left)
+    (c .window .result) (gap (e .args .have)) (fewer (c .before .before))
     (gap-some (e .args .have) (a .loop .n - e .args .at) (a .loop .left) (omega (arith, a .loop .inv .1, p .place)) (omega (arith, c .before .if1 .left))
-    (c .before .before .loop-test .left)) (c .window .ensures) p
+    (fewer (c .before .before))) (c .window .ensures) p
 
 final-room : (c : tie.After-window Inv-loop μ-loop) → c .before .before .before .loop .n < length (c .before .before .before .before .before .args .out .now)
 final-room c =
@@ -141,6 +151,7 @@ flush-spec =
     Inv-loop
     μ-loop
     loop-holds
+    sub-left
     shr-out
     cast-out
     slice-write-out
