@@ -1,8 +1,9 @@
-/* Times the library, plain C (the independent implementation: bit by bit, double loop, bitwise checksum) and tuned C in one run, one after the other
- * within each round, and prints the library's time over each of the others': bench [ROUNDS]. */
+/* Times the library, plain C (the independent implementation: bit by bit, double loop, bitwise checksum), tuned C and small C in one run, one after the
+ * other within each round, and prints the library's time over each of the others': bench [ROUNDS]. */
 #define _POSIX_C_SOURCE 200809L
 #include "independent.h"
 #include "rosopyat.h"
+#include "small.h"
 #include "tuned.h"
 
 #include <stdio.h>
@@ -10,15 +11,15 @@
 #include <string.h>
 #include <time.h>
 
-enum { MOST_ROUNDS = 101, IMPLEMENTATIONS = 3, LONG_TEXT = 12000 };
+enum { MOST_ROUNDS = 101, IMPLEMENTATIONS = 4, LONG_TEXT = 12000 };
 
 typedef rosopyat_read_answer reader(const uint8_t *, size_t, uint8_t *, size_t);
 typedef rosopyat_read_answer mending_reader(uint32_t, const uint8_t *, size_t, uint8_t *, size_t);
 typedef rosopyat_write_answer writer(uint32_t, bool, const uint8_t *, size_t, uint8_t *, size_t);
 
-static reader *const readers[IMPLEMENTATIONS] = {rosopyat_read, independent_read, tuned_read};
-static mending_reader *const mending_readers[IMPLEMENTATIONS] = {rosopyat_read_mending, independent_read_mending, tuned_read_mending};
-static writer *const writers[IMPLEMENTATIONS] = {rosopyat_write, independent_write, tuned_write};
+static reader *const readers[IMPLEMENTATIONS] = {rosopyat_read, independent_read, tuned_read, small_read};
+static mending_reader *const mending_readers[IMPLEMENTATIONS] = {rosopyat_read_mending, independent_read_mending, tuned_read_mending, small_read_mending};
+static writer *const writers[IMPLEMENTATIONS] = {rosopyat_write, independent_write, tuned_write, small_write};
 
 static uint8_t source[LONG_TEXT + 400], packet[ROSOPYAT_MOST_PACKET], output[ROSOPYAT_MOST_TEXT], first_output[ROSOPYAT_MOST_TEXT];
 
@@ -185,7 +186,7 @@ static void same_outputs(const struct job *job)
 static void measure(const char *what, const char *format_name, size_t size, const struct job *job, int rounds)
 {
     const double sample = 0.01;
-    double times[IMPLEMENTATIONS][MOST_ROUNDS], to_plain[MOST_ROUNDS], to_tuned[MOST_ROUNDS];
+    double times[IMPLEMENTATIONS][MOST_ROUNDS], to_plain[MOST_ROUNDS], to_tuned[MOST_ROUNDS], to_small[MOST_ROUNDS];
     long repeats[IMPLEMENTATIONS];
     same_outputs(job);
     for (int who = 0; who < IMPLEMENTATIONS; who++) {
@@ -198,16 +199,19 @@ static void measure(const char *what, const char *format_name, size_t size, cons
             times[who][round] = time_of(job, who, repeats[who]);
         to_plain[round] = times[0][round] / times[1][round];
         to_tuned[round] = times[0][round] / times[2][round];
+        to_small[round] = times[0][round] / times[3][round];
     }
-    printf("| %s | %s | %zu | %.2f | %.2f | %.2f | %.2f | %.2f |\n", what, format_name, size, median(times[0], rounds) * 1e6, median(times[1], rounds) * 1e6,
-           median(times[2], rounds) * 1e6, median(to_plain, rounds), median(to_tuned, rounds));
+    printf("| %s | %s | %zu |", what, format_name, size);
+    for (int who = 0; who < IMPLEMENTATIONS; who++)
+        printf(" %.2f |", median(times[who], rounds) * 1e6);
+    printf(" %.2f | %.2f | %.2f |\n", median(to_plain, rounds), median(to_tuned, rounds), median(to_small, rounds));
     fflush(stdout);
 }
 
 static void print_heading(void)
 {
-    printf("| | format | data bytes | library, µs | plain C, µs | tuned C, µs | library / plain | library / tuned |\n");
-    printf("|---|---|---|---|---|---|---|---|\n");
+    printf("| | format | data bytes | library, µs | plain C, µs | tuned C, µs | small C, µs | library / plain | library / tuned | library / small |\n");
+    printf("|---|---|---|---|---|---|---|---|---|---|\n");
 }
 
 static void measure_wrong_headers(int rounds)
@@ -220,7 +224,8 @@ static void measure_wrong_headers(int rounds)
                 {"read, 2 header bits wrong, 2 named", 2, 2, 0},
                 {"refuse, 3 header bits wrong, 2 named", 3, 2, 2},
                 {"refuse, 2 header bits wrong, 1 named", 2, 1, 2}};
-    printf("\nWith wrong header bits. Both look the bits to mend up in a table of 1,024 entries; the library copies its table, 2 KB, to the stack first:\n\n");
+    printf("\nWith wrong header bits. The library and tuned C look the bits to mend up in a table of 1,024 entries, which the library, 2 KB, copies to the\n"
+           "stack first; small C works them out:\n\n");
     print_heading();
     for (int r = 0; r < 4; r++) {
         struct job job = {.call = READ_MENDING, .mend = rows[r].mend, .refusal = rows[r].refusal};
