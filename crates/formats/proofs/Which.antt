@@ -1,6 +1,6 @@
 -- Which format it is, told by its number as the writer's functions ask for it: the lower two first.
 -- Assumes nothing.
-use mathlib.Core.Path.{_≡_, refl, sym, _∙_}
+use mathlib.Core.Path.{_≡_, sym, _∙_}
 use Prim.Native.Nat.{ℕ, _≤_, _<_}
 use native.Mathlib.Omega.{arith}
 use Rattle.header.specs.declared.Format.{Format}

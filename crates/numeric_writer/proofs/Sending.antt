@@ -2,11 +2,11 @@
 -- Assumes nothing.
 use mathlib.Core.Path.{_≡_, refl, sym, ap, subst, subst⁻¹, subst₂, _∙_}
 use mathlib.Core.Bool.{Bool, true, false, cond, not, _&&_, _||_, and-false}
-use mathlib.Core.List.{List, [], _∷_, _++_, append-nil}
+use mathlib.Core.List.{List, [], _++_, append-nil}
 use Prim.Native.Nat.{ℕ, zero, suc, _+_, _*_, _/_, _%_, _^_, _≤_, _<_}
 use native.Mathlib.Omega.{arith}
-use lib.Dec.{T, leb, ltb, eqb, leb→le, le→leb, ltb→lt, eqb→eq, lit≤, lit<}
-use lib.ListN.{length, getD}
+use lib.Dec.{T, leb, ltb, eqb, leb→le, le→leb, ltb→lt, lit≤, lit<}
+use lib.ListN.{length}
 use borrow.Author.Tests.{ne-eqb}
 use Rattle.bits.specs.First.{first}
 use Rattle.bits.specs.Numbers.{numbers}
@@ -19,7 +19,7 @@ use Rattle.codes.specs.Pack.{low, written}
 use Rattle.codes.specs.Steps.Sending.{Sends, PutSoFar}
 use Rattle.codes.specs.declared.Held.{Held}
 use Rattle.bits.proofs.Said.{and-left, and-right, and-both}
-use Rattle.codes.proofs.ByteTests.{every-below, implied-below}
+use Rattle.codes.proofs.ByteTests.{implied-below}
 use Rattle.codes.proofs.EveryElement.{every}
 use Rattle.codes.proofs.Lookup.{same-is}
 use Rattle.codes.proofs.LastBytes.{gap-none}
@@ -36,9 +36,14 @@ use Rattle.numeric_writer.proofs.Counting.{own-nothing, own-same}
 -- ---- what goes for one character
 
 -- what goes for a character that is no line end, as the code picks it: how many bits, and in the lowest eight the codes
-abbrev picked : ℕ → ℕ
-picked c =
-    cond (eqb c 69) 0x8DD (cond (eqb c 61) 0x8DB (cond (eqb c 58) 0x8EE (cond (eqb c 35) 0x8BD (cond (eqb c 32) 0x40A (0x400 + c % 16)))))
+abbrev isBase : ℕ → Bool
+isBase c = eqb c 32 || (leb 43 c && leb c 57)
+
+abbrev pickedBase : ℕ → ℕ
+pickedBase c = cond (eqb c 32) 0x40A (0x400 + c % 16)
+
+abbrev pickedOther : ℕ → ℕ
+pickedOther c = cond (eqb c 61) 0x8DB (cond (eqb c 58) 0x8EE (cond (eqb c 35) 0x8BD 0x8DD))
 
 abbrev goes : ℕ → ℕ → Bool
 goes c packed = same (bitsFor 0 c) (low (packed / 256) (packed % 256)) && (ltb (packed % 256) (2 ^ (packed / 256)) && leb (packed / 256) 8)
@@ -46,10 +51,15 @@ goes c packed = same (bitsFor 0 c) (low (packed / 256) (packed % 256)) && (ltb (
 abbrev plain : ℕ → Bool
 plain c = stands c && leb 32 c
 
-all-go : T (every (λ (c : ℕ). not (plain c) || goes c (picked c)) (numbers 0 256))
+all-base : T (every (λ (c : ℕ). not (plain c && isBase c) || goes c (pickedBase c)) (numbers 0 256))
 unfolding bitsFor inFour own eachAfter translation itself specials sent table consecutive codeFor characters numbers ended found saying same codes low bit first
     every
-all-go = tt
+all-base = tt
+
+all-others : T (every (λ (c : ℕ). not (plain c && not (isBase c)) || goes c (pickedOther c)) (numbers 0 256))
+unfolding bitsFor inFour own eachAfter translation itself specials sent table consecutive codeFor characters numbers ended found saying same codes low bit first
+    every
+all-others = tt
 
 own-goes : (c packed : ℕ) → T (goes c packed) → Packed c packed
 own-goes c packed t =
@@ -63,16 +73,25 @@ own-goes c packed t =
       long = leb→le (packed / 256) 8 (and-right small few sizes);
     }
 
-picked-goes : (c : ℕ) → c < 256 → T (stands c) × (32 ≤ c) → Packed c (picked c)
-picked-goes c h s =
-    own-goes c (picked c) (implied-below 256 plain (λ (x : ℕ). goes x (picked x)) all-go c h (and-both (stands c) (leb 32 c) (s .0) (le→leb 32 c (s .1))))
+module _ (c : ℕ) (h : c < 256) (s : T (stands c) × (32 ≤ c)) where
+  plain-told : T (plain c)
+  plain-told = and-both (stands c) (leb 32 c) (s .0) (le→leb 32 c (s .1))
 
-pub picks-goes : (c : ℕ) {base hash colon equals last : ℕ} → c < 256 → T (stands c) × (32 ≤ c) → base ≡ cond (eqb c 32) 0x40A (0x400 + c % 16)
-    → hash ≡ cond (eqb c 35) 0x8BD base → colon ≡ cond (eqb c 58) 0x8EE hash → equals ≡ cond (eqb c 61) 0x8DB colon → last ≡ cond (eqb c 69) 0x8DD equals
-    → Packed c last
-picks-goes c h s e₁ e₂ e₃ e₄ e₅ =
-    let or : ℕ → ℕ → ℕ → ℕ = λ character code. cond (eqb c character) code in
-    subst⁻¹ (Packed c) (e₅ ∙ ap (or 69 0x8DD) (e₄ ∙ ap (or 61 0x8DB) (e₃ ∙ ap (or 58 0x8EE) (e₂ ∙ ap (or 35 0x8BD) e₁)))) (picked-goes c h s)
+  pub base-goes : {packed : ℕ} → isBase c ≡ true → packed ≡ cond (eqb c 32) 0x40A (0x400 + c % 16) → Packed c packed
+  base-goes b e =
+      subst⁻¹ (Packed c) e
+      (own-goes c (pickedBase c)
+      (implied-below 256 (λ (x : ℕ). plain x && isBase x) (λ (x : ℕ). goes x (pickedBase x)) all-base c h
+      (and-both (plain c) (isBase c) plain-told (subst⁻¹ T b tt))))
+
+  pub others-go : {hash colon packed : ℕ} → isBase c ≡ false → hash ≡ cond (eqb c 35) 0x8BD 0x8DD → colon ≡ cond (eqb c 58) 0x8EE hash
+      → packed ≡ cond (eqb c 61) 0x8DB colon → Packed c packed
+  others-go b e₁ e₂ e₃ =
+      let or : ℕ → ℕ → ℕ → ℕ = λ character code. cond (eqb c character) code in
+      subst⁻¹ (Packed c) (e₃ ∙ ap (or 61 0x8DB) (e₂ ∙ ap (or 58 0x8EE) e₁))
+      (own-goes c (pickedOther c)
+      (implied-below 256 (λ (x : ℕ). plain x && not (isBase x)) (λ (x : ℕ). goes x (pickedOther x)) all-others c h
+      (and-both (plain c) (not (isBase c)) plain-told (subst⁻¹ (λ (x : Bool). T (not x)) b tt))))
 
 -- ---- after another character
 

@@ -124,11 +124,13 @@ fn packed_codes(c: u8) -> u16
     requires { ⌜ T (stands c) × (32 ≤ c) ⌝ }
     ensures { λ r. ⌜ Packed c r ⌝ }
 {
-    let base = bit_sender::pick(c == b' ', 0x40A, 0x400 + (c % 16) as u16);
-    let hash = bit_sender::pick(c == b'#', 0x8BD, base);
+    if (c == b' ') | ((b'+' <= c) & (c <= b'9')) {
+        return bit_sender::pick(c == b' ', 0x40A, 0x400 + (c % 16) as u16);
+    }
+    // # or E
+    let hash = bit_sender::pick(c == b'#', 0x8BD, 0x8DD);
     let colon = bit_sender::pick(c == b':', 0x8EE, hash);
-    let equals = bit_sender::pick(c == b'=', 0x8DB, colon);
-    bit_sender::pick(c == b'E', 0x8DD, equals)
+    bit_sender::pick(c == b'=', 0x8DB, colon)
 }
 
 // What goes for a line end: nothing where it is LF right behind CR.

@@ -1,9 +1,9 @@
 -- Half a byte by the table: what lies below the register's top only moves up, and what leaves at its top is looked up.
 -- Assumes nothing.
 use mathlib.Core.List.{List, [], map}
-use mathlib.Core.Path.{_≡_, refl, sym, ap, ap₂, _∙_}
+use mathlib.Core.Path.{_≡_, sym, ap, ap₂, _∙_}
 use Prim.Native.Nat.{ℕ, _+_, _*_, _/_, _%_, _^_, _<_}
-use native.Mathlib.Nat.{mod-lt, add-zero, zero-mul}
+use native.Mathlib.Nat.{mod-lt, add-zero}
 use native.Mathlib.Omega.{arith}
 use lib.Bits.{bitXor, xor-comm, xor-lt, xor-shifted, xor-block}
 use lib.ListN.{length, getD}

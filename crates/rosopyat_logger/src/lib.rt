@@ -1,6 +1,5 @@
 // The writer for C: the one entry point that a logger needs, its answer as a plain struct.
 use writer::WriteAnswer;
-ghost use mathlib.Core.Path.{_≡_};
 ghost use Rattle.rosopyat_logger.specs.Replies.{RepliesToWrite};
 
 // A packet that was written (`refusal` 0), or why not: then `length` is 0.

@@ -1,14 +1,13 @@
 -- Which characters have codes, and which, as the code tells it: computed tests over all characters.
 -- Assumes nothing.
-use mathlib.Core.Path.{_≡_, refl, sym, ap, subst⁻¹, _∙_}
+use mathlib.Core.Path.{_≡_, refl, ap, subst⁻¹, _∙_}
 use mathlib.Core.Bool.{Bool, true, false, cond, not, _&&_, _||_}
 use mathlib.Core.List.{[]}
 use Prim.Native.Nat.{ℕ, _+_, _-_, _/_, _%_, _≤_, _<_}
-use lib.Dec.{T, leb, eqb, eqb→eq, ltb, ltb→lt, leb→le, le→leb, lit≤}
+use lib.Dec.{T, leb, eqb, eqb→eq, ltb, ltb→lt, le→leb, lit≤}
 use Rattle.bits.specs.First.{first}
 use Rattle.bits.specs.Numbers.{numbers}
 use Rattle.bits.specs.Word.{bit}
-use Rattle.bits.proofs.Numbers.{numbers-in}
 use Rattle.bits.proofs.Said.{and-left, and-right}
 use Rattle.codes.specs.Chain.{codes}
 use Rattle.codes.specs.Consecutive.{codeFor, consecutive}
@@ -17,7 +16,7 @@ use Rattle.codes.specs.Lookup.{same, found, saying}
 use Rattle.codes.specs.Pack.{Binary, low, value}
 use Rattle.codes.proofs.BitsInBytes.{binary}
 use Rattle.codes.proofs.ByteTests.{same-below, implied-below}
-use Rattle.codes.proofs.EveryElement.{every, every-at}
+use Rattle.codes.proofs.EveryElement.{every}
 use Rattle.codes.proofs.FoundEntries.{saying-every, codes-binary}
 use Rattle.codes.proofs.LineEnds.{ended-same}
 use Rattle.numeric.specs.Table.{characters}

@@ -10,11 +10,11 @@ ghost use lib.Dec.{T};
 ghost use lib.ListN.{length};
 ghost use Rattle.codes.specs.Chain.{codes};
 ghost use Rattle.codes.specs.Coded.{alone};
-ghost use Rattle.codes.specs.Pack.{value, written};
+ghost use Rattle.codes.specs.Pack.{written};
 ghost use Rattle.codes.specs.Steps.Laid.{Fronted};
 ghost use Rattle.codes.specs.Steps.Size.{Needs};
 ghost use Rattle.codes.specs.Steps.Summed.{SumUpTo};
-ghost use Rattle.shef.specs.Writer.{coded, AllCoded, own, ours};
+ghost use Rattle.shef.specs.Writer.{coded, AllCoded, ours};
 ghost use Rattle.shef_writer.specs.Steps.Sending.{CodeOf, OwnOf, FirstCodesOf, bitsFor, entryOf};
 
 // Whether the character has a code: no branch, so that a loop over a text is done for many characters at once.

@@ -1,7 +1,7 @@
 -- `numeric_writer::packed_codes` meets its contract. Assumes nothing.
 use native.Mathlib.Omega.{arith}
 use borrow.Author.Needs.{needs}
-use Rattle.numeric_writer.proofs.Sending.{picks-goes}
+use Rattle.numeric_writer.proofs.Sending.{base-goes, others-go}
 use Rattle.numeric_writer.proofs.packed_codes.Statement.{statement}
 use Rattle.numeric_writer.proofs.packed_codes.Tie as tie
 
@@ -14,6 +14,11 @@ add-pick c = search needs
 pick-requires : tie.Need-pick-requires
 pick-requires c κs = search needs
 
+returns : tie.Need-returns
+returns c =
+    let e = c .before .before in
+    base-goes (e .args .c) (omega arith) (e .pre) (c .before .if1 .taken) (c .pick .ensures)
+
 pick-requires-2 : tie.Need-pick-requires-2
 pick-requires-2 c κs = search needs
 
@@ -23,17 +28,12 @@ pick-requires-3 c κs = search needs
 pick-requires-4 : tie.Need-pick-requires-4
 pick-requires-4 c κs = search needs
 
-pick-requires-5 : tie.Need-pick-requires-5
-pick-requires-5 c κs = search needs
-
-returns : tie.Need-returns
-returns c =
-    let equals = c .before in
-    let colon = equals .before in
+returns-2 : tie.Need-returns-2
+returns-2 c =
+    let colon = c .before in
     let hash = colon .before in
-    let base = hash .before in
-    let e = base .before in
-    picks-goes (e .args .c) (omega arith) (e .pre) (base .pick .ensures) (hash .pick2 .ensures) (colon .pick3 .ensures) (equals .pick4 .ensures) (c .pick5 .ensures)
+    let e = hash .before .before in
+    others-go (e .args .c) (omega arith) (e .pre) (hash .before .if1 .left) (hash .pick2 .ensures) (colon .pick3 .ensures) (c .pick4 .ensures)
 
 pub packed-codes-spec : {M : Type 1} → statement M
 packed-codes-spec =
@@ -42,8 +42,8 @@ packed-codes-spec =
     cast-pick
     add-pick
     pick-requires
+    returns
     pick-requires-2
     pick-requires-3
     pick-requires-4
-    pick-requires-5
-    returns)
+    returns-2)
