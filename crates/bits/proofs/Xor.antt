@@ -1,12 +1,13 @@
--- Laws of the exclusive or that the kit lacks: it is associative, undoes itself, and is zero only of equal numbers.
+-- Laws of the exclusive or that the kit lacks: it is associative, undoes itself, is zero only of equal numbers, and moves up with them.
 -- Assumes nothing.
 use mathlib.Core.Path.{_≡_, refl, sym, ap, ap₂, _∙_}
-use Prim.Native.Nat.{ℕ, zero, suc, _+_, _*_, _/_, _%_, _<_}
-use native.Mathlib.Nat.{mod-lt, zero-lt-suc, zero-mul}
+use Prim.Native.Nat.{ℕ, zero, suc, _+_, _*_, _/_, _%_, _^_, _<_}
+use native.Mathlib.Nat.{mod-lt, zero-lt-suc, zero-mul, add-zero}
 use native.Mathlib.Omega.{arith}
 use mathlib.Core.Logic.{_⊎_, inl, inr}
 use lib.Arith.{bin-ind, digits-div, digits-mod}
-use lib.Bits.{bitXor, differ, xor-step, xor-self, xor-zero-r, xor-comm}
+use lib.Bits.{bitXor, differ, xor-step, xor-self, xor-zero-r, xor-comm, xor-block}
+use lib.Pow.{pow-pos}
 
 pub two-pos : 0 < 2
 two-pos = zero-lt-suc 1
@@ -74,6 +75,13 @@ xor-cross a b c d =
     xor-assoc a b (bitXor c d)
     ∙ ap (bitXor a) (sym (xor-assoc b c d) ∙ ap (λ (x : ℕ). bitXor x d) (xor-comm b c) ∙ xor-assoc c b d)
     ∙ sym (xor-assoc a c (bitXor b d))
+
+-- two numbers moved up alike
+pub xor-moved : (k a b : ℕ) → bitXor (a * 2 ^ k) (b * 2 ^ k) ≡ bitXor a b * 2 ^ k
+xor-moved k a b =
+    ap₂ bitXor (sym (add-zero (a * 2 ^ k))) (sym (add-zero (b * 2 ^ k)))
+    ∙ xor-block k a b 0 0 (pow-pos k) (pow-pos k)
+    ∙ add-zero (bitXor a b * 2 ^ k)
 
 -- a digit times a number: the exclusive or of two such products
 pub xor-digits : (x y g : ℕ) → x < 2 → y < 2 → bitXor (x * g) (y * g) ≡ differ x y * g

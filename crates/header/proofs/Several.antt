@@ -5,16 +5,11 @@ use Prim.Native.Nat.{ℕ, zero, suc, _+_, _*_, _/_, _%_, _^_, _≤_, _<_, zero-l
 use native.Mathlib.Nat.{add-zero, add-suc, add-assoc, mul-assoc, mul-comm, zero-mul}
 use native.Mathlib.Omega.{arith}
 use lib.Dec.{lit<}
-use lib.Pow.{pow-pos, pow-add}
-use lib.Bits.{bitXor, xor-shr, xor-block, xor-self, xor-zero-r}
+use lib.Pow.{pow-add}
+use lib.Bits.{bitXor, xor-shr, xor-self, xor-zero-r}
+use Rattle.bits.proofs.Xor.{xor-moved}
 use Rattle.header.specs.Check.{generator, remainder}
 use Rattle.header.proofs.Division.{shifted-shr, no-top, longer, remainder-sum}
-
-shifted-sum : (k p q : ℕ) → bitXor (p * 2 ^ k) (q * 2 ^ k) ≡ bitXor p q * 2 ^ k
-shifted-sum k p q =
-    ap₂ bitXor (sym (add-zero (p * 2 ^ k))) (sym (add-zero (q * 2 ^ k)))
-    ∙ xor-block k p q 0 0 (pow-pos k) (pow-pos k)
-    ∙ add-zero (bitXor p q * 2 ^ k)
 
 shifted-step : (k j p : ℕ)
     → bitXor (p * 2 ^ k) (p * 2 ^ k / 2 ^ (k + j + 10) % 2 * (generator * 2 ^ (k + j)))
@@ -25,7 +20,7 @@ shifted-step k j p =
     (ap (λ (n : ℕ). p * 2 ^ k / 2 ^ n) (add-assoc k j 10) ∙ shifted-shr k (j + 10) p) (pow-add 2 k j ∙ mul-comm (2 ^ k) (2 ^ j))
     ∙ ap (λ (n : ℕ). bitXor (p * 2 ^ k) (b * n)) (sym (mul-assoc generator (2 ^ j) (2 ^ k)))
     ∙ ap (bitXor (p * 2 ^ k)) (sym (mul-assoc b (generator * 2 ^ j) (2 ^ k)))
-    ∙ shifted-sum k p (b * (generator * 2 ^ j))
+    ∙ xor-moved k p (b * (generator * 2 ^ j))
 
 -- the steps above x^k do to a number times x^k what they do to the number
 shifted : (k j p : ℕ) → remainder (k + j) (p * 2 ^ k) ≡ remainder k (remainder j p * 2 ^ k)

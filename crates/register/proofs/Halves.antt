@@ -3,15 +3,15 @@
 use mathlib.Core.List.{List, [], map}
 use mathlib.Core.Path.{_≡_, sym, ap, ap₂, _∙_}
 use Prim.Native.Nat.{ℕ, _+_, _*_, _/_, _%_, _^_, _<_}
-use native.Mathlib.Nat.{mod-lt, add-zero}
+use native.Mathlib.Nat.{mod-lt}
 use native.Mathlib.Omega.{arith}
-use lib.Bits.{bitXor, xor-comm, xor-lt, xor-shifted, xor-block}
+use lib.Bits.{bitXor, xor-comm, xor-lt, xor-shifted}
 use lib.ListN.{length, getD}
 use lib.Pow.{pow-pos}
 use Rattle.bits.specs.Numbers.{numbers}
 use Rattle.bits.proofs.Listed.{wrong, none-wrong}
 use Rattle.bits.proofs.Numbers.{map-numbers}
-use Rattle.bits.proofs.Xor.{xor-assoc}
+use Rattle.bits.proofs.Xor.{xor-assoc, xor-moved}
 use Rattle.register.specs.Register.{bitSteps, byteStep}
 use Rattle.register.specs.Steps.Halves.{halfStep, entryOf, entries}
 use Rattle.register.proofs.Register.{steps-xor, steps-add, steps-low}
@@ -31,10 +31,6 @@ entry-at : (half : ℕ) → half < 16 → getD entries half 0 ≡ bitSteps 4 (ha
 unfolding entries entryOf
 entry-at half h = map-numbers entryOf 0 16 half h ∙ ap entryOf (let same : 0 + half ≡ half = omega arith in same)
 
--- both moved up to the top
-top-xor : (a b : ℕ) → bitXor a b * 2 ^ 12 ≡ bitXor (a * 2 ^ 12) (b * 2 ^ 12)
-top-xor a b = sym (simp add-zero at (xor-block 12 a b 0 0 (pow-pos 12) (pow-pos 12)))
-
 -- a register is its top and what lies below
 two-parts : (r : ℕ) → r ≡ bitXor (r % 2 ^ 12) (r / 2 ^ 12 * 2 ^ 12)
 two-parts r =
@@ -52,7 +48,7 @@ half-by-table r half hr hh =
     ap₂ bitXor (sym moved) (entry-at leaving (xor-lt 4 top half (omega arith) hh))
     ∙ sym (steps-xor 4 below (leaving * 2 ^ 12))
     ∙ ap (bitSteps 4)
-    (ap (bitXor below) (top-xor top half) ∙ sym (xor-assoc below (top * 2 ^ 12) (half * 2 ^ 12))
+    (ap (bitXor below) (sym (xor-moved 12 top half)) ∙ sym (xor-assoc below (top * 2 ^ 12) (half * 2 ^ 12))
     ∙ ap (λ (n : ℕ). bitXor n (half * 2 ^ 12)) (sym (two-parts r)))
 
 -- a byte is its upper half, and then its lower half

@@ -3,11 +3,11 @@
 use mathlib.Core.Path.{_≡_, refl, sym, ap, ap₂, _∙_}
 use mathlib.Core.Logic.{⊎-elim}
 use Prim.Native.Nat.{ℕ, zero, suc, _+_, _*_, _/_, _%_, _^_, _<_, _≤_}
-use native.Mathlib.Nat.{mod-lt, add-zero, zero-add, suc-add, mul-one, mul-assoc, pow-succ', le-mul-of-pos-right}
+use native.Mathlib.Nat.{mod-lt, zero-add, suc-add, mul-one, mul-assoc, pow-succ', le-mul-of-pos-right}
 use native.Mathlib.Omega.{arith}
-use lib.Bits.{bitXor, differ, xor-lt, xor-self, xor-zero-r, xor-mod, xor-shr, xor-block}
+use lib.Bits.{bitXor, differ, xor-lt, xor-self, xor-zero-r, xor-mod, xor-shr}
 use lib.Pow.{pow-pos}
-use Rattle.bits.proofs.Xor.{digit, xor-odd, xor-digits, xor-cross, xor-zero, xor-cancel}
+use Rattle.bits.proofs.Xor.{digit, xor-odd, xor-digits, xor-cross, xor-moved, xor-zero, xor-cancel}
 use Rattle.register.specs.Register.{feedback, bitStep, bitSteps}
 
 -- a zero leaves at the top: the register only moves
@@ -28,16 +28,13 @@ unfolding bitStep feedback
 bit-lt r =
     xor-lt 16 (r * 2 % 2 ^ 16) (r / 2 ^ 15 % 2 * feedback) (mod-lt (r * 2) (pow-pos 16)) (omega arith)
 
-double-xor : (a b : ℕ) → bitXor a b * 2 ≡ bitXor (a * 2) (b * 2)
-double-xor a b = sym (simp add-zero at (xor-block 1 a b 0 0 (pow-pos 1) (pow-pos 1)))
-
 top-xor : (a b : ℕ) → bitXor a b / 2 ^ 15 % 2 ≡ differ (a / 2 ^ 15 % 2) (b / 2 ^ 15 % 2)
 top-xor a b = ap (λ (n : ℕ). n % 2) (xor-shr a b 15) ∙ xor-odd (a / 2 ^ 15) (b / 2 ^ 15)
 
 pub bit-xor : (a b : ℕ) → bitStep (bitXor a b) ≡ bitXor (bitStep a) (bitStep b)
 unfolding bitStep
 bit-xor a b =
-    ap₂ bitXor (ap (λ (n : ℕ). n % 2 ^ 16) (double-xor a b) ∙ xor-mod (a * 2) (b * 2) 16)
+    ap₂ bitXor (ap (λ (n : ℕ). n % 2 ^ 16) (sym (xor-moved 1 a b)) ∙ xor-mod (a * 2) (b * 2) 16)
     (ap (λ (n : ℕ). n * feedback) (top-xor a b)
     ∙ sym (xor-digits (a / 2 ^ 15 % 2) (b / 2 ^ 15 % 2) feedback (mod-lt (a / 2 ^ 15) (pow-pos 1)) (mod-lt (b / 2 ^ 15) (pow-pos 1))))
     ∙ xor-cross (a * 2 % 2 ^ 16) (b * 2 % 2 ^ 16) (a / 2 ^ 15 % 2 * feedback) (b / 2 ^ 15 % 2 * feedback)
