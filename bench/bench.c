@@ -131,14 +131,20 @@ static uint32_t once(const struct job *job, int who)
     return writers[who](job->format, true, source, job->text_length, output, sizeof output).refusal;
 }
 
-/* The mended header bits, which all must answer alike. */
-static uint32_t mask_of(const struct job *job, int who)
+/* What a reading answers, which all must answer alike; nothing of a writing. */
+static rosopyat_read_answer reading_of(const struct job *job, int who)
 {
     if (job->call == READ)
-        return readers[who](packet, job->packet_length, output, sizeof output).mask;
+        return readers[who](packet, job->packet_length, output, sizeof output);
     if (job->call == READ_MENDING)
-        return mending_readers[who](job->mend, packet, job->packet_length, output, sizeof output).mask;
-    return 0;
+        return mending_readers[who](job->mend, packet, job->packet_length, output, sizeof output);
+    return (rosopyat_read_answer){0};
+}
+
+static bool same_reading(rosopyat_read_answer a, rosopyat_read_answer b)
+{
+    return a.refusal == b.refusal && a.number == b.number && a.format == b.format && a.sync == b.sync && a.mended == b.mended && a.mask == b.mask &&
+           a.codes == b.codes && a.data_length == b.data_length && a.text_length == b.text_length && a.used == b.used;
 }
 
 static double seconds(void)
@@ -176,7 +182,7 @@ static void same_outputs(const struct job *job)
         if (who == 0)
             memcpy(first_output, output, sizeof output);
         bool same = refusal == job->refusal && memcmp(first_output, output, sizeof output) == 0;
-        if (!same || mask_of(job, who) != mask_of(job, 0)) {
+        if (!same || !same_reading(reading_of(job, who), reading_of(job, 0))) {
             fprintf(stderr, "the implementations differ\n");
             exit(1);
         }

@@ -192,9 +192,9 @@ static inline size_t put_control(uint8_t *text, unsigned control)
 }
 
 /* The fewer than 56 bits at the end. */
-static bool end_of_full_ascii(struct in in, size_t length, uint8_t *text, size_t *count, size_t *bad)
+static bool end_of_full_ascii(struct in in, size_t length, uint8_t *text, size_t *count, size_t *codes, size_t *bad)
 {
-    while (in.have > 7 || !all_ones(in.held, in.have)) {
+    for (; in.have > 7 || !all_ones(in.held, in.have); ++*codes) {
         unsigned code = in.held >> 57, width = in.held >> 63 ? code == 0x7f ? 9 : 7 : 6;
         if (in.have < width) {
             *bad = 8 * length - in.have;
@@ -209,11 +209,11 @@ static bool end_of_full_ascii(struct in in, size_t length, uint8_t *text, size_t
     return true;
 }
 
-static ALWAYS_INLINE bool text_of_full_ascii(const uint8_t *data, size_t length, uint8_t *text, size_t *count, size_t *bad)
+static ALWAYS_INLINE bool text_of_full_ascii(const uint8_t *data, size_t length, uint8_t *text, size_t *count, size_t *codes, size_t *bad)
 {
     struct in in = {data, data + length, 0, 0};
-    size_t done = 0;
-    for (refill(&in); in.have >= 56; refill(&in))
+    size_t done = 0, passed = 0;
+    for (refill(&in); in.have >= 56; refill(&in), passed += 6)
         for (int i = 0; i < 6; i++) { /* six of at most nine bits */
             unsigned code = in.held >> 57, seven = in.held >> 63;
             if (unlikely(code == 0x7f)) {
@@ -226,7 +226,8 @@ static ALWAYS_INLINE bool text_of_full_ascii(const uint8_t *data, size_t length,
             in.have -= 6 + seven;
         }
     *count = done;
-    return end_of_full_ascii(in, length, text, count, bad);
+    *codes = passed;
+    return end_of_full_ascii(in, length, text, count, codes, bad);
 }
 
 /* Compact SHEF: six bits where the first is a one, else five. A line end is 58, six ones are no code. */
@@ -251,9 +252,9 @@ static inline uint64_t shef_characters(uint64_t codes, uint64_t mask)
     return (letters(codes) & mask) | (base_characters(codes >> 1 & EACH(15)) & ~mask);
 }
 
-static bool end_of_shef(struct in in, size_t length, uint8_t *text, size_t *count, size_t *bad)
+static bool end_of_shef(struct in in, size_t length, uint8_t *text, size_t *count, size_t *codes, size_t *bad)
 {
-    while (in.have > 7 || !all_ones(in.held, in.have)) {
+    for (; in.have > 7 || !all_ones(in.held, in.have); ++*codes) {
         unsigned code = in.held >> 58, six = in.held >> 63;
         if (in.have < 5 + six || code == SIX_ONES) {
             *bad = 8 * length - in.have;
@@ -280,34 +281,39 @@ static ALWAYS_INLINE unsigned take_eight(uint64_t held, uint64_t *codes)
     return __builtin_ctzll(buffer) - 7;
 }
 
-static ALWAYS_INLINE bool text_of_shef(const uint8_t *data, size_t length, uint8_t *text, size_t *count, size_t *bad)
+static ALWAYS_INLINE bool text_of_shef(const uint8_t *data, size_t length, uint8_t *text, size_t *count, size_t *codes, size_t *bad)
 {
     struct in in = {data, data + length, 0, 0};
-    size_t done = 0;
+    size_t done = 0, passed = 0;
     for (refill(&in); in.have >= 56; refill(&in)) {
-        uint64_t codes;
-        unsigned width = take_eight(in.held, &codes);
-        uint64_t others = (is(codes, LINE_END) | is(codes, SIX_ONES)) & EACH(0x80), six = codes >> 5 & EACH(1);
-        store_64(text + done, shef_characters(codes, filled(six)));
+        uint64_t eight;
+        unsigned width = take_eight(in.held, &eight);
+        uint64_t others = (is(eight, LINE_END) | is(eight, SIX_ONES)) & EACH(0x80), six = eight >> 5 & EACH(1);
+        store_64(text + done, shef_characters(eight, filled(six)));
         if (likely(others == 0)) {
             skip(&in, width);
             done += 8;
+            passed += 8;
             continue;
         }
         unsigned before = __builtin_clzll(others) / 8;
         if (before > 0)
             skip(&in, 5 * before + sum_of(six >> (64 - 8 * before)));
         done += before;
+        passed += before;
         if (in.held >> 58 == SIX_ONES) {
+            *codes = passed;
             *bad = 8 * (in.next - data) - in.have;
             return false;
         }
         text[done++] = '\r';
         text[done++] = '\n';
+        passed++;
         skip(&in, 6);
     }
     *count = done;
-    return end_of_shef(in, length, text, count, bad);
+    *codes = passed;
+    return end_of_shef(in, length, text, count, codes, bad);
 }
 
 /* Compact Numeric. Two codes in a row that are both + or -, or both points, mean another character; such pairs are taken from the front. */
@@ -384,26 +390,33 @@ static ALWAYS_INLINE rosopyat_read_answer read_packet(uint32_t mend, const uint8
         return refuse_reading(6, 0);
 
     uint8_t own[MOST_OWN_TEXT];
-    size_t count = length, bad;
+    size_t count = length, codes = 0, bad;
     bool readable = true;
     if (format == 1)
-        readable = measure_pseudo_binary(data, length, &count, &bad);
-    else if (format == 2)
+        readable = measure_pseudo_binary(data, length, &count, &codes, &bad);
+    else if (format == 2) {
         count = text_of_numeric(data, length, own);
-    else if (format == 3)
-        readable = text_of_shef(data, length, own, &count, &bad);
+        codes = 2 * length;
+    } else if (format == 3)
+        readable = text_of_shef(data, length, own, &count, &codes, &bad);
     else if (format == 4)
-        readable = text_of_full_ascii(data, length, own, &count, &bad);
+        readable = text_of_full_ascii(data, length, own, &count, &codes, &bad);
     if (!readable)
-        return refuse_reading(7, bad);
+        return refuse_malformed(bad, codes);
     if (text_room < count)
         return refuse_reading(8, count);
     if (format == 1)
         text_of_pseudo_binary(data, length, text, count);
     else
         memcpy(text, format == 0 ? data : own, count);
-    return (rosopyat_read_answer){
-        .format = format, .sync = flag >> 1 & 1, .mended = mended, .mask = mask, .data_length = length, .text_length = count, .used = length + 6};
+    return (rosopyat_read_answer){.format = format,
+                                  .sync = flag >> 1 & 1,
+                                  .mended = mended,
+                                  .mask = mask,
+                                  .codes = codes,
+                                  .data_length = length,
+                                  .text_length = count,
+                                  .used = length + 6};
 }
 
 rosopyat_read_answer small_read(const uint8_t *packet, size_t packet_length, uint8_t *text, size_t text_room)

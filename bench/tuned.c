@@ -165,9 +165,9 @@ static inline unsigned check_bits(uint32_t word)
 
 /* Compact Full ASCII: taken apart once, into memory of our own, since a refusal may change nothing. */
 
-static ALWAYS_INLINE bool text_of_full_ascii(const uint8_t *data, size_t length, uint8_t *text, size_t *count, size_t *bad)
+static ALWAYS_INLINE bool text_of_full_ascii(const uint8_t *data, size_t length, uint8_t *text, size_t *count, size_t *codes, size_t *bad)
 {
-    size_t bits = 8 * length, at = 0, done = 0;
+    size_t bits = 8 * length, at = 0, done = 0, passed = 0;
     while (bits - at >= 64) {
         uint64_t buffer = load_64(data + at / 8) << at % 8;
         unsigned taken = 0;
@@ -186,6 +186,7 @@ static ALWAYS_INLINE bool text_of_full_ascii(const uint8_t *data, size_t length,
             buffer = seven ? buffer << 7 : buffer << 6;
             taken += 6 + seven;
         }
+        passed += 6;
         at += taken;
     }
     for (;;) {
@@ -195,6 +196,7 @@ static ALWAYS_INLINE bool text_of_full_ascii(const uint8_t *data, size_t length,
             break;
         unsigned code = top >> 57, width = top >> 63 ? code == 0x7f ? 9 : 7 : 6;
         if (rest < width) {
+            *codes = passed;
             *bad = at;
             return false;
         }
@@ -205,9 +207,11 @@ static ALWAYS_INLINE bool text_of_full_ascii(const uint8_t *data, size_t length,
                 text[done++] = '\n';
         } else
             text[done++] = width == 7 ? code : (code >> 1) + 32;
+        passed++;
         at += width;
     }
     *count = done;
+    *codes = passed;
     return true;
 }
 
@@ -232,9 +236,9 @@ static ALWAYS_INLINE size_t text_of_numeric(const uint8_t *data, size_t length, 
 
 /* Compact SHEF: taken apart once, as Full ASCII. */
 
-static ALWAYS_INLINE bool text_of_shef(const uint8_t *data, size_t length, uint8_t *text, size_t *count, size_t *bad)
+static ALWAYS_INLINE bool text_of_shef(const uint8_t *data, size_t length, uint8_t *text, size_t *count, size_t *codes, size_t *bad)
 {
-    size_t bits = 8 * length, at = 0, done = 0;
+    size_t bits = 8 * length, at = 0, done = 0, passed = 0;
     while (bits - at >= 64) {
         uint64_t buffer = load_64(data + at / 8) << at % 8;
         unsigned taken = 0;
@@ -242,6 +246,7 @@ static ALWAYS_INLINE bool text_of_shef(const uint8_t *data, size_t length, uint8
             unsigned code = buffer >> 58, six = buffer >> 63, character = shef_character[code];
             if (unlikely(character == CONTROL)) {
                 if (code == SIX_ONES) {
+                    *codes = passed + i;
                     *bad = at + taken;
                     return false;
                 }
@@ -252,6 +257,7 @@ static ALWAYS_INLINE bool text_of_shef(const uint8_t *data, size_t length, uint8
             buffer = six ? buffer << 6 : buffer << 5;
             taken += 5 + six;
         }
+        passed += 9;
         at += taken;
     }
     for (;;) {
@@ -261,15 +267,18 @@ static ALWAYS_INLINE bool text_of_shef(const uint8_t *data, size_t length, uint8
             break;
         unsigned code = top >> 58, width = 5 + (top >> 63);
         if (rest < width || code == SIX_ONES) {
+            *codes = passed;
             *bad = at;
             return false;
         }
         if (code == LINE_END)
             text[done++] = '\r';
         text[done++] = code == LINE_END ? '\n' : shef_character[code];
+        passed++;
         at += width;
     }
     *count = done;
+    *codes = passed;
     return true;
 }
 
@@ -304,40 +313,47 @@ static ALWAYS_INLINE rosopyat_read_answer read_packet(uint32_t mend, const uint8
     if (checksum(data, length) != (data[length] | data[length + 1] << 8))
         return refuse_reading(6, 0);
 
-    size_t count = length, bad;
+    size_t count = length, codes = 0, bad;
     if (format == 0) {
         if (text_room < count)
             return refuse_reading(8, count);
         memcpy(text, data, count);
     } else if (format == 1) {
-        if (!measure_pseudo_binary(data, length, &count, &bad))
-            return refuse_reading(7, bad);
+        if (!measure_pseudo_binary(data, length, &count, &codes, &bad))
+            return refuse_malformed(bad, codes);
         if (text_room < count)
             return refuse_reading(8, count);
         text_of_pseudo_binary(data, length, text, count);
     } else if (format == 2) {
         uint8_t own[MOST_NUMERIC];
         count = text_of_numeric(data, length, own);
+        codes = 2 * length;
         if (text_room < count)
             return refuse_reading(8, count);
         memcpy(text, own, count);
     } else if (format == 3) {
         uint8_t own[MOST_SHEF];
-        if (!text_of_shef(data, length, own, &count, &bad))
-            return refuse_reading(7, bad);
+        if (!text_of_shef(data, length, own, &count, &codes, &bad))
+            return refuse_malformed(bad, codes);
         if (text_room < count)
             return refuse_reading(8, count);
         memcpy(text, own, count);
     } else {
         uint8_t own[MOST_FULL_ASCII];
-        if (!text_of_full_ascii(data, length, own, &count, &bad))
-            return refuse_reading(7, bad);
+        if (!text_of_full_ascii(data, length, own, &count, &codes, &bad))
+            return refuse_malformed(bad, codes);
         if (text_room < count)
             return refuse_reading(8, count);
         memcpy(text, own, count);
     }
-    return (rosopyat_read_answer){
-        .format = format, .sync = flag >> 1 & 1, .mended = mended, .mask = mask, .data_length = length, .text_length = count, .used = length + 6};
+    return (rosopyat_read_answer){.format = format,
+                                  .sync = flag >> 1 & 1,
+                                  .mended = mended,
+                                  .mask = mask,
+                                  .codes = codes,
+                                  .data_length = length,
+                                  .text_length = count,
+                                  .used = length + 6};
 }
 
 rosopyat_read_answer tuned_read(const uint8_t *packet, size_t packet_length, uint8_t *text, size_t text_room)

@@ -50,6 +50,11 @@ static rosopyat_read_answer refuse_reading(uint32_t refusal, size_t number)
     return (rosopyat_read_answer){.refusal = refusal, .number = number};
 }
 
+static rosopyat_read_answer refuse_malformed(size_t bad, size_t codes)
+{
+    return (rosopyat_read_answer){.refusal = 7, .number = bad, .codes = codes};
+}
+
 static rosopyat_write_answer refuse_writing(uint32_t refusal, size_t number)
 {
     return (rosopyat_write_answer){.refusal = refusal, .number = number};
@@ -63,9 +68,9 @@ static inline bool all_ones(uint64_t top, size_t rest)
 
 /* Compact Pseudo Binary: the data has two bytes of checksum behind it, so that two bytes can be read at any bit. */
 
-static ALWAYS_INLINE bool measure_pseudo_binary(const uint8_t *data, size_t length, size_t *count, size_t *bad)
+static ALWAYS_INLINE bool measure_pseudo_binary(const uint8_t *data, size_t length, size_t *count, size_t *codes, size_t *bad)
 {
-    size_t bits = 8 * length, at = 0, characters = 0;
+    size_t bits = 8 * length, at = 0, characters = 0, passed = 0;
     for (;;) {
         size_t rest = bits - at;
         unsigned pair = data[at / 8] << 8 | data[at / 8 + 1];
@@ -74,6 +79,7 @@ static ALWAYS_INLINE bool measure_pseudo_binary(const uint8_t *data, size_t leng
             if (all_ones((uint64_t)indicator << 56, rest))
                 break;
             if (rest < 6 || indicator >= 0x80) {
+                *codes = passed;
                 *bad = at;
                 return false;
             }
@@ -81,17 +87,22 @@ static ALWAYS_INLINE bool measure_pseudo_binary(const uint8_t *data, size_t leng
         if (indicator >= 0x80) {
             size_t run = (indicator & 0x7f) + 1;
             if (unlikely(rest - 8 < 6 * run)) {
-                *bad = at + 8 + (rest - 8) / 6 * 6;
+                size_t whole = (rest - 8) / 6;
+                *codes = passed + 1 + whole;
+                *bad = at + 8 + 6 * whole;
                 return false;
             }
             characters += run;
+            passed += 1 + run;
             at += 8 + 6 * run;
         } else {
             characters += (indicator >> 2 & 15) + 1;
+            passed++;
             at += 6;
         }
     }
     *count = characters;
+    *codes = passed;
     return true;
 }
 

@@ -2,7 +2,7 @@
  *
  * A packet is a flag byte, three bytes of length and check, 1 to 4,000 data bytes and two checksum bytes: 7 to 4,006 bytes. The data is a text in one of
  * five formats (rosopyat_format). All functions answer a struct: `refusal` is 0 when the call succeeded, and else one of rosopyat_refusal, with
- * `number` saying more where the refusal says so. Every other member of a refused answer is 0, and no byte of the lent buffer has changed.
+ * `number` and `codes` saying more where the refusal says so. Every other member of a refused answer is 0, and no byte of the lent buffer has changed.
  *
  *     uint8_t packet[ROSOPYAT_MOST_PACKET];
  *     static uint8_t text[ROSOPYAT_MOST_TEXT];
@@ -75,7 +75,7 @@ enum rosopyat_refusal {
     ROSOPYAT_OTHER_LENGTH = 4,   /* the length is 0 or above 4,000 */
     ROSOPYAT_CUT_OFF = 5,        /* fewer bytes than the length and 6 */
     ROSOPYAT_CHECKSUM = 6,       /* the checksum of the data is not the one that follows it */
-    ROSOPYAT_MALFORMED = 7,      /* number: the data bit at which the first unreadable indicator, value or code starts */
+    ROSOPYAT_MALFORMED = 7,      /* number: the data bit at which the first unreadable indicator, value or code starts; codes: how many come before it */
     /* both */
     ROSOPYAT_NO_ROOM = 8,        /* the buffer is too short; number: the characters of the text (reader), or the bytes of the packet (writer) */
     /* the writer's */
@@ -96,6 +96,8 @@ enum rosopyat_refusal {
 #define ROSOPYAT_MASK_LENGTH UINT32_C(0x00FFFC00)        /* the 14 bits of the data's length */
 #define ROSOPYAT_MASK_CHECK UINT32_C(0x000003FF)         /* the ten check bits */
 
+/* `codes` of n data bytes is at most 4n/3 in Pseudo Binary and Full ASCII, 2n in Numeric and 8n/5 in SHEF, rounded down: 8,000 in any packet. Each indicator, value
+ * and code is one, whatever it says: a run of 16 slashes, or CR with LF after it in one code. */
 typedef struct rosopyat_read_answer {
     uint32_t refusal;   /* enum rosopyat_refusal */
     size_t number;      /* what the refusal says, or 0 */
@@ -103,6 +105,7 @@ typedef struct rosopyat_read_answer {
     uint32_t sync;      /* 1: time synchronised since the last transmission */
     uint32_t mended;    /* header bits that were put right: 0 up to the number named, or up to 1 where none is */
     uint32_t mask;      /* which ones: a 1 for each, by the ROSOPYAT_MASK_ names above */
+    size_t codes;       /* indicators, values and codes that were read; 0 in Open. In a refusal, those before the bad place where it is 7, and else 0 */
     size_t data_length; /* 1 to 4,000 */
     size_t text_length; /* bytes of `text` that were written */
     size_t used;        /* bytes of `packet` that belong to the packet: data_length and 6 */

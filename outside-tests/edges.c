@@ -1,6 +1,6 @@
 /* The published packets and messages (file given), the table of edges P1 to P15, M1 to M3 and Q1 to Q3, edges of Numeric and SHEF, every unreadable ending, the
- * numbers of formats and of header bits to mend, the mask of the mended bits, through rosopyat.h: linked once with the independent implementation under the
- * library's names, and once with the library. */
+ * numbers of formats and of header bits to mend, the mask of the mended bits, how many codes data has, through rosopyat.h: linked once with the independent
+ * implementation under the library's names, and once with the library. */
 #include "maker.h"
 #include "rosopyat.h"
 
@@ -10,9 +10,9 @@
 #include <string.h>
 
 /* The structs as the library lays them out. */
-_Static_assert(sizeof(rosopyat_read_answer) == 56 && offsetof(rosopyat_read_answer, number) == 8 && offsetof(rosopyat_read_answer, format) == 16 &&
+_Static_assert(sizeof(rosopyat_read_answer) == 64 && offsetof(rosopyat_read_answer, number) == 8 && offsetof(rosopyat_read_answer, format) == 16 &&
                    offsetof(rosopyat_read_answer, mended) == 24 && offsetof(rosopyat_read_answer, mask) == 28 &&
-                   offsetof(rosopyat_read_answer, data_length) == 32,
+                   offsetof(rosopyat_read_answer, codes) == 32 && offsetof(rosopyat_read_answer, data_length) == 40,
                "layout of the reader's answer");
 _Static_assert(sizeof(rosopyat_write_answer) == 24 && offsetof(rosopyat_write_answer, number) == 8, "layout of the writer's answer");
 
@@ -72,7 +72,7 @@ static rosopyat_read_answer read_naming(int64_t named, const uint8_t *packet, si
 }
 
 static void expect_reading_naming(int64_t named, const char *what, const uint8_t *packet, size_t packet_length, unsigned format, uint32_t mask,
-                                  const uint8_t *text, size_t text_length)
+                                  size_t codes, const uint8_t *text, size_t text_length)
 {
     static uint8_t got[ROSOPYAT_MOST_TEXT];
     rosopyat_read_answer answer = read_naming(named, packet, packet_length, got, sizeof got);
@@ -82,31 +82,39 @@ static void expect_reading_naming(int64_t named, const char *what, const uint8_t
     expect(what, "sync", answer.sync, 0);
     expect(what, "mended", answer.mended, __builtin_popcount(mask));
     expect(what, "mask", answer.mask, mask);
+    expect(what, "codes", answer.codes, codes);
     expect(what, "data length", answer.data_length, packet_length - 6);
     expect(what, "used", answer.used, packet_length);
     expect(what, "text length", answer.text_length, text_length);
     expect_bytes(what, got, text, text_length);
 }
 
-static void expect_reading(const char *what, const uint8_t *packet, size_t packet_length, unsigned format, uint32_t mask, const uint8_t *text,
+static void expect_reading(const char *what, const uint8_t *packet, size_t packet_length, unsigned format, size_t codes, const uint8_t *text,
                            size_t text_length)
 {
-    expect_reading_naming(BY_DEFAULT, what, packet, packet_length, format, mask, text, text_length);
+    expect_reading_naming(BY_DEFAULT, what, packet, packet_length, format, 0, codes, text, text_length);
 }
 
-static void expect_refused_naming(int64_t named, const char *what, const uint8_t *packet, size_t packet_length, unsigned refusal, size_t number)
+/* Only malformed data has codes. */
+static void expect_refused_with(int64_t named, const char *what, const uint8_t *packet, size_t packet_length, unsigned refusal, size_t number, size_t codes)
 {
     uint8_t text[16] = "as it was before", before[16] = "as it was before";
     rosopyat_read_answer answer = read_naming(named, packet, packet_length, text, sizeof text);
     expect(what, "refusal", answer.refusal, refusal);
     expect(what, "number", answer.number, number);
+    expect(what, "codes", answer.codes, codes);
     expect(what, "every other member", answer.format | answer.sync | answer.mended | answer.mask | answer.data_length | answer.text_length | answer.used, 0);
     expect_bytes(what, text, before, sizeof text);
 }
 
-static void expect_refused(const char *what, const uint8_t *packet, size_t packet_length, unsigned refusal, size_t number)
+static void expect_refused_naming(int64_t named, const char *what, const uint8_t *packet, size_t packet_length, unsigned refusal, size_t number)
 {
-    expect_refused_naming(BY_DEFAULT, what, packet, packet_length, refusal, number);
+    expect_refused_with(named, what, packet, packet_length, refusal, number, 0);
+}
+
+static void expect_refused(const char *what, const uint8_t *packet, size_t packet_length, unsigned refusal, size_t number, size_t codes)
+{
+    expect_refused_with(BY_DEFAULT, what, packet, packet_length, refusal, number, codes);
 }
 
 static void expect_not_written(const char *what, uint32_t format, const uint8_t *text, size_t text_length, unsigned refusal, size_t number)
@@ -128,21 +136,21 @@ static void expect_writing(const char *what, uint32_t format, const uint8_t *tex
     expect_bytes(what, got, packet, packet_length);
 }
 
-/* The data of a text, and what it comes back as, which gives the same data. */
-static void expect_normal(const char *what, unsigned format, const char *text, const char *data, size_t data_length, const char *back)
+/* The data of a text, how many codes it has, and what it comes back as, which gives the same data. */
+static void expect_normal(const char *what, unsigned format, const char *text, const char *data, size_t data_length, size_t codes, const char *back)
 {
     uint8_t packet[64];
     memcpy(packet + 4, data, data_length);
     size_t packet_length = maker_close(packet, 0x40 | format << 2, data_length);
     expect_writing(what, format, (const uint8_t *)text, strlen(text), packet, packet_length);
-    expect_reading(what, packet, packet_length, format, 0, (const uint8_t *)back, strlen(back));
+    expect_reading(what, packet, packet_length, format, codes, (const uint8_t *)back, strlen(back));
     expect_writing(what, format, (const uint8_t *)back, strlen(back), packet, packet_length);
 }
 
 /* The data of a text, both ways. */
-static void expect_data(const char *what, unsigned format, const char *text, const char *data, size_t data_length)
+static void expect_data(const char *what, unsigned format, const char *text, const char *data, size_t data_length, size_t codes)
 {
-    expect_normal(what, format, text, data, data_length, text);
+    expect_normal(what, format, text, data, data_length, codes, text);
 }
 
 static void expect_uncoded(const char *what, uint32_t format, const char *text, size_t index)
@@ -150,12 +158,12 @@ static void expect_uncoded(const char *what, uint32_t format, const char *text, 
     expect_not_written(what, format, (const uint8_t *)text, strlen(text), 9, index);
 }
 
-static void expect_malformed(const char *what, unsigned format, const char *data, size_t data_length, size_t bit)
+static void expect_malformed(const char *what, unsigned format, const char *data, size_t data_length, size_t bit, size_t codes)
 {
     uint8_t packet[64];
     memcpy(packet + 4, data, data_length);
     size_t packet_length = maker_close(packet, 0x40 | format << 2, data_length);
-    expect_refused(what, packet, packet_length, 7, bit);
+    expect_refused(what, packet, packet_length, 7, bit, codes);
 }
 
 static void expect_header(const char *what, unsigned format, const char *text, size_t length, const char *header)
@@ -185,16 +193,16 @@ static void edges(void)
     expect_header("P3", 0, text, 4000, "\x40\x3e\x80\xd1");
     expect_header("P4", 4, "A", 1, "\xd0\x00\x04\x30");
 
-    expect_data("P8", 1, "AB", "\x81\x04\x2f", 3);
-    expect_data("P9", 1, "////////////////", "\x7f", 1);
-    expect_data("P9", 1, "/////////////////", "\x7d\x0f", 2);
-    expect_data("P10", 1, "////    ////    ", "\x4c\x34\xc3", 3);
-    expect_malformed("P11", 1, "\xff", 1, 8);
-    expect_data("P12", 4, "A", "\x83", 1);
-    expect_data("P12", 4, "AB", "\x83\x0b", 2);
-    expect_data("P13", 4, "A\r\n", "\x83\xff", 2);
-    expect_data("P14", 4, "\r\n", "\xff\xff", 2);
-    expect_malformed("P15", 4, "\xff", 1, 0);
+    expect_data("P8", 1, "AB", "\x81\x04\x2f", 3, 3);
+    expect_data("P9", 1, "////////////////", "\x7f", 1, 1);
+    expect_data("P9", 1, "/////////////////", "\x7d\x0f", 2, 2);
+    expect_data("P10", 1, "////    ////    ", "\x4c\x34\xc3", 3, 4);
+    expect_malformed("P11", 1, "\xff", 1, 8, 1);
+    expect_data("P12", 4, "A", "\x83", 1, 1);
+    expect_data("P12", 4, "AB", "\x83\x0b", 2, 2);
+    expect_data("P13", 4, "A\r\n", "\x83\xff", 2, 2);
+    expect_data("P14", 4, "\r\n", "\xff\xff", 2, 1);
+    expect_malformed("P15", 4, "\xff", 1, 0, 0);
 }
 
 /* P5 to P7, which are 2, more than 2, and 1 bit away from a valid header. */
@@ -212,7 +220,7 @@ static void wrong_headers(void)
         char what[32];
         sprintf(what, "P5 to P7 %s", namings[i].what);
         if (namings[i].p5 == 0)
-            expect_reading_naming(namings[i].named, what, packet, packet_length, 0, 0x81000000, (const uint8_t *)"x", 1);
+            expect_reading_naming(namings[i].named, what, packet, packet_length, 0, 0x81000000, 0, (const uint8_t *)"x", 1);
         else
             expect_refused_naming(namings[i].named, what, packet, packet_length, namings[i].p5, 0);
         expect_refused_naming(namings[i].named, what, (const uint8_t *)"\x40\x00\x04\xda", 4, namings[i].p6, 0);
@@ -225,13 +233,13 @@ static void none_to_mend(void)
 {
     uint8_t packet[64];
     size_t packet_length = make_x(packet);
-    expect_reading_naming(0, "none to mend", packet, packet_length, 0, 0, (const uint8_t *)"x", 1);
+    expect_reading_naming(0, "none to mend", packet, packet_length, 0, 0, 0, (const uint8_t *)"x", 1);
     for (unsigned bit = 0; bit < 32; bit++) {
         char what[32];
         sprintf(what, "none to mend, bit %u wrong", bit);
         packet[bit / 8] ^= 0x80 >> bit % 8;
         expect_refused_naming(0, what, packet, packet_length, 2, 0);
-        expect_reading_naming(1, what, packet, packet_length, 0, 0x80000000 >> bit, (const uint8_t *)"x", 1);
+        expect_reading_naming(1, what, packet, packet_length, 0, 0x80000000 >> bit, 0, (const uint8_t *)"x", 1);
         packet[bit / 8] ^= 0x80 >> bit % 8;
     }
 }
@@ -251,7 +259,7 @@ static void masks(void)
         char what[32];
         sprintf(what, "mask %08X", (unsigned)rows[i].mask);
         memcpy(packet, rows[i].header, 4);
-        expect_reading_naming(2, what, packet, packet_length, 0, rows[i].mask, (const uint8_t *)"x", 1);
+        expect_reading_naming(2, what, packet, packet_length, 0, rows[i].mask, 0, (const uint8_t *)"x", 1);
     }
 }
 
@@ -300,38 +308,38 @@ static void too_many_bits(void)
 
 static void value_63(void)
 {
-    expect_data("Q1", 1, "?", "\x80\xff", 2);
-    expect_normal("Q1", 1, "\x7f", "\x80\xff", 2, "?");
-    expect_data("Q2", 1, "~", "\x80\xfb", 2);
+    expect_data("Q1", 1, "?", "\x80\xff", 2, 2);
+    expect_normal("Q1", 1, "\x7f", "\x80\xff", 2, 2, "?");
+    expect_data("Q2", 1, "~", "\x80\xfb", 2, 2);
     expect_uncoded("Q2", 1, ">", 0);
-    expect_data("Q3", 1, "????????", "\x87\xff\xff\xff\xff\xff\xff", 7);
+    expect_data("Q3", 1, "????????", "\x87\xff\xff\xff\xff\xff\xff", 7, 9);
 }
 
 static void numeric(void)
 {
     const char *what = "Numeric";
-    expect_data(what, 2, "0123456789 +,-./", "\x01\x23\x45\x67\x89\xab\xcd\xef", 8);
-    expect_data(what, 2, "#=E:\r\n", "\xbd\xdb\xdd\xee\xbb", 5);
-    expect_normal(what, 2, "1", "\x1a", 1, "1 ");
-    expect_data(what, 2, "1 ", "\x1a", 1);
-    expect_normal(what, 2, "1  ", "\x1a\xaa", 2, "1   ");
-    expect_normal(what, 2, "12+", "\x12\xba", 2, "12+ ");
-    expect_data(what, 2, "-5", "\xd5", 1);
+    expect_data(what, 2, "0123456789 +,-./", "\x01\x23\x45\x67\x89\xab\xcd\xef", 8, 16);
+    expect_data(what, 2, "#=E:\r\n", "\xbd\xdb\xdd\xee\xbb", 5, 10);
+    expect_normal(what, 2, "1", "\x1a", 1, 2, "1 ");
+    expect_data(what, 2, "1 ", "\x1a", 1, 2);
+    expect_normal(what, 2, "1  ", "\x1a\xaa", 2, 4, "1   ");
+    expect_normal(what, 2, "12+", "\x12\xba", 2, 4, "12+ ");
+    expect_data(what, 2, "-5", "\xd5", 1, 2);
     /* a pair over two bytes; pairs are looked for from the front */
-    expect_data(what, 2, "1:2", "\x1e\xe2", 2);
-    expect_normal(what, 2, "1\r\n", "\x1b\xba", 2, "1\r\n ");
-    expect_data(what, 2, "1\r\n+", "\x1b\xbb", 2);
-    expect_data(what, 2, "1#+", "\x1b\xdb", 2);
-    expect_data(what, 2, "#-,", "\xbd\xdc", 2);
-    expect_data(what, 2, ":.,", "\xee\xec", 2);
-    expect_data(what, 2, "+:-", "\xbe\xed", 2);
-    expect_data(what, 2, "::", "\xee\xee", 2);
+    expect_data(what, 2, "1:2", "\x1e\xe2", 2, 4);
+    expect_normal(what, 2, "1\r\n", "\x1b\xba", 2, 4, "1\r\n ");
+    expect_data(what, 2, "1\r\n+", "\x1b\xbb", 2, 4);
+    expect_data(what, 2, "1#+", "\x1b\xdb", 2, 4);
+    expect_data(what, 2, "#-,", "\xbd\xdc", 2, 4);
+    expect_data(what, 2, ":.,", "\xee\xec", 2, 4);
+    expect_data(what, 2, "+:-", "\xbe\xed", 2, 4);
+    expect_data(what, 2, "::", "\xee\xee", 2, 4);
     /* line ends */
-    expect_normal(what, 2, "\r", "\xbb", 1, "\r\n");
-    expect_normal(what, 2, "\n", "\xbb", 1, "\r\n");
-    expect_normal(what, 2, "\r\r\n", "\xbb\xbb", 2, "\r\n\r\n");
-    expect_normal(what, 2, "\n\r", "\xbb\xbb", 2, "\r\n\r\n");
-    expect_normal(what, 2, "\r\n\n", "\xbb\xbb", 2, "\r\n\r\n");
+    expect_normal(what, 2, "\r", "\xbb", 1, 2, "\r\n");
+    expect_normal(what, 2, "\n", "\xbb", 1, 2, "\r\n");
+    expect_normal(what, 2, "\r\r\n", "\xbb\xbb", 2, 4, "\r\n\r\n");
+    expect_normal(what, 2, "\n\r", "\xbb\xbb", 2, 4, "\r\n\r\n");
+    expect_normal(what, 2, "\r\n\n", "\xbb\xbb", 2, 4, "\r\n\r\n");
     /* what has no code, or none where it stands */
     expect_uncoded(what, 2, "12e", 2);
     expect_uncoded(what, 2, "1;", 1);
@@ -353,24 +361,25 @@ static void numeric(void)
 static void shef(void)
 {
     const char *what = "SHEF";
-    expect_data(what, 3, "1", "\x0f", 1);
-    expect_data(what, 3, "/", "\x7f", 1);
-    expect_data(what, 3, "A", "\x83", 1);
-    expect_data(what, 3, "AB", "\x82\x1f", 2);
-    expect_data(what, 3, "Z;", "\xe7\xef", 2);
-    expect_data(what, 3, "#=:E", "\xef\xcf\x64", 3);
-    expect_data(what, 3, "++--..", "\x5a\xda\xd7\x3b", 4);
-    expect_data(what, 3, "\r\n", "\xeb", 1);
-    expect_normal(what, 3, "\r", "\xeb", 1, "\r\n");
-    expect_normal(what, 3, "\n", "\xeb", 1, "\r\n");
-    expect_normal(what, 3, "\r\r\n", "\xeb\xaf", 2, "\r\n\r\n");
-    expect_normal(what, 3, "\n\r", "\xeb\xaf", 2, "\r\n\r\n");
-    expect_normal(what, 3, "\r\n\n", "\xeb\xaf", 2, "\r\n\r\n");
+    expect_data(what, 3, "1", "\x0f", 1, 1);
+    expect_data(what, 3, "/", "\x7f", 1, 1);
+    expect_data(what, 3, "A", "\x83", 1, 1);
+    expect_data(what, 3, "AB", "\x82\x1f", 2, 2);
+    expect_data(what, 3, "Z;", "\xe7\xef", 2, 2);
+    expect_data(what, 3, "#=:E", "\xef\xcf\x64", 3, 4);
+    expect_data(what, 3, "++--..", "\x5a\xda\xd7\x3b", 4, 6);
+    expect_data(what, 3, "\r\n", "\xeb", 1, 1);
+    expect_normal(what, 3, "\r", "\xeb", 1, 1, "\r\n");
+    expect_normal(what, 3, "\n", "\xeb", 1, 1, "\r\n");
+    expect_normal(what, 3, "\r\r\n", "\xeb\xaf", 2, 2, "\r\n\r\n");
+    expect_normal(what, 3, "\n\r", "\xeb\xaf", 2, 2, "\r\n\r\n");
+    expect_normal(what, 3, "\r\n\n", "\xeb\xaf", 2, 2, "\r\n\r\n");
     expect_uncoded(what, 3, "AbC", 1);
     expect_uncoded(what, 3, "1\t", 1);
     expect_uncoded(what, 3, "?", 0);
-    expect_malformed(what, 3, "\xff", 1, 0);
-    expect_malformed(what, 3, "\xfb\xff", 2, 6);
+    expect_malformed(what, 3, "\xff", 1, 0, 0);
+    expect_malformed(what, 3, "\xfb\xff", 2, 6, 1);
+    expect_malformed(what, 3, "\x07\xff", 2, 5, 1);
 }
 
 /* Endings. A remainder of up to eight bits is bad where it is neither fill nor the start of a whole code; where a value is announced, also fill is. */
@@ -398,64 +407,64 @@ static bool bad_pseudo_binary(unsigned rest, unsigned width)
     return rest >> (width - 1) == 0 ? width < 6 : width < 8 && rest != (1u << width) - 1;
 }
 
-/* Closes a packet that ends in a bad remainder, which must be refused at its first bit. */
+/* Closes a packet that ends in a bad remainder, which must be refused at its first bit, with all codes before it. */
 static void expect_bad_ending(const char *what, unsigned format, uint8_t *packet, struct maker_bits *bits, unsigned rest, unsigned width)
 {
     size_t bit = bits->bits;
     maker_put(bits, rest, width);
     expect(what, "bits over a byte", bits->bits % 8, 0);
-    expect_refused(what, packet, maker_close(packet, MAKER_FLAG_OPEN | format << 2, bits->bits / 8), 7, bit);
+    expect_refused(what, packet, maker_close(packet, MAKER_FLAG_OPEN | format << 2, bits->bits / 8), 7, bit, bits->codes);
 }
 
 static void full_ascii_ending(unsigned rest, unsigned width, bool far)
 {
     uint8_t packet[ROSOPYAT_MOST_PACKET];
-    struct maker_bits bits = {packet + 4, 0};
+    struct maker_bits bits = {packet + 4, 0, 0};
     for (unsigned i = 0; far && i < 10; i++) {
-        maker_put(&bits, 16 + i, 6);
-        maker_put(&bits, 65 + i, 7);
-        maker_put(&bits, 0x1fc | i % 4, 9);
+        maker_code(&bits, 16 + i, 6);
+        maker_code(&bits, 65 + i, 7);
+        maker_code(&bits, 0x1fc | i % 4, 9);
     }
     while ((bits.bits + width) % 8 != 0)
-        maker_put(&bits, 'A', 7);
+        maker_code(&bits, 'A', 7);
     expect_bad_ending("ending of Full ASCII", 4, packet, &bits, rest, width);
 }
 
 static void shef_ending(unsigned rest, unsigned width, bool far)
 {
     uint8_t packet[ROSOPYAT_MOST_PACKET];
-    struct maker_bits bits = {packet + 4, 0};
+    struct maker_bits bits = {packet + 4, 0, 0};
     for (unsigned i = 0; far && i < 13; i++) {
-        maker_put(&bits, i, 5);
-        maker_put(&bits, 0x32 + i, 6);
+        maker_code(&bits, i, 5);
+        maker_code(&bits, 0x32 + i, 6);
     }
     while ((bits.bits + width) % 8 != 0)
-        maker_put(&bits, 0x0f, 5);
+        maker_code(&bits, 0x0f, 5);
     expect_bad_ending("ending of SHEF", 3, packet, &bits, rest, width);
 }
 
 static void put_values(struct maker_bits *bits, unsigned announced, unsigned count)
 {
-    maker_put(bits, 0x80 | (announced - 1), 8);
+    maker_code(bits, 0x80 | (announced - 1), 8);
     for (unsigned i = 0; i < count; i++)
-        maker_put(bits, i * 5 % 64, 6);
+        maker_code(bits, i * 5 % 64, 6);
 }
 
 static void indicator_ending(unsigned rest, unsigned width, bool far)
 {
     uint8_t packet[ROSOPYAT_MOST_PACKET];
-    struct maker_bits bits = {packet + 4, 0};
+    struct maker_bits bits = {packet + 4, 0, 0};
     if (far)
         put_values(&bits, 41, 41);
     while ((bits.bits + width) % 8 != 0)
-        maker_put(&bits, 0x1a, 6);
+        maker_code(&bits, 0x1a, 6);
     expect_bad_ending("ending at an indicator", 1, packet, &bits, rest, width);
 }
 
 static void value_ending(unsigned rest, unsigned width, bool far)
 {
     uint8_t packet[ROSOPYAT_MOST_PACKET];
-    struct maker_bits bits = {packet + 4, 0};
+    struct maker_bits bits = {packet + 4, 0, 0};
     unsigned count = width / 2 % 4 + (far ? 44 : 0);
     put_values(&bits, far ? 128 : count + 1, count);
     expect_bad_ending("ending within values", 1, packet, &bits, rest, width);
@@ -482,16 +491,112 @@ static void endings(void)
     expect("endings", "within values", within_values, 2 * 21);
 }
 
+/* How many codes data has. */
+
+static void expect_count(unsigned format, struct maker_bits *bits, unsigned character)
+{
+    static uint8_t text[2 * ROSOPYAT_MOST_DATA];
+    char what[64];
+    size_t codes = bits->codes;
+    sprintf(what, "%zu codes of format %u", codes, format);
+    memset(text, character, codes);
+    expect_reading(what, bits->data - 4, maker_close(bits->data - 4, MAKER_FLAG_OPEN | format << 2, maker_fill(bits)), format, codes, text, codes);
+}
+
+/* Codes of one character each, all of one width, before fill of every length that there is. */
+static void fills(void)
+{
+    static const struct {
+        unsigned format, code, width, character;
+    } rows[] = {{1, 0x10, 6, '/'}, {3, 1, 5, '1'}, {3, 0x20, 6, 'A'}, {4, 1, 6, '!'}, {4, 'A', 7, 'A'}};
+    for (unsigned i = 0; i < sizeof rows / sizeof *rows; i++)
+        for (unsigned count = 1; count <= 16; count++) {
+            uint8_t packet[64];
+            struct maker_bits bits = {packet + 4, 0, 0};
+            for (unsigned k = 0; k < count; k++)
+                maker_code(&bits, rows[i].code, rows[i].width);
+            expect_count(rows[i].format, &bits, rows[i].character);
+        }
+}
+
+/* Zeros are the shortest codes, each of one character. As many as go into so many bytes, and what is left over is fill. */
+static void most_codes_in(size_t data_length)
+{
+    static const struct {
+        unsigned format, width, character;
+    } rows[] = {{1, 6, ' '}, {2, 4, '0'}, {3, 5, '0'}, {4, 6, ' '}};
+    const size_t most[] = {4 * data_length / 3, 2 * data_length, 8 * data_length / 5, 4 * data_length / 3};
+    for (unsigned i = 0; i < 4; i++) {
+        uint8_t packet[ROSOPYAT_MOST_PACKET];
+        struct maker_bits bits = {packet + 4, 0, 0};
+        while (8 * data_length - bits.bits >= rows[i].width)
+            maker_code(&bits, 0, rows[i].width);
+        expect("most codes", "codes made", bits.codes, most[i]);
+        expect_count(rows[i].format, &bits, rows[i].character);
+    }
+}
+
+static void expect_most_codes(unsigned format, size_t data_length, size_t codes, const char *text)
+{
+    uint8_t packet[64] = {0};
+    size_t packet_length = maker_close(packet, MAKER_FLAG_OPEN | format << 2, data_length);
+    expect_reading("zeros", packet, packet_length, format, codes, (const uint8_t *)text, strlen(text));
+}
+
+static void most_codes(void)
+{
+    expect_most_codes(1, 3, 4, "    ");
+    expect_most_codes(2, 1, 2, "00");
+    expect_most_codes(3, 5, 8, "00000000");
+    expect_most_codes(4, 3, 4, "    ");
+    for (size_t data_length = 1; data_length <= 100; data_length++)
+        most_codes_in(data_length);
+    for (size_t data_length = 3990; data_length <= ROSOPYAT_MOST_DATA; data_length++)
+        most_codes_in(data_length);
+}
+
+/* Three values announced, and fewer there: the indicator counts, and each value that is whole. */
+static void values_missing(void)
+{
+    const char *what = "three values";
+    expect_malformed(what, 1, "\x82", 1, 8, 1);
+    expect_malformed(what, 1, "\x82\x07", 2, 14, 2);
+    expect_malformed(what, 1, "\x02\x08\x1f", 3, 20, 3); /* a space before them */
+    expect_malformed(what, 1, "\x82\x04\x2f", 3, 20, 3);
+    expect_data(what, 1, "ABC", "\x82\x04\x20\xff", 4, 4);
+}
+
+/* What is refused without being malformed has no codes. */
+static void refused_without_codes(void)
+{
+    static const struct {
+        const char *data;
+        size_t data_length, text_length;
+    } rows[] = {{"x", 1, 1}, {"\x81\x04\x2f", 3, 2}, {"\x1e\xe2", 2, 3}, {"\x83", 1, 1}, {"\x83\xff", 2, 3}};
+    for (unsigned format = 0; format < 5; format++) {
+        uint8_t packet[64];
+        memcpy(packet + 4, rows[format].data, rows[format].data_length);
+        size_t packet_length = maker_close(packet, MAKER_FLAG_OPEN | format << 2, rows[format].data_length);
+        rosopyat_read_answer answer = rosopyat_read(packet, packet_length, NULL, 0);
+        expect("no room", "refusal", answer.refusal, 8);
+        expect("no room", "number", answer.number, rows[format].text_length);
+        expect("no room", "codes", answer.codes, 0);
+        expect_refused("cut off", packet, packet_length - 1, 5, 0, 0);
+        packet[packet_length - 1] ^= 1;
+        expect_refused("checksum", packet, packet_length, 6, 0, 0);
+    }
+}
+
 /* Formats. All but five are refused, whatever their low bits say. */
 static void formats(void)
 {
     static const uint32_t above[] = {256, 257, 260, 65540, 0xffffffff};
     const uint8_t slash[] = "/";
-    expect_data("format 0", 0, "/", "\x2f", 1);
-    expect_data("format 1", 1, "/", "\x43", 1);
-    expect_normal("format 2", 2, "/", "\xfa", 1, "/ ");
-    expect_data("format 3", 3, "/", "\x7f", 1);
-    expect_data("format 4", 4, "/", "\x3f", 1);
+    expect_data("format 0", 0, "/", "\x2f", 1, 0);
+    expect_data("format 1", 1, "/", "\x43", 1, 1);
+    expect_normal("format 2", 2, "/", "\xfa", 1, 2, "/ ");
+    expect_data("format 3", 3, "/", "\x7f", 1, 1);
+    expect_data("format 4", 4, "/", "\x3f", 1, 1);
     for (uint32_t format = 0; format < 16 + sizeof above / sizeof *above; format++) {
         uint32_t named = format < 16 ? format : above[format - 16];
         char what[32];
@@ -514,7 +619,7 @@ static size_t hexadecimal(const char *from, uint8_t *to)
     return length;
 }
 
-static void published_packet(const char *title, uint8_t *packet, size_t packet_length, uint8_t *text, size_t text_length)
+static void published_packet(const char *title, uint8_t *packet, size_t packet_length, size_t codes, uint8_t *text, size_t text_length)
 {
     unsigned format = packet[0] >> 2 & 7;
     if (format == 0) {
@@ -536,8 +641,8 @@ static void published_packet(const char *title, uint8_t *packet, size_t packet_l
         expect_writing(title, format, text, text_length, packet, packet_length);
         text[text_length++] = ' ';
     }
-    expect_reading_naming(2, title, packet, packet_length, format, 0, text, text_length); /* an old recording */
-    expect_reading(title, packet, packet_length, format, 0, text, text_length);
+    expect_reading_naming(2, title, packet, packet_length, format, 0, codes, text, text_length); /* an old recording */
+    expect_reading(title, packet, packet_length, format, codes, text, text_length);
     expect_writing(title, format, text, text_length, packet, packet_length);
 }
 
@@ -561,6 +666,30 @@ static size_t first_uncoded(unsigned format, const uint8_t *text, size_t length)
     return i;
 }
 
+/* Whether two neighbours of Pseudo Binary may stand in one run. */
+static bool one_kind(unsigned first, unsigned second)
+{
+    return first == second || (first >= 63 && second >= 63);
+}
+
+/* How many codes a message has: in Numeric two a byte, in Pseudo Binary one for each run and each value, in SHEF and Full ASCII one for each character, where
+ * CR LF is one; the messages have no other line ends. */
+static size_t codes_of(unsigned format, const uint8_t *text, size_t length, size_t data_length)
+{
+    size_t codes = 0, run = 0;
+    if (format == 2)
+        return 2 * data_length;
+    for (size_t i = 0; i < length; i++) {
+        bool value = text[i] >= 63;
+        run = i > 0 && one_kind(text[i - 1], text[i]) ? run + 1 : 0;
+        if (format == 1)
+            codes += value + (run % (value ? 128 : 16) == 0);
+        else
+            codes += text[i] != '\n';
+    }
+    return codes;
+}
+
 /* The message beside a packet, in the formats that have codes for it, and read back. */
 static unsigned published_message(const char *title, const uint8_t *text, size_t length)
 {
@@ -576,7 +705,7 @@ static unsigned published_message(const char *title, const uint8_t *text, size_t
         expect(title, "refusal", answer.refusal, 0);
         memcpy(back, text, length);
         back[length] = ' ';
-        expect_reading(title, packet, answer.length, format, 0, back, format == 2 ? length + 1 : length);
+        expect_reading(title, packet, answer.length, format, codes_of(format, text, length, answer.length - 6), back, format == 2 ? length + 1 : length);
         written++;
     }
     return written;
@@ -585,7 +714,7 @@ static unsigned published_message(const char *title, const uint8_t *text, size_t
 static unsigned published(const char *path)
 {
     static uint8_t packet[4096], text[4096];
-    size_t packet_length = 0, text_length = 0;
+    size_t packet_length = 0, text_length = 0, codes = 0;
     unsigned packets = 0, messages = 0;
     char line[256], title[256] = "";
     FILE *file = fopen(path, "r");
@@ -598,9 +727,9 @@ static unsigned published(const char *path)
         if (packet_length > 0 && (!more || line[0] == '#')) {
             if (text_length > 0)
                 messages += published_message(title, text, text_length);
-            published_packet(title, packet, packet_length, text, text_length);
+            published_packet(title, packet, packet_length, codes, text, text_length);
             packets++;
-            packet_length = text_length = 0;
+            packet_length = text_length = codes = 0;
         }
         if (!more)
             break;
@@ -611,6 +740,8 @@ static unsigned published(const char *path)
             packet_length += hexadecimal(line + 7, packet + packet_length);
         else if (strncmp(line, "text ", 5) == 0)
             text_length += hexadecimal(line + 5, text + text_length);
+        else if (strncmp(line, "codes ", 6) == 0)
+            codes = strtoul(line + 6, NULL, 10);
     }
     fclose(file);
     expect("published", "messages written", messages, 10); /* all in Full ASCII, two in Pseudo Binary, two in SHEF, one in Numeric */
@@ -633,6 +764,10 @@ int main(int count, char **words)
     numeric();
     shef();
     endings();
+    fills();
+    most_codes();
+    values_missing();
+    refused_without_codes();
     formats();
     expect("published", "packets", published(words[1]), 6);
     printf("%u facts checked, %u wrong\n", checked, failed);

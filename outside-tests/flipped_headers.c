@@ -11,11 +11,12 @@
 
 enum { FORMATS = 5, MOST_PACKET = 16, MOST_TEXT = 5, BOUND = 4 };
 
-/* In each format: a sync bit, data and its text. */
+/* In each format: a sync bit, data, its text and how many codes it has. */
 static const struct {
     unsigned sync;
     const char *data, *text;
-} sent[FORMATS] = {{0, "7", "7"}, {1, "\x81\x04\x2f", "AB"}, {1, "\x1e\xe2", "1:2"}, {0, "\x83", "A"}, {1, "\x83\x0b", "AB"}};
+    size_t codes;
+} sent[FORMATS] = {{0, "7", "7", 0}, {1, "\x81\x04\x2f", "AB", 3}, {1, "\x1e\xe2", "1:2", 4}, {0, "\x83", "A", 1}, {1, "\x83\x0b", "AB", 2}};
 
 /* The ways to read: by naming 0, 1 or 2 bits, and by the default, which is 1. */
 enum { BY_DEFAULT = 3, WAYS = 4 };
@@ -31,15 +32,15 @@ static rosopyat_read_answer read_one_way(unsigned way, const uint8_t *packet, si
 static bool is_refused(rosopyat_read_answer answer, const uint8_t *text)
 {
     return answer.refusal == ROSOPYAT_NO_HEADER && answer.number == 0 && answer.format == 0 && answer.sync == 0 && answer.mended == 0 && answer.mask == 0 &&
-           answer.data_length == 0 && answer.text_length == 0 && answer.used == 0 && memcmp(text, "????", MOST_TEXT) == 0;
+           answer.codes == 0 && answer.data_length == 0 && answer.text_length == 0 && answer.used == 0 && memcmp(text, "????", MOST_TEXT) == 0;
 }
 
 static bool is_read(rosopyat_read_answer answer, const uint8_t *text, unsigned format, uint32_t pattern, unsigned flipped)
 {
     size_t data_length = strlen(sent[format].data), text_length = strlen(sent[format].text);
     return answer.refusal == ROSOPYAT_ACCEPTED && answer.number == 0 && answer.format == format && answer.sync == sent[format].sync &&
-           answer.mended == flipped && answer.mask == pattern && answer.data_length == data_length && answer.used == data_length + 6 &&
-           answer.text_length == text_length && memcmp(text, sent[format].text, text_length) == 0;
+           answer.mended == flipped && answer.mask == pattern && answer.codes == sent[format].codes && answer.data_length == data_length &&
+           answer.used == data_length + 6 && answer.text_length == text_length && memcmp(text, sent[format].text, text_length) == 0;
 }
 
 static unsigned as_sent, refused, wrong;

@@ -50,6 +50,12 @@ void maker_put(struct maker_bits *bits, unsigned value, unsigned width)
     }
 }
 
+void maker_code(struct maker_bits *bits, unsigned code, unsigned width)
+{
+    maker_put(bits, code, width);
+    bits->codes++;
+}
+
 size_t maker_fill(struct maker_bits *bits)
 {
     while (bits->bits % 8 != 0)

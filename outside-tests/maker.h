@@ -15,9 +15,11 @@ size_t maker_close(uint8_t *packet, unsigned flag, size_t data_length);
 
 struct maker_bits {
     uint8_t *data;
-    size_t bits;
+    size_t bits, codes;
 };
 void maker_put(struct maker_bits *bits, unsigned value, unsigned width);
+/* The same of an indicator, a value or a code, which is counted. */
+void maker_code(struct maker_bits *bits, unsigned code, unsigned width);
 /* Fills the last byte with ones and answers the number of bytes. */
 size_t maker_fill(struct maker_bits *bits);
 

@@ -1,7 +1,7 @@
 /* Value 63 of Compact Pseudo Binary, as 3F and as 7F, in every place of a run of 1, 8, 127, 128 and 129 values, through rosopyat.h: linked once with the
  * independent implementation under the library's names, and once with the library. The run stands by itself, or with a space or a slash before it, behind
  * it, and both. A text's data is put together here, beside the text: indicators for 128 values at most, the remainder last. The text must be written as
- * that data, the data be read as the text with 3F for value 63, and that be written as the same data. */
+ * that data, the data be read as the text with 3F for value 63 in as many codes as were put together, and that text be written as the same data. */
 #include "maker.h"
 #include "rosopyat.h"
 
@@ -13,7 +13,7 @@ enum { FULLEST = 128, MOST_TEXT = 144, MOST_PACKET = 128 };
 /* A text as it is written, as it comes back, and the packet for both. */
 static struct {
     uint8_t written[MOST_TEXT], back[MOST_TEXT], packet[MOST_PACKET];
-    size_t length, packet_length;
+    size_t length, packet_length, codes;
 } made;
 
 static void add(unsigned written, unsigned back)
@@ -27,7 +27,7 @@ static void add_beside(struct maker_bits *bits, unsigned character)
 {
     if (character == 0)
         return;
-    maker_put(bits, character == '/' ? 0x10 : 0x00, 6);
+    maker_code(bits, character == '/' ? 0x10 : 0x00, 6);
     add(character, character);
 }
 
@@ -37,8 +37,8 @@ static void add_values(struct maker_bits *bits, unsigned count, unsigned place, 
     for (unsigned i = 0; i < count; i++) {
         unsigned rest = count - i, value = i == place ? 63 : (5 * i + place) % 63;
         if (i % FULLEST == 0)
-            maker_put(bits, 0x80 | ((rest < FULLEST ? rest : FULLEST) - 1), 8);
-        maker_put(bits, value, 6);
+            maker_code(bits, 0x80 | ((rest < FULLEST ? rest : FULLEST) - 1), 8);
+        maker_code(bits, value, 6);
         if (i == place)
             add(written, 0x3f);
         else
@@ -48,11 +48,12 @@ static void add_values(struct maker_bits *bits, unsigned count, unsigned place, 
 
 static void make(unsigned before, unsigned count, unsigned place, unsigned written, unsigned behind)
 {
-    struct maker_bits bits = {made.packet + 4, 0};
+    struct maker_bits bits = {made.packet + 4, 0, 0};
     made.length = 0;
     add_beside(&bits, before);
     add_values(&bits, count, place, written);
     add_beside(&bits, behind);
+    made.codes = bits.codes;
     made.packet_length = maker_close(made.packet, MAKER_FLAG_PSEUDO_BINARY, maker_fill(&bits));
 }
 
@@ -68,8 +69,8 @@ static bool is_read(void)
 {
     uint8_t got[MOST_TEXT];
     rosopyat_read_answer answer = rosopyat_read(made.packet, made.packet_length, got, sizeof got);
-    return answer.refusal == ROSOPYAT_ACCEPTED && answer.format == ROSOPYAT_PSEUDO_BINARY && answer.data_length == made.packet_length - 6 &&
-           answer.text_length == made.length && memcmp(got, made.back, made.length) == 0;
+    return answer.refusal == ROSOPYAT_ACCEPTED && answer.format == ROSOPYAT_PSEUDO_BINARY && answer.codes == made.codes &&
+           answer.data_length == made.packet_length - 6 && answer.text_length == made.length && memcmp(got, made.back, made.length) == 0;
 }
 
 static unsigned texts, wrong;

@@ -2,7 +2,7 @@
  * implementation under the library's names, and once with the library. What must come of a text is found by reading alone: all data of one to three bytes
  * is taken apart here by 001's Tables 4 and 5, which gives the set of texts that some data carries. A text is written as the one data that carries what it
  * comes back as. Where none does, it is refused with the index of its first character up to and including which none does. Then all data of one and two
- * bytes is read, and what it reads as is written. */
+ * bytes is read, and what it reads as is written. All that is read has two codes a byte. */
 #include "maker.h"
 #include "rosopyat.h"
 
@@ -138,8 +138,8 @@ static void expect_read(const uint8_t *packet, size_t packet_length, const char 
 {
     uint8_t got[MOST_TEXT];
     rosopyat_read_answer answer = rosopyat_read(packet, packet_length, got, sizeof got);
-    bool same = answer.refusal == ROSOPYAT_ACCEPTED && answer.format == ROSOPYAT_NUMERIC && answer.data_length == packet_length - 6 &&
-                answer.text_length == length && memcmp(got, text, length) == 0;
+    bool same = answer.refusal == ROSOPYAT_ACCEPTED && answer.format == ROSOPYAT_NUMERIC && answer.codes == 2 * (packet_length - 6) &&
+                answer.data_length == packet_length - 6 && answer.text_length == length && memcmp(got, text, length) == 0;
     expect(same, "not read", text, length);
 }
 

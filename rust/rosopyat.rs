@@ -62,6 +62,8 @@ pub struct Reading<'a> {
     pub mended: u32,
     /// Which bits those were: a one for each, in the order of the header's 32 bits, its first byte highest. `mended_bits` lists them.
     pub mask: u32,
+    /// Indicators, values and codes that were read; 0 in `Open`. Fill is none, and in `Numeric` there are two in each data byte.
+    pub codes: usize,
     pub data_length: usize,
     /// Bytes that belong to the packet: `data_length` and 6.
     pub used: usize,
@@ -150,8 +152,8 @@ pub enum ReadRefusal {
     CutOff,
     /// 6: the checksum of the data is not the one that follows it
     Checksum,
-    /// 7: with the data bit at which the first unreadable indicator, value or code starts
-    Malformed(usize),
+    /// 7: with the data bit at which the first unreadable indicator, value or code starts, and how many of these come before it
+    Malformed { bit: usize, codes: usize },
     /// 8: with the text's length
     NoRoom(usize),
 }
@@ -182,7 +184,7 @@ impl ReadRefusal {
             ReadRefusal::OtherLength => 4,
             ReadRefusal::CutOff => 5,
             ReadRefusal::Checksum => 6,
-            ReadRefusal::Malformed(_) => 7,
+            ReadRefusal::Malformed { .. } => 7,
             ReadRefusal::NoRoom(_) => 8,
         }
     }
@@ -212,7 +214,7 @@ impl fmt::Display for ReadRefusal {
             ReadRefusal::OtherLength => write!(to, "the length is 0 or above 4,000"),
             ReadRefusal::CutOff => write!(to, "fewer bytes than the length and 6"),
             ReadRefusal::Checksum => write!(to, "the checksum of the data is not the one that follows it"),
-            ReadRefusal::Malformed(bit) => write!(to, "the data is malformed at bit {}", bit),
+            ReadRefusal::Malformed { bit, codes } => write!(to, "the data is malformed at bit {}, codes before it: {}", bit, codes),
             ReadRefusal::NoRoom(needed) => write!(to, "the buffer is too short for a text of {} characters", needed),
         }
     }
@@ -255,6 +257,7 @@ fn reading_of<'a>(answer: library::ReadAnswer, text: &'a [u8]) -> Result<Reading
             sync: answer.sync == 1,
             mended: answer.mended,
             mask: answer.mask,
+            codes: answer.codes,
             data_length: answer.data_length,
             used: answer.used,
             text: &text[..answer.text_length],
@@ -265,7 +268,7 @@ fn reading_of<'a>(answer: library::ReadAnswer, text: &'a [u8]) -> Result<Reading
         4 => Err(ReadRefusal::OtherLength),
         5 => Err(ReadRefusal::CutOff),
         6 => Err(ReadRefusal::Checksum),
-        7 => Err(ReadRefusal::Malformed(answer.number)),
+        7 => Err(ReadRefusal::Malformed { bit: answer.number, codes: answer.codes }),
         8 => Err(ReadRefusal::NoRoom(answer.number)),
         17 => Err(ReadRefusal::TooManyBits),
         other => unknown("the reader's refusal", other),
@@ -301,6 +304,7 @@ mod library {
         pub sync: u32,
         pub mended: u32,
         pub mask: u32,
+        pub codes: usize,
         pub data_length: usize,
         pub text_length: usize,
         pub used: usize,

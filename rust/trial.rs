@@ -42,7 +42,7 @@ fn read_refusals() {
     let no_data = [&[0x40, 0x00, 0x03, 0xb4], &open[4..]].concat();
     assert_eq!(read(&no_data, &mut text), Err(ReadRefusal::OtherLength));
     let malformed = [&[0xd0, 0x00, 0x04, 0x30], &open[4..]].concat();
-    assert_eq!(read(&malformed, &mut text), Err(ReadRefusal::Malformed(0)));
+    assert_eq!(read(&malformed, &mut text), Err(ReadRefusal::Malformed { bit: 0, codes: 0 }));
     assert_eq!(text, [0; 8]);
 
     let mut mended = open.clone();
@@ -50,6 +50,45 @@ fn read_refusals() {
     mended.push(7);
     let reading = read(&mended, &mut text).unwrap();
     assert_eq!((reading.mended, reading.mask, reading.used, reading.text), (1, 0x8000_0000, 7, &b"\xff"[..]));
+}
+
+/// A packet of any data: the header of a text whose data is as long, and what follows the header of an Open packet.
+fn with_data(format: Format, as_long: &[u8], data: &[u8]) -> Vec<u8> {
+    let (mut one, mut other) = ([0; 64], [0; 64]);
+    let headed = write(format, false, as_long, &mut one).unwrap();
+    let open = write(Format::Open, false, data, &mut other).unwrap();
+    assert_eq!(headed.len(), open.len());
+    [&headed[..4], &open[4..]].concat()
+}
+
+/// How many codes data has, up to the most that it can have, and how many come before a bad place.
+fn codes() {
+    let mut text = [0; 16];
+    for (format, as_long, data, codes) in [
+        (Format::Open, &b"x"[..], &b"\0"[..], 0),
+        (Format::PseudoBinary, b"AB", b"\x81\x04\x2f", 3),
+        (Format::PseudoBinary, b"/", b"\x7f", 1),
+        (Format::PseudoBinary, b"AB", b"\0\0\0", 4),
+        (Format::Numeric, b"1", b"\x1a", 2),
+        (Format::Numeric, b"1:2", b"\x1e\xe2", 4),
+        (Format::Shef, b"A\n", b"\x83\xaf", 2),
+        (Format::Shef, b"01234567", b"\0\0\0\0\0", 8),
+        (Format::FullAscii, b"A\r\n", b"\x83\xff", 2),
+        (Format::FullAscii, b"   ", b"\0\0\0", 4),
+    ] {
+        assert_eq!(read(&with_data(format, as_long, data), &mut text).unwrap().codes, codes, "{:?} {:x?}", format, data);
+    }
+    for (format, as_long, data, bit, codes) in [
+        (Format::PseudoBinary, &b"/"[..], &b"\xff"[..], 8, 1),
+        (Format::PseudoBinary, b"A", b"\x82\x07", 14, 2),
+        (Format::PseudoBinary, b"AB", b"\x82\x04\x2f", 20, 3),
+        (Format::Shef, b"A", b"\xff", 0, 0),
+        (Format::Shef, b"AB", b"\x07\xff", 5, 1),
+        (Format::FullAscii, b"A", b"\xff", 0, 0),
+    ] {
+        let refused = read(&with_data(format, as_long, data), &mut text);
+        assert_eq!(refused, Err(ReadRefusal::Malformed { bit, codes }), "{:?} {:x?}", format, data);
+    }
 }
 
 /// As it was sent, with one and with two header bits flipped (P5 of the table of edges): for each number, how many bits are mended and which, or why not.
@@ -171,7 +210,8 @@ fn formats() {
 
 fn numbers_and_words() {
     use ReadRefusal::*;
-    let read = [TooManyBits, Short, NoHeader, OtherType, OtherLength, CutOff, Checksum, Malformed(70), NoRoom(80)];
+    let malformed = Malformed { bit: 70, codes: 11 };
+    let read = [TooManyBits, Short, NoHeader, OtherType, OtherLength, CutOff, Checksum, malformed, NoRoom(80)];
     assert_eq!(read.map(ReadRefusal::number), [17, 1, 2, 3, 4, 5, 6, 7, 8]);
     let write = [WriteRefusal::NoRoom(80), WriteRefusal::NoCode(90), WriteRefusal::Empty, WriteRefusal::TooLong, WriteRefusal::OtherFormat];
     assert_eq!(write.map(WriteRefusal::number), [8, 9, 10, 11, 12]);
@@ -182,7 +222,7 @@ fn numbers_and_words() {
         assert!(refusal.to_string().starts_with(&format!("refused {}: ", refusal.number())));
     }
     assert_eq!(Checksum.to_string(), "refused 6: the checksum of the data is not the one that follows it");
-    assert!(Malformed(70).to_string().ends_with("at bit 70") && NoRoom(80).to_string().ends_with("80 characters"));
+    assert!(malformed.to_string().ends_with("at bit 70, codes before it: 11") && NoRoom(80).to_string().ends_with("80 characters"));
     assert!(write[0].to_string().ends_with("80 bytes") && write[1].to_string().contains("index 90"));
 }
 
@@ -205,6 +245,7 @@ fn main() {
     assert_eq!(comes_back_as(Format::Shef, false, b"A\rB\n", b"A\r\nB\r\n"), 9);
     assert_eq!(there_and_back(Format::FullAscii, false, b"Stage 1.23 m\r\n\t~"), 19);
     read_refusals();
+    codes();
     named_numbers();
     mended_bits();
     write_refusals();
@@ -215,7 +256,8 @@ fn main() {
     let packet = std::fs::read(std::env::args().nth(1).expect("a packet's file")).unwrap();
     let mut text = [0; 4096];
     let reading = read(&packet, &mut text).unwrap();
-    assert_eq!((reading.format, reading.mask, reading.data_length, reading.text.len()), (Format::FullAscii, 0, 259, 306));
+    assert_eq!((reading.format, reading.mask, reading.codes), (Format::FullAscii, 0, 306));
+    assert_eq!((reading.data_length, reading.text.len()), (259, 306));
     let mut again = [0; 4096];
     assert_eq!(read_mending(2, &packet, &mut again), Ok(reading));
     println!("Rust, the module {}: all as it should be", if cfg!(as_crate) { "as a crate" } else { "in one file" });

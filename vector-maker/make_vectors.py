@@ -4,7 +4,9 @@
 Written from docs/RULES.md and document 001 alone. For the published packets of 001's section 5 (outside-tests/vectors/section5.txt) the expectation is
 the published packet and the message beside it; for the edges P1 to P15, M1 (but for the number that three bytes do not hold), M2, M3 and Q1 to Q3 it is
 the line of RULES, Edges; for all others it is worked out here, in the plainest way: bits are strings of 0 and 1, a header is mended by trying every pattern
-of at most as many bits as are named, and the mask of the mended bits is put together from the places that were turned over.
+of at most as many bits as are named, and the mask of the mended bits is put together from the places that were turned over. How many indicators, values and
+codes a packet has is known from its making, where a text's codes are listed one by one; section5.txt has it for the published packets; and for all others
+the codes are counted as they are read.
 
     python3 vector-maker/make_vectors.py            writes both files
     python3 vector-maker/make_vectors.py --check    writes nothing: are they what would be written?
@@ -85,7 +87,7 @@ def packet_of(format, data, sync=0):
 # ---- the five kinds of data
 
 class Malformed(Exception):
-    """At which bit."""
+    """At which bit, and with how many codes before it."""
 
 
 def bits_of(data):
@@ -101,9 +103,9 @@ def is_end(rest):
     return len(rest) <= 7 and "0" not in rest
 
 
-def take(bits, at, width, start):
+def take(bits, at, width, codes):
     if len(bits) - at < width:
-        raise Malformed(start)
+        raise Malformed(at, codes)
     return bits[at:at + width]
 
 
@@ -113,37 +115,41 @@ def value_character(value):
 
 
 def read_pseudo(data):
-    bits, at, text = bits_of(data), 0, bytearray()
+    bits, at, codes, text = bits_of(data), 0, 0, bytearray()
     while not is_end(bits[at:at + 8]) or len(bits) - at > 7:
         if bits[at] == "1":
-            count = int(take(bits, at, 8, at)[1:], 2) + 1
+            count = int(take(bits, at, 8, codes)[1:], 2) + 1
             at += 8
+            codes += 1
             for _ in range(count):
-                text.append(value_character(int(take(bits, at, 6, at), 2)))
+                text.append(value_character(int(take(bits, at, 6, codes), 2)))
                 at += 6
+                codes += 1
         else:
-            code = take(bits, at, 6, at)
+            code = take(bits, at, 6, codes)
             text += (b" " if code[1] == "0" else b"/") * (int(code[2:], 2) + 1)
             at += 6
-    return bytes(text)
+            codes += 1
+    return bytes(text), codes
 
 
 ENDS = {"00": b"\t", "01": b"\r", "10": b"\n", "11": b"\r\n"}
 
 
 def read_ascii(data):
-    bits, at, text = bits_of(data), 0, bytearray()
+    bits, at, codes, text = bits_of(data), 0, 0, bytearray()
     while not is_end(bits[at:at + 8]) or len(bits) - at > 7:
         if bits[at] == "0":
-            text.append(32 + int(take(bits, at, 6, at), 2))
+            text.append(32 + int(take(bits, at, 6, codes), 2))
             at += 6
-        elif take(bits, at, 7, at) != "1" * 7:
+        elif take(bits, at, 7, codes) != "1" * 7:
             text.append(int(bits[at:at + 7], 2))
             at += 7
         else:
-            text += ENDS[take(bits, at, 9, at)[7:]]
+            text += ENDS[take(bits, at, 9, codes)[7:]]
             at += 9
-    return bytes(text)
+        codes += 1
+    return bytes(text), codes
 
 
 TABLE_4 = b"0123456789 +,-./"
@@ -157,24 +163,27 @@ def from_base(base):
 
 
 def read_numeric(data):
-    return from_base(bytes(TABLE_4[code] for byte in data for code in (byte >> 4, byte & 15)))
+    base = bytes(TABLE_4[code] for byte in data for code in (byte >> 4, byte & 15))
+    return from_base(base), len(base)
 
 
 def read_shef(data):
-    bits, at, text = bits_of(data), 0, bytearray()
+    bits, at, codes, text = bits_of(data), 0, 0, bytearray()
     while not is_end(bits[at:at + 8]) or len(bits) - at > 7:
         if bits[at] == "0":
-            text.append(TABLE_4[int(take(bits, at, 5, at), 2)])
+            text.append(TABLE_4[int(take(bits, at, 5, codes), 2)])
             at += 5
-        elif take(bits, at, 6, at) == "1" * 6:
-            raise Malformed(at)
+        elif take(bits, at, 6, codes) == "1" * 6:
+            raise Malformed(at, codes)
         else:
             text += TABLE_6[int(bits[at + 1:at + 6], 2)]
             at += 6
-    return bytes(text)
+        codes += 1
+    return bytes(text), codes
 
 
-READ = {OPEN: bytes, PSEUDO: read_pseudo, NUMERIC: read_numeric, SHEF: read_shef, ASCII: read_ascii}
+# of data the text, and how many codes were read
+READ = {OPEN: lambda data: (data, 0), PSEUDO: read_pseudo, NUMERIC: read_numeric, SHEF: read_shef, ASCII: read_ascii}
 
 
 def pseudo_kind(character):
@@ -188,18 +197,27 @@ def value_of(character):
     return 63 if character == 0x3F else character - 64
 
 
-def write_pseudo(text):
-    bits = ""
+def values_codes(values):
+    """A run of values: the indicator, and each of them."""
+    return [f"1{len(values) - 1:07b}"] + [f"{value:06b}" for value in values]
+
+
+def pseudo_codes(text):
+    codes = []
     for kind, run in itertools.groupby(text, pseudo_kind):
         run = list(run)
         fullest = 128 if kind == "value" else 16
         for start in range(0, len(run), fullest):
             part = run[start:start + fullest]
             if kind == "value":
-                bits += f"1{len(part) - 1:07b}" + "".join(f"{value_of(character):06b}" for character in part)
+                codes += values_codes([value_of(character) for character in part])
             else:
-                bits += ("00" if kind == "space" else "01") + f"{len(part) - 1:04b}"
-    return bytes_of(bits)
+                codes.append(("00" if kind == "space" else "01") + f"{len(part) - 1:04b}")
+    return codes
+
+
+def write_pseudo(text):
+    return bytes_of("".join(pseudo_codes(text)))
 
 
 def ascii_code(character):
@@ -210,8 +228,12 @@ def ascii_code(character):
     return {0x09: "111111100", 0x0D: "111111101", 0x0A: "111111110"}.get(character)
 
 
+def ascii_codes(text):
+    return ["1" * 9 if part == b"\r\n" else ascii_code(part[0]) for part in re.findall(rb"\r\n|[\0-\xff]", text)]
+
+
 def write_ascii(text):
-    return bytes_of("".join("1" * 9 if part == b"\r\n" else ascii_code(part[0]) for part in re.findall(rb"\r\n|[\0-\xff]", text)))
+    return bytes_of("".join(ascii_codes(text)))
 
 
 def with_line_ends(text):
@@ -233,14 +255,24 @@ def to_base(text):
     return base + b" " * (len(base) % 2)
 
 
+def numeric_codes(text):
+    return [f"{TABLE_4.index(character):04b}" for character in to_base(text)]
+
+
 def write_numeric(text):
-    return bytes_of("".join(f"{TABLE_4.index(character):04b}" for character in to_base(text)))
+    return bytes_of("".join(numeric_codes(text)))
+
+
+def shef_codes(text):
+    return [SHEF_CODE[piece] for piece in pieces(text)]
 
 
 def write_shef(text):
-    return bytes_of("".join(SHEF_CODE[piece] for piece in pieces(text)))
+    return bytes_of("".join(shef_codes(text)))
 
 
+# of a text its codes one by one, and its data
+CODES = {OPEN: lambda text: [], PSEUDO: pseudo_codes, NUMERIC: numeric_codes, SHEF: shef_codes, ASCII: ascii_codes}
 WRITE = {OPEN: bytes, PSEUDO: write_pseudo, NUMERIC: write_numeric, SHEF: write_shef, ASCII: write_ascii}
 
 
@@ -267,7 +299,7 @@ def uncoded(format, text):
     return next((index for index, character in enumerate(text) if not has_code[format](character)), len(text))
 
 
-# ---- the reader and the writer: (answer, the number beside it, what is written into the buffer)
+# ---- the reader and the writer: (answer, the number beside it, what is written into the buffer), and of a reading (how many codes were read)
 
 def most_bits(named):
     return 1 if named is DEFAULT else named
@@ -294,12 +326,13 @@ def read(received, room, named):
     if received[4 + length:6 + length] != checksum(data):
         return "refused 6", 0, b""
     try:
-        text = READ[format](data)
-    except Malformed as place:
-        return "refused 7", place.args[0], b""
+        text, codes = READ[format](data)
+    except Malformed as malformed:
+        place, codes = malformed.args
+        return "refused 7", place, b"", codes
     if room < len(text):
         return "refused 8", len(text), b""
-    return f"ok {format} {sync} {count} {mask:08X} {length} {len(text)}", length + 6, text
+    return f"ok {format} {sync} {count} {mask:08X} {length} {len(text)}", length + 6, text, codes
 
 
 def write(format, sync, text, room):
@@ -335,25 +368,32 @@ def case(kind, named, sync, room, given, answer):
     STDOUT.append(f"{line}\n{beside} {zlib.adler32(lent):08x} {lent[:512].hex()}\n")
 
 
+def codes_in(answer):
+    """How many codes a reading came to: none where it does not say."""
+    return answer[3] if len(answer) > 3 else 0
+
+
 def examined(received, answer, named):
     """What is found out without a buffer: what the reader answers, given the room for the text. All its numbers are in decimal, the mask too."""
-    line, beside, _ = answer
-    if line == "refused 8":
-        line, beside, _ = read(received, beside, named)
-        assert line.startswith("ok "), (line, beside)
-    word, *numbers = line.split()
+    if answer[0] == "refused 8":
+        answer = read(received, answer[1], named)
+        assert answer[0].startswith("ok "), answer
+    word, *numbers = answer[0].split()
     if word == "ok":
-        word, numbers[3] = "readable", str(int(numbers[3], 16))
-    return " ".join([word, *numbers, str(beside)]) + "\n"
+        format, sync, mended, mask, *lengths = numbers
+        return " ".join(map(str, ["readable", format, sync, mended, int(mask, 16), codes_in(answer), *lengths, answer[1]])) + "\n"
+    return " ".join(map(str, [word, *numbers, answer[1], codes_in(answer)])) + "\n"
 
 
 def reads(received, room, answer=None, named=MOST_MENDED):
     answer = answer or read(received, room, named)
     STDOUT.append(examined(received, answer, named))
+    line, beside, put = answer[:3]
+    printed = f"{line}\ncodes {codes_in(answer)}", beside, put
     if named is DEFAULT:
-        case(b"d", 0, 0, room, received, answer)
+        case(b"d", 0, 0, room, received, printed)
     else:
-        case(b"r", named, 0, room, received, answer)
+        case(b"r", named, 0, room, received, printed)
 
 
 def writes(format, text, room, sync=0, answer=None):
@@ -368,25 +408,27 @@ def flipped(received, places):
     return word.to_bytes(4, "big") + received[4:]
 
 
-def accepted(format, used, text, sync=0, places=()):
-    """The answer where a packet of so many bytes, which carries the text, was flipped at these places and is read as it was sent."""
+def accepted(format, used, text, sync=0, places=(), codes=None):
+    """The answer where a packet of so many bytes, which carries the text, was flipped at these places and is read as it was sent. Where it is not said how many
+    codes it has, it has those that the text is written in."""
     mask = "".join("1" if place in places else "0" for place in range(32))
-    return f"ok {format} {sync} {len(places)} {int(mask, 2):08X} {used - 6} {len(text)}", used, text
+    codes = len(CODES[format](text)) if codes is None else codes
+    return f"ok {format} {sync} {len(places)} {int(mask, 2):08X} {used - 6} {len(text)}", used, text, codes
 
 
 def sections():
-    """001's section 5, by number: the packet, and the text of the message beside it."""
+    """001's section 5, by number: the packet, the text of the message beside it, and how many codes the packet has."""
     found = {}
     for section in (ROOT / "outside-tests/vectors/section5.txt").read_text().split("\n## ")[1:]:
         sent = bytes.fromhex("".join(re.findall(r"^packet (\w+)", section, re.M)))
         message = bytes.fromhex("".join(re.findall(r"^text (\w+)", section, re.M)))
-        found[section.split()[0]] = sent, message
+        found[section.split()[0]] = sent, message, int(re.search(r"^codes (\d+)", section, re.M)[1])
     return found
 
 
 def published():
     """001's section 5: the packets, and the messages beside them."""
-    for name, (sent, message) in sections().items():
+    for name, (sent, message, codes) in sections().items():
         format = {"5.1": OPEN, "5.2.1": PSEUDO, "5.2.2": PSEUDO, "5.3": NUMERIC, "5.4": SHEF, "5.5": ASCII}[name]
         text = bytes(range(256)) if format == OPEN else message
         used = len(sent)
@@ -398,7 +440,7 @@ def published():
             writes(format, text, used, answer=written)
             assert len(text) == 317
             text += b" "
-        ok = accepted(format, used, text)
+        ok = accepted(format, used, text, codes=codes)
         for more in b"", b"\x00", bytes(range(100)):
             reads(sent + more, len(text) + 4, ok)
         reads(sent, len(text), ok)
@@ -411,7 +453,7 @@ def published():
 
 def messages():
     """The text of every message of section 5, in the compact formats where it has codes there, and read back; 5 and 6 are no formats."""
-    for sent, text in sections().values():
+    for sent, text, _ in sections().values():
         for extended in 5, 6:
             writes(extended, text, 500, answer=("refused 12", 0, b""))
         for format in COMPACT:
@@ -442,8 +484,8 @@ def edges():
         for same in text, *others:
             writes(format, same, len(whole) + 2, answer=(f"written {len(whole)}", len(whole), whole))
 
-    def malformed(format, sent, place):
-        reads(packet_of(format, bytes.fromhex(sent)), 300, ("refused 7", place, b""))
+    def malformed(format, sent, place, codes):
+        reads(packet_of(format, bytes.fromhex(sent)), 300, ("refused 7", place, b"", codes))
 
     assert header(2, 1, 0, 0, 107).to_bytes(4, "big").hex() == "c401ae85"
     reads(bytes.fromhex("C401AE85"), 8, ("refused 5", 0, b""))  # P1
@@ -460,11 +502,11 @@ def edges():
     data(PSEUDO, b"/" * 16, "7F")  # P9
     data(PSEUDO, b"/" * 17, "7D0F")
     data(PSEUDO, b"////    ////    ", "4C34C3")  # P10
-    malformed(PSEUDO, "FF", 8)  # P11
+    malformed(PSEUDO, "FF", 8, 1)  # P11
     data(ASCII, b"AB", "830B")  # P12
     data(ASCII, b"A\r\n", "83FF")  # P13
     data(ASCII, b"\r\n", "FFFF")  # P14
-    malformed(ASCII, "FF", 0)  # P15
+    malformed(ASCII, "FF", 0, 0)  # P15
     data(PSEUDO, b"?", "80FF", others=[b"\x7f"])  # Q1
     data(PSEUDO, b"~", "80FB")  # Q2
     writes(PSEUDO, b">", 10, answer=("refused 9", 0, b""))
@@ -481,7 +523,7 @@ def sixty_threes():
     for count, place in [(count, place) for count in (1, 8, 127, 128, 129) for place in range(count)]:
         values = [63 if index == place else (5 * index + place) % 63 for index in range(count)]
         parts = [part for part in (values[:128], values[128:]) if part]
-        bits = "".join(f"1{len(part) - 1:07b}" + "".join(f"{value:06b}" for value in part) for part in parts)
+        bits = "".join(code for part in parts for code in values_codes(part))
         for before, behind in ways if count <= 8 or place in (0, 127, count - 1) else [next(turns)]:
             whole = packet_of(PSEUDO, bytes_of(beside[before] + bits + beside[behind]))
             back, other = (before + bytes(sixty_three if value == 63 else 64 + value for value in values) + behind for sixty_three in (0x3F, 0x7F))
@@ -528,8 +570,8 @@ def line_ends_and_pairs():
         writes(SHEF, text, 20, answer=("refused 9", index, b""))
     for pair in itertools.product(TABLE_4 + b"\r\n#=:E", repeat=2):
         writes(NUMERIC, bytes(pair), 10)
-    for sent, place in ("FF", 0), ("FBFF", 6), ("07FF", 5), ("FE", 0), ("FC", 0):
-        reads(packet_of(SHEF, bytes.fromhex(sent)), 10, ("refused 7", place, b""))
+    for sent, place, codes in ("FF", 0, 0), ("FBFF", 6, 1), ("07FF", 5, 1), ("FE", 0, 0), ("FC", 0, 0):
+        reads(packet_of(SHEF, bytes.fromhex(sent)), 10, ("refused 7", place, b"", codes))
 
 
 SMALL = (OPEN, b"\x37", 0), (PSEUDO, bytes.fromhex("81042F"), 1), (ASCII, b"\x83\x0b", 0), (NUMERIC, b"\x1e\xe2", 1), (SHEF, b"\x82\x1f", 0)
@@ -539,7 +581,7 @@ def headers():
     """Headers 0 to 3 bits off."""
     for format, sent, sync in SMALL:
         whole = packet_of(format, sent, sync)
-        text = READ[format](sent)
+        text, _ = READ[format](sent)
         for places in [()] + list(itertools.combinations(range(32), 1)) + (list(itertools.combinations(range(32), 2)) if format == PSEUDO else []):
             reads(flipped(whole, places), len(text), accepted(format, len(whole), text, sync, places))
         for place in range(32):
@@ -586,6 +628,13 @@ def begins_code(format, rest):
     return len(rest) >= (9 if rest[:7] == "1" * 7 else 7)
 
 
+def malformed_behind(format, codes, rest):
+    """Data of whole codes, and of a remainder that cannot be read, to the end of a byte."""
+    front = "".join(codes)
+    assert len(front + rest) % 8 == 0
+    reads(packet_of(format, bytes_of(front + rest)), 20, ("refused 7", len(front), b"", len(codes)))
+
+
 def endings():
     """Every remainder that cannot be read, each at two distances from the start."""
     bad = {format: [rest for rest in bit_strings(8) if not is_end(rest) and not begins_code(format, rest)] for format in (ASCII, PSEUDO, SHEF)}
@@ -593,26 +642,22 @@ def endings():
     values = [rest for rest in bit_strings(5) if len(rest) % 2 == 0]  # where a value of six bits is announced, ones are no fill
     assert (len(bad[ASCII]), len(bad[PSEUDO]), len(bad[SHEF]), len(values)) == (90, 49, 46, 21)
 
-    def malformed(format, front, rest):
-        assert len(front + rest) % 8 == 0
-        reads(packet_of(format, bytes_of(front + rest)), 20, ("refused 7", len(front), b""))
-
     for rest in bad[ASCII]:
         to_byte = -len(rest) % 8  # seven bits are one less than a byte
-        malformed(ASCII, "1000001" * (8 - to_byte), rest)
-        malformed(ASCII, "111111111" + "010000" * 12 + "1111110" * (17 - to_byte), rest)
+        malformed_behind(ASCII, ["1000001"] * (8 - to_byte), rest)
+        malformed_behind(ASCII, ["111111111"] + ["010000"] * 12 + ["1111110"] * (17 - to_byte), rest)
     for rest in bad[SHEF]:
         fives = -5 * len(rest) % 8  # 25 bits are one more than three bytes
-        malformed(SHEF, "01110" * fives, rest)
-        malformed(SHEF, "111010" * 4 + "01111" * (8 + fives) + "111110" * 4, rest)
+        malformed_behind(SHEF, ["01110"] * fives, rest)
+        malformed_behind(SHEF, ["111010"] * 4 + ["01111"] * (8 + fives) + ["111110"] * 4, rest)
     for rest in bad[PSEUDO]:
         sixes = len(rest) // 2 % 4  # six bits are two less than a byte
-        malformed(PSEUDO, "010010" * sixes, rest)
-        malformed(PSEUDO, "10010011" + "101010" * 20 + "001111" * (8 + sixes), rest)
+        malformed_behind(PSEUDO, ["010010"] * sixes, rest)
+        malformed_behind(PSEUDO, ["10010011"] + ["101010"] * 20 + ["001111"] * (8 + sixes), rest)
     for rest in values:
         sixes = len(rest) // 2 % 4
-        malformed(PSEUDO, f"1{sixes:07b}" + "110011" * sixes, rest)
-        malformed(PSEUDO, "010000" * 4 + "11111111" + "000111" * (28 + sixes), rest)
+        malformed_behind(PSEUDO, [f"1{sixes:07b}"] + ["110011"] * sixes, rest)
+        malformed_behind(PSEUDO, ["010000"] * 4 + ["11111111"] + ["000111"] * (28 + sixes), rest)
 
 
 def compact_data():
@@ -631,7 +676,7 @@ def compact_data():
                 if format == NUMERIC and generator.random() < 0.7:
                     data = bytearray(generator.choice((0xBB, 0xBD, 0xDB, 0xDD, 0xEE, 0xBE, 0xEB, 0x1B, 0xB1)) for _ in data)
                 try:
-                    room = len(READ[format](bytes(data)))
+                    room = len(READ[format](bytes(data))[0])
                 except Malformed:
                     room = 64
                 reads(packet_of(format, bytes(data)), max(0, room - generator.choice((0, 0, 0, 1))))
@@ -727,10 +772,10 @@ def edges_named():
         reads(with_byte("400004DD"), 3, ("ok 0 0 0 00000000 1 1", 7, b"\x37"), named)  # M2
         for head, mask in ("C00004DD", "80000000"), ("400004DC", "00000001"), ("408004DD", "00800000"):  # M2, M3
             reads(with_byte(head), 3, ("refused 2", 0, b"") if named == 0 else (f"ok 0 0 1 {mask} 1 1", 7, b"\x37"), named)
-        for sent, message in sections().values():
+        for sent, message, codes in sections().values():
             format = sent[0] >> 2 & 7
             text = sent[4:-2] if format == OPEN else message + b" " * (format == NUMERIC)
-            reads(sent, len(text), accepted(format, len(sent), text), named)
+            reads(sent, len(text), accepted(format, len(sent), text, codes=codes), named)
             reads(sent, len(text) - 1, ("refused 8", len(text), b""), named)
             reads(sent[:-1], len(text), ("refused 5", 0, b""), named)
         for length in range(4):
@@ -743,7 +788,7 @@ def flipped_headers():
     patterns = [(place,) for place in range(32)] + [places[:flips] for flips in (2, 3, 4) for places in several]
     ways = {1: (0, 1, DEFAULT), 2: (0, 1, 2, DEFAULT), 3: (0, 1, DEFAULT), 4: (0,)}
     for (format, sent, sync), places in itertools.product(SMALL, patterns):
-        flips, whole, text = len(set(places)), packet_of(format, sent, sync), READ[format](sent)
+        flips, whole, text = len(set(places)), packet_of(format, sent, sync), READ[format](sent)[0]
         ok = accepted(format, len(whole), text, sync, places)
         for named in ways[flips]:
             reads(flipped(whole, places), len(text), ok if as_sent(named, flips) else ("refused 2", 0, b""), named)
@@ -769,9 +814,75 @@ def too_many_bits():
             reads(packet_of(format, sent, sync), 0 if format == OPEN else 9, ("refused 17", 0, b""), named)
 
 
+def built(format, codes, text):
+    """Data put together of these codes and fill, read in the room for its text and in one byte less."""
+    whole = packet_of(format, bytes_of("".join(codes)))
+    reads(whole, len(text), accepted(format, len(whole), text, codes=len(codes)))
+    reads(whole, len(text) - 1, ("refused 8", len(text), b""))
+
+
+def most_codes():
+    """As many codes as data can have: zeros are the shortest, each of one character."""
+    for length in *range(1, 13), 1000, 3999, 4000:
+        for format, width, character, most in ((PSEUDO, 6, b" ", 4 * length // 3), (NUMERIC, 4, b"0", 2 * length), (SHEF, 5, b"0", 8 * length // 5),
+                                               (ASCII, 6, b" ", 4 * length // 3)):
+            codes = ["0" * width] * most
+            assert len(bytes_of("".join(codes))) == length
+            built(format, codes, character * most)
+
+
+def fills():
+    """One to eight codes of one width, and so every length of fill; and one to eight values behind one indicator."""
+    for count in range(1, 9):
+        for format, code, character in ((PSEUDO, "010000", b"/"), (SHEF, "00001", b"1"), (SHEF, "100000", b"A"), (ASCII, "000001", b"!"),
+                                        (ASCII, "1000001", b"A"), (ASCII, "111111100", b"\t")):
+            built(format, [code] * count, character * count)
+        built(PSEUDO, values_codes([63] * count), b"?" * count)
+
+
+def cut_runs():
+    """One text in runs that are cut in several ways: each has an indicator more."""
+    for runs in (16,), (8, 8), (15, 1), (1, 14, 1), (1,) * 16:
+        for kind, character in ("00", b" "), ("01", b"/"):
+            built(PSEUDO, [f"{kind}{run - 1:04b}" for run in runs], character * 16)
+    for runs in (128,), (64, 64), (1, 127), (127, 1), (1, 126, 1), (1,) * 128:
+        built(PSEUDO, [code for run in runs for code in values_codes([33] * run)], b"a" * 128)
+    built(PSEUDO, ["000000", *values_codes([1, 2]), "010001", "000010", *values_codes([3])], b" AB//   C")
+
+
+def line_ends_counted():
+    """A line end is one code of SHEF and of Full ASCII, but there CR and LF may have two; in Numeric it is two, as each pair."""
+    for count in *range(1, 10), 100:
+        built(SHEF, ["111010"] * count, b"\r\n" * count)
+        built(ASCII, ["111111111"] * count, b"\r\n" * count)
+        built(ASCII, ["111111101", "111111110"] * count, b"\r\n" * count)
+        built(NUMERIC, ["1011", "1011"] * count, b"\r\n" * count)
+    built(ASCII, ["111111101", "111111111", "111111110"], b"\r\r\n\n")
+    for base, text in (b"++", b"\r\n"), (b"+-", b"#"), (b"-+", b"="), (b"..", b":"), (b"--", b"E"), (b"1 ", b"1 "), (b"1++ ", b"1\r\n "), (b"+++ ", b"\r\n+ "):
+        built(NUMERIC, [f"{TABLE_4.index(character):04b}" for character in base], text)
+
+
+def codes_before_six_ones():
+    """SHEF: so many codes, of one character or two, before six ones that are not fill."""
+    for code, count in itertools.product(("00001", "100000", "111010"), (*range(1, 10), 50)):
+        zeros = -(len(code) * count + 6) % 8 or 8
+        malformed_behind(SHEF, [code] * count, "111111" + "0" * zeros)
+
+
+def values_missing():
+    """Fewer values than are announced, behind nothing, behind runs and behind values: the indicator counts, and each value that is whole."""
+    for front, announced in itertools.product(([], ["000000"], ["011111", "001111"], values_codes([5, 6, 7])), (1, 2, 3, 8, 64, 127, 128)):
+        for there in sorted({0, 1, 2, 3, 4, announced // 2, announced - 2, announced - 1} & set(range(announced))):
+            codes = front + [f"1{announced - 1:07b}"] + ["110011"] * there
+            rest = -sum(map(len, codes)) % 8
+            for bits in sorted({"0" * rest, "1" * rest}) if rest < 6 else ():  # six would be another value
+                malformed_behind(PSEUDO, codes, bits)
+
+
 def make():
     for group in (published, messages, edges, sixty_threes, line_ends_and_pairs, headers, reader_refusals, endings, compact_data, longest, writer_refusals,
-                  texts, edges_named, flipped_headers, tests_behind, too_many_bits):
+                  texts, edges_named, flipped_headers, tests_behind, too_many_bits, most_codes, fills, cut_runs, line_ends_counted, codes_before_six_ones,
+                  values_missing):
         before = COUNT
         group()
         print(f"{group.__name__}: {COUNT - before} cases")

@@ -4,8 +4,9 @@
  *
  * Each case depends on the seed and its own number only, so `outside-tests/compare/run 1 SEED FIRST` repeats one. A difference in any member of an
  * answer or any byte of a buffer, a byte changed outside of what the answer allows, a read or write past a buffer's end, a mask that does not lead from the
- * received header to a valid one by as many bits as were mended, or an answer other than the one known from how the packet was made ends the run with
- * status 1. So does, in a run of MEANT_CASES or more, an outcome that never occurred, of the list below, of an answer in a format or of a header bit mended. */
+ * received header to a valid one by as many bits as were mended, more codes than the data can have, or an answer other than the one known from how the packet
+ * was made ends the run with status 1. So does, in a run of MEANT_CASES or more, an outcome that never occurred, of the list below, of an answer in a format or
+ * of a header bit mended. */
 #define _GNU_SOURCE
 #include "independent.h"
 #include "maker.h"
@@ -75,13 +76,16 @@ enum outcome {
     READ_LONGEST,
     READ_LONGEST_NUMERIC,
     READ_LONGEST_SHEF,
-    READ_ROOM_EXACT,
+    READ_MOST_CODES, /* and the format */
+    READ_ROOM_EXACT = READ_MOST_CODES + 5,
     READ_ROOM_ONE_MORE,
     READ_TRAILING,
     READ_LONG_TAIL,
     MADE_AND_READ,
     MADE_VALUE_63,
-    DAMAGED, /* and its kind */
+    MADE_MALFORMED, /* and the format */
+    MADE_MALFORMED_MOST_CODES = MADE_MALFORMED + 5, /* and the format */
+    DAMAGED = MADE_MALFORMED_MOST_CODES + 5, /* and its kind */
     DAMAGED_MENDED = DAMAGED + 4, /* and the header bits flipped beside it */
     NO_ROOM_ONE_SHORT = DAMAGED_MENDED + 3,
     FLIPPED_NAMED, /* and five times the number named, and the header bits flipped */
@@ -136,12 +140,22 @@ static const char *const outcome_name[OUTCOMES] = {
     [READ_LONGEST] = "  with 85,328 characters",
     [READ_LONGEST_NUMERIC] = "  with 8,000 characters of Compact Numeric",
     [READ_LONGEST_SHEF] = "  with 10,666 characters of Compact SHEF",
+    [READ_MOST_CODES + 1] = "  with 5,333 codes of Compact Pseudo Binary",
+    [READ_MOST_CODES + 2] = "  with 8,000 codes of Compact Numeric",
+    [READ_MOST_CODES + 3] = "  with 6,400 codes of Compact SHEF",
+    [READ_MOST_CODES + 4] = "  with 5,333 codes of Compact Full ASCII",
     [READ_ROOM_EXACT] = "  with exactly the room needed",
     [READ_ROOM_ONE_MORE] = "  with one byte more room",
     [READ_TRAILING] = "  with bytes behind the packet",
     [READ_LONG_TAIL] = "  with more than 4,000 bytes behind the packet",
     [MADE_AND_READ] = "  and read as made",
     [MADE_VALUE_63] = "    with a value 63 (Compact Pseudo Binary)",
+    [MADE_MALFORMED + 1] = "refused 7 as made, Compact Pseudo Binary",
+    [MADE_MALFORMED + 3] = "refused 7 as made, Compact SHEF",
+    [MADE_MALFORMED + 4] = "refused 7 as made, Compact Full ASCII",
+    [MADE_MALFORMED_MOST_CODES + 1] = "  with as many codes as the data can have, Compact Pseudo Binary",
+    [MADE_MALFORMED_MOST_CODES + 3] = "  with as many codes as the data can have, Compact SHEF",
+    [MADE_MALFORMED_MOST_CODES + 4] = "  with as many codes as the data can have, Compact Full ASCII",
     [DAMAGED + 0] = "refused 6 for a data byte changed",
     [DAMAGED + 1] = "refused 6 for two neighbouring data bytes changed",
     [DAMAGED + 2] = "refused 6 for a checksum byte changed",
@@ -204,6 +218,16 @@ static const struct {
 };
 
 static uint64_t read_answers[FORMATS][REFUSALS], write_answers[FORMATS][REFUSALS];
+
+/* The bits of a format's shortest code, and how many codes so many bits have at most: n bytes of data 4n/3 in Compact Pseudo Binary and Full ASCII, 2n in
+ * Numeric, 8n/5 in SHEF. In Open there are none. */
+
+static const unsigned shortest_code[FORMATS] = {0, 6, 4, 5, 6};
+
+static size_t most_codes(unsigned format, size_t bits)
+{
+    return format == 0 ? 0 : bits / shortest_code[format];
+}
 
 /* How often each header bit was mended, from the lowest on; and the parts that the bits belong to. */
 
@@ -284,8 +308,8 @@ static void touched_outside(int signal_number)
 
 static void dump_read_answer(const char *name, rosopyat_read_answer a)
 {
-    printf("%s: refusal %u number %zu format %u sync %u mended %u mask %08X data_length %zu text_length %zu used %zu\n", name, a.refusal, a.number, a.format,
-           a.sync, a.mended, a.mask, a.data_length, a.text_length, a.used);
+    printf("%s: refusal %u number %zu format %u sync %u mended %u mask %08X codes %zu data_length %zu text_length %zu used %zu\n", name, a.refusal, a.number,
+           a.format, a.sync, a.mended, a.mask, a.codes, a.data_length, a.text_length, a.used);
 }
 
 static void dump_write_answer(const char *name, rosopyat_write_answer a)
@@ -374,13 +398,14 @@ struct made {
     size_t length;
     bool headed; /* it starts with a valid header, but for so many flipped bits; what follows holds where that header is found */
     unsigned flipped;
-    uint32_t mask; /* of the flipped bits */
-    bool known;    /* the outcome is known from the making: this format, sync and text */
-    bool damaged;  /* known too: refused by checksum, for a damage of this kind */
+    uint32_t mask;  /* of the flipped bits */
+    bool known;     /* the outcome is known from the making: this format, sync and text, in so many codes */
+    bool malformed; /* and then it is refused as malformed, at the bit `bad`, with so many codes before it */
+    bool damaged;   /* known too: refused by checksum, for a damage of this kind */
     unsigned kind;
     unsigned format, sync;
     unsigned flag; /* that the header says */
-    size_t data_length, text_length;
+    size_t data_length, text_length, codes, bad;
 };
 
 static struct made made;
@@ -443,38 +468,39 @@ static void make_pseudo_binary(struct maker_bits *bits, size_t most_bits, bool l
             size_t run = some_run(128);
             if (8 + 6 * run > rest)
                 run = (rest - 8) / 6;
-            maker_put(bits, 0x80 | (run - 1), 8);
+            maker_code(bits, 0x80 | (run - 1), 8);
             for (size_t i = 0; i < run; i++) {
                 unsigned value = chance(10) ? 63 : below(64);
-                maker_put(bits, value, 6);
+                maker_code(bits, value, 6);
                 add_text(value_character(value), 1);
             }
         } else {
             size_t run = longest ? 16 : some_run(16);
-            maker_put(bits, (kind & 1) << 4 | (run - 1), 6);
+            maker_code(bits, (kind & 1) << 4 | (run - 1), 6);
             add_text(kind & 1 ? '/' : ' ', run);
         }
     }
 }
 
-static void make_full_ascii(struct maker_bits *bits, size_t most_bits)
+/* `shortest`: codes of six bits only. */
+static void make_full_ascii(struct maker_bits *bits, size_t most_bits, bool shortest)
 {
-    unsigned controls = chance(20) ? 60 : 8;
+    unsigned controls = shortest ? 0 : chance(20) ? 60 : 8, letters = shortest ? 0 : 50;
     while (one_more(most_bits - bits->bits, 6)) {
         size_t rest = most_bits - bits->bits;
         if (rest >= 9 && chance(controls)) {
             unsigned code = below(4);
-            maker_put(bits, 0x1fc | code, 9);
+            maker_code(bits, 0x1fc | code, 9);
             if (code == 3)
                 add_text('\r', 1);
             add_text("\t\r\n\n"[code], 1);
-        } else if (rest >= 7 && chance(50)) {
+        } else if (rest >= 7 && chance(letters)) {
             unsigned character = between(64, 126);
-            maker_put(bits, character, 7);
+            maker_code(bits, character, 7);
             add_text(character, 1);
         } else {
             unsigned character = between(32, 63);
-            maker_put(bits, character - 32, 6);
+            maker_code(bits, character - 32, 6);
             add_text(character, 1);
         }
     }
@@ -496,16 +522,18 @@ static void make_numeric(struct maker_bits *bits, size_t most_bits, bool longest
 {
     unsigned specials = chance(30) ? 60 : 10, signs = chance(30) ? 60 : 10, before = 0;
     while (bits->bits < most_bits) {
-        unsigned code = chance(signs) ? sign_codes[below(3)] : below(16), character = numeric_characters[code], width = 4;
-        if (most_bits - bits->bits >= 8 && chance(specials)) {
+        unsigned code = chance(signs) ? sign_codes[below(3)] : below(16), character = numeric_characters[code];
+        bool two = most_bits - bits->bits >= 8 && chance(specials);
+        if (two) {
             unsigned special = longest ? 0 : below(5);
             code = special_codes[special];
             character = special_characters[special];
-            width = 8;
         }
         if (makes_pair(before, character))
             continue;
-        maker_put(bits, code, width);
+        if (two)
+            maker_code(bits, code >> 4, 4);
+        maker_code(bits, code & 15, 4);
         if (character == '\n')
             add_text('\r', 1);
         add_text(character, 1);
@@ -513,20 +541,20 @@ static void make_numeric(struct maker_bits *bits, size_t most_bits, bool longest
     }
 }
 
-/* `longest`: line ends only. */
-static void make_shef(struct maker_bits *bits, size_t most_bits, bool longest)
+/* `longest`: line ends only; `shortest`: codes of five bits only. */
+static void make_shef(struct maker_bits *bits, size_t most_bits, bool longest, bool shortest)
 {
-    unsigned letters = chance(30) ? 80 : 20;
+    unsigned letters = shortest ? 0 : chance(30) ? 80 : 20;
     while (one_more(most_bits - bits->bits, longest ? 8 : 5)) {
         if (longest || (most_bits - bits->bits >= 6 && chance(letters))) {
             unsigned code = longest || chance(10) ? 26 : below(31);
-            maker_put(bits, 32 + code, 6);
+            maker_code(bits, 32 + code, 6);
             if (code == 26)
                 add_text('\r', 1);
             add_text("ABCDEFGHIJKLMNOPQRSTUVWXYZ\n#=:;"[code], 1);
         } else {
             unsigned code = below(16);
-            maker_put(bits, code, 5);
+            maker_code(bits, code, 5);
             add_text(numeric_characters[code], 1);
         }
     }
@@ -546,11 +574,52 @@ static void make_ending(struct maker_bits *bits)
     maker_put(bits, ending, width);
 }
 
+/* Compact Pseudo Binary: fewer values than are announced, and at most five bits of the next. */
+static void announce_too_many(struct maker_bits *bits)
+{
+    size_t count = below(chance(30) ? 126 : 5);
+    if ((bits->bits + 6 * count) % 8 == 2) /* six bits to the end of a byte are another value */
+        count++;
+    maker_code(bits, 0x80 | (between(count + 1, 128) - 1), 8);
+    for (; count > 0; count--)
+        maker_code(bits, below(64), 6);
+    made.bad = bits->bits;
+}
+
+/* Bits at the end of a byte, too few for any code of the format, whose shortest has so many, and not all ones. */
+static void end_too_early(struct maker_bits *bits, unsigned shortest)
+{
+    while (bits->bits % 8 == 0 || 8 - bits->bits % 8 >= shortest)
+        maker_code(bits, below(1u << (shortest - 1)), shortest);
+    unsigned rest = 8 - bits->bits % 8;
+    made.bad = bits->bits;
+    maker_put(bits, random_64() & ~(1u << below(rest)), rest);
+}
+
+/* Behind readable codes one that is surely not. */
+static void make_malformed(unsigned format, struct maker_bits *bits)
+{
+    made.malformed = true;
+    if (format == 1 && chance(60))
+        announce_too_many(bits);
+    else if (format == 3 && chance(60)) {
+        made.bad = bits->bits;
+        maker_put(bits, 0x3f, 6);
+        maker_put(bits, chance(50) ? ~0u : random_64(), between(2, 24));
+    } else if (format == 4 && bits->bits % 8 == 0) { /* nine bits are needed */
+        made.bad = bits->bits;
+        maker_put(bits, 0xfe | below(2), 8);
+    } else
+        end_too_early(bits, shortest_code[format]);
+    while (bits->bits % 8 != 0)
+        maker_put(bits, chance(80), 1);
+}
+
 static size_t make_data(unsigned format, uint8_t *data)
 {
-    bool longest = format >= 1 && format <= 3 && chance(4);
-    size_t length = longest ? 4000 : some_length();
-    struct maker_bits bits = {data, 0};
+    bool longest = format >= 1 && format <= 3 && chance(4), shortest = format >= 3 && !longest && chance(4);
+    size_t length = longest || shortest ? 4000 : some_length();
+    struct maker_bits bits = {data, 0, 0};
     if (format == 0) {
         random_bytes(data, length);
         memcpy(made_text, data, length);
@@ -573,9 +642,9 @@ static size_t make_data(unsigned format, uint8_t *data)
     else if (format == 2)
         make_numeric(&bits, 8 * length, longest);
     else if (format == 3)
-        make_shef(&bits, 8 * length, longest);
+        make_shef(&bits, 8 * length, longest, shortest);
     else
-        make_full_ascii(&bits, 8 * length);
+        make_full_ascii(&bits, 8 * length, shortest);
     if (dice < 35 && length <= 3990) {
         made.known = false;
         make_ending(&bits);
@@ -594,6 +663,9 @@ static size_t make_data(unsigned format, uint8_t *data)
         maker_fill(&bits);
         return between(1, bits.bits / 8);
     }
+    if (dice < 58 && format != 2 && length <= 3900)
+        make_malformed(format, &bits);
+    made.codes = bits.codes;
     return maker_fill(&bits);
 }
 
@@ -676,9 +748,9 @@ static unsigned some_format(void)
 static void make_packet(void)
 {
     made.known = true;
-    made.headed = made.damaged = false;
+    made.headed = made.damaged = made.malformed = false;
     made.flag = 0;
-    made.text_length = 0;
+    made.text_length = made.codes = 0;
     if (chance(4)) { /* any bytes at all */
         made.known = false;
         made.length = below(80);
@@ -769,7 +841,7 @@ static bool is_lost(uint32_t mend)
 static bool same_read_answer(rosopyat_read_answer a, rosopyat_read_answer b)
 {
     return a.refusal == b.refusal && a.number == b.number && a.format == b.format && a.sync == b.sync && a.mended == b.mended && a.mask == b.mask &&
-           a.data_length == b.data_length && a.text_length == b.text_length && a.used == b.used;
+           a.codes == b.codes && a.data_length == b.data_length && a.text_length == b.text_length && a.used == b.used;
 }
 
 static bool read_as_made(rosopyat_read_answer answer, const uint8_t *text)
@@ -785,6 +857,19 @@ static bool only_refused(rosopyat_read_answer answer, uint32_t refusal)
     return same_read_answer(answer, (rosopyat_read_answer){.refusal = refusal});
 }
 
+static bool malformed_as_made(rosopyat_read_answer answer)
+{
+    return same_read_answer(answer, (rosopyat_read_answer){.refusal = 7, .number = made.bad, .codes = made.codes});
+}
+
+static uint32_t received_header(void)
+{
+    uint32_t header = 0;
+    for (int i = 0; i < 4; i++)
+        header = header << 8 | made.packet[i];
+    return header;
+}
+
 /* What holds of the mask in any answer, whether the packet's outcome is known or not; NULL where it is so. */
 static const char *compare_mask(rosopyat_read_answer answer)
 {
@@ -792,10 +877,23 @@ static const char *compare_mask(rosopyat_read_answer answer)
         return answer.mask == 0 ? NULL : "a refusal has a mask";
     if ((unsigned)__builtin_popcount(answer.mask) != answer.mended)
         return "the mask has not as many ones as bits were mended";
-    uint32_t header = answer.mask;
-    for (int i = 0; i < 4; i++)
-        header ^= (uint32_t)made.packet[i] << (24 - 8 * i);
+    uint32_t header = received_header() ^ answer.mask;
     return header == maker_header(header >> 24, header >> 10) ? NULL : "the mask does not give a valid header back";
+}
+
+/* The same of the codes. Where the header of malformed data is not known from the making, it may be that of SHEF, whose codes are the shortest. */
+static const char *compare_codes(uint32_t mend, rosopyat_read_answer answer)
+{
+    if (answer.refusal == 0)
+        return answer.codes <= most_codes(answer.format, 8 * answer.data_length) ? NULL : "more codes than the data can have";
+    if (answer.refusal != 7)
+        return answer.codes == 0 ? NULL : "a refusal has codes";
+    uint32_t header = received_header() ^ made.mask;
+    unsigned format = is_found(mend) ? header >> 26 & 7 : 3;
+    size_t length = is_found(mend) ? header >> 10 & 0x3fff : made.length - 6;
+    if (answer.number > 8 * length)
+        return "the bad place is behind the data";
+    return answer.codes <= most_codes(format, answer.number) ? NULL : "more codes than the bits before the bad place can have";
 }
 
 /* What is known from the making, whatever the two implementations say; NULL where it is so. */
@@ -815,10 +913,19 @@ static const char *compare_making(uint32_t mend, rosopyat_read_answer answer, co
     }
     if (!made.known)
         return answer.refusal != 0 || answer.mask == made.mask ? NULL : "the mask is not that of the flipped bits";
+    if (made.malformed) {
+        if (!malformed_as_made(answer))
+            return "the data is not refused as made";
+        outcomes[MADE_MALFORMED + made.format]++;
+        outcomes[MADE_MALFORMED_MOST_CODES + made.format] += made.codes == most_codes(made.format, 8 * made.data_length);
+        return NULL;
+    }
     if (room < made.text_length)
         return answer.refusal == 8 && answer.number == made.text_length ? NULL : "the text made has no room, and that is not the answer";
     if (!read_as_made(answer, text))
         return "the packet is not read as made";
+    if (answer.codes != made.codes)
+        return "the codes are not as many as were made";
     outcomes[MADE_AND_READ]++;
     outcomes[MADE_VALUE_63] += made.format == 1 && memchr(made_text, '?', made.text_length) != NULL;
     return NULL;
@@ -874,6 +981,7 @@ static void count_reading(struct naming naming, rosopyat_read_answer answer, siz
     outcomes[READ_LONGEST] += answer.text_length == ROSOPYAT_MOST_TEXT;
     outcomes[READ_LONGEST_NUMERIC] += answer.format == 2 && answer.text_length == 8000;
     outcomes[READ_LONGEST_SHEF] += answer.format == 3 && answer.text_length == 10666;
+    outcomes[READ_MOST_CODES + answer.format] += answer.data_length == 4000 && answer.codes == most_codes(answer.format, 8 * 4000);
     outcomes[READ_ROOM_EXACT] += room == answer.text_length;
     outcomes[READ_ROOM_ONE_MORE] += room == answer.text_length + 1;
     outcomes[READ_TRAILING] += made.length > answer.used;
@@ -902,6 +1010,8 @@ static bool reader_case(void)
         wrong = compare_outputs(text, ours.text_length);
     if (!wrong)
         wrong = compare_mask(ours);
+    if (!wrong)
+        wrong = compare_codes(naming.mend, ours);
     if (!wrong)
         wrong = compare_making(naming.mend, ours, library_output + text.start, room);
     if (!wrong && naming.by_default)
@@ -1053,6 +1163,24 @@ static bool space_or_slash(unsigned character)
     return character == ' ' || character == '/';
 }
 
+/* How many indicators, values and codes a text has, as it comes back. An indicator is for 128 values or for 16 spaces or slashes at most: `run` counts those
+ * that stand right before a character and are of its kind. A CR with LF after it has one code, but two in Compact Numeric. */
+static size_t codes_of(uint32_t format, const uint8_t *text, size_t length)
+{
+    size_t codes = 0, run = 0;
+    for (size_t i = 0; format != 0 && i < length; i++) {
+        bool blank = space_or_slash(text[i]), same = i > 0 && (blank ? text[i - 1] == text[i] : !space_or_slash(text[i - 1]));
+        run = same ? run + 1 : 0;
+        if (format == 1)
+            codes += blank ? run % 16 == 0 : 1 + (run % 128 == 0);
+        else if (format == 2)
+            codes += strchr("#=:E", text[i]) ? 2 : 1; /* CR and LF have one each, so to speak */
+        else
+            codes += !(text[i] == '\n' && i > 0 && text[i - 1] == '\r');
+    }
+    return codes;
+}
+
 static void count_value_63(const uint8_t *text, size_t length, size_t at)
 {
     outcomes[text[at] == '?' ? WRITTEN_3F : WRITTEN_7F]++;
@@ -1066,7 +1194,7 @@ static uint8_t normal[2 * LONG_TEXT + 1];
 
 static size_t make_normal(uint32_t format, const uint8_t *text, size_t text_length)
 {
-    size_t length = 0, codes = 0;
+    size_t length = 0;
     for (size_t i = 0; i < text_length; i++) {
         bool cr = text[i] == '\r', lf = text[i] == '\n', cr_before = i > 0 && text[i - 1] == '\r';
         if (format == 1 && (text[i] == '?' || text[i] == 0x7f)) {
@@ -1080,9 +1208,7 @@ static size_t make_normal(uint32_t format, const uint8_t *text, size_t text_leng
             outcomes[WRITTEN_LINE_END + (lf ? 2 : i + 1 < text_length && text[i + 1] == '\n' ? 0 : 1)]++;
         }
     }
-    for (size_t i = 0; i < length; i++) /* CR and LF have one each, so to speak */
-        codes += strchr("#=:E", normal[i]) ? 2 : 1;
-    if (format == 2 && codes % 2 == 1) {
+    if (format == 2 && codes_of(format, normal, length) % 2 == 1) {
         normal[length++] = ' ';
         outcomes[WRITTEN_SPACE]++;
     }
@@ -1097,7 +1223,8 @@ static bool reads_back(struct place packet, size_t length, uint32_t format, bool
     size_t normal_length = make_normal(format, text, text_length);
     rosopyat_read_answer answer = rosopyat_read(library_output + packet.start, length, back, REGION);
     bool same = answer.refusal == 0 && answer.format == format && answer.sync == sync && answer.mended == 0 && answer.mask == 0 &&
-                answer.data_length + 6 == length && answer.used == length && answer.text_length == normal_length && memcmp(back, normal, normal_length) == 0;
+                answer.codes == codes_of(format, normal, normal_length) && answer.data_length + 6 == length && answer.used == length &&
+                answer.text_length == normal_length && memcmp(back, normal, normal_length) == 0;
     rosopyat_write_answer rewritten = rosopyat_write(format, sync, back, answer.text_length, again, sizeof again);
     same &= rewritten.refusal == 0 && rewritten.length == length && memcmp(again, library_output + packet.start, length) == 0;
     memcpy(back, untouched, answer.text_length);

@@ -107,8 +107,8 @@ static uint16_t checksum(const uint8_t *data, size_t length)
     return sum;
 }
 
-/* Reading. A reader of data counts the characters, and writes them where text is not NULL. It answers false when the data is malformed, with the bit in
- * *bad at which the first unreadable piece starts. */
+/* Reading. A reader of data counts the characters, and writes them where text is not NULL; and it counts the indicators, values and codes that it takes, in
+ * *codes. It answers false when the data is malformed, with the bit in *bad at which the first unreadable piece starts. */
 
 static bool at_end(const uint8_t *data, size_t bits, size_t at)
 {
@@ -127,9 +127,10 @@ static void put_character(uint8_t *text, size_t *count, unsigned character)
     ++*count;
 }
 
-static bool read_open(const uint8_t *data, size_t length, uint8_t *text, size_t *count)
+static bool read_open(const uint8_t *data, size_t length, uint8_t *text, size_t *count, size_t *codes)
 {
     *count = 0;
+    *codes = 0;
     for (size_t i = 0; i < length; i++)
         put_character(text, count, data[i]);
     return true;
@@ -141,11 +142,12 @@ static unsigned character_of(unsigned value)
     return value == 63 ? '?' : 64 + value;
 }
 
-static bool read_pseudo_binary(const uint8_t *data, size_t length, uint8_t *text, size_t *count, size_t *bad)
+static bool read_pseudo_binary(const uint8_t *data, size_t length, uint8_t *text, size_t *count, size_t *codes, size_t *bad)
 {
     size_t bits = 8 * length;
     size_t at = 0;
     *count = 0;
+    *codes = 0;
     while (!at_end(data, bits, at)) {
         *bad = at;
         if (bit_at(data, at)) {
@@ -153,12 +155,14 @@ static bool read_pseudo_binary(const uint8_t *data, size_t length, uint8_t *text
                 return false;
             unsigned run = bits_at(data, at + 1, 7) + 1;
             at += 8;
+            ++*codes;
             for (; run > 0; run--) {
                 *bad = at;
                 if (bits - at < 6)
                     return false;
                 put_character(text, count, character_of(bits_at(data, at, 6)));
                 at += 6;
+                ++*codes;
             }
         } else {
             if (bits - at < 6)
@@ -167,6 +171,7 @@ static bool read_pseudo_binary(const uint8_t *data, size_t length, uint8_t *text
             for (unsigned i = 0; i < run; i++)
                 put_character(text, count, bit_at(data, at + 1) ? '/' : ' ');
             at += 6;
+            ++*codes;
         }
     }
     return true;
@@ -201,26 +206,29 @@ static unsigned meaning_of(unsigned first, unsigned second)
     return 0;
 }
 
-static bool read_numeric(const uint8_t *data, size_t length, uint8_t *text, size_t *count)
+static bool read_numeric(const uint8_t *data, size_t length, uint8_t *text, size_t *count, size_t *codes)
 {
     size_t bits = 8 * length;
     size_t at = 0;
     *count = 0;
+    *codes = 0;
     while (at < bits) {
         unsigned first = numeric_characters[bits_at(data, at, 4)], meaning = 0;
         if ((first == '+' || first == '-' || first == '.') && bits - at > 4)
             meaning = meaning_of(first, numeric_characters[bits_at(data, at + 4, 4)]);
         put_piece(text, count, meaning ? meaning : first);
         at += meaning ? 8 : 4;
+        *codes += meaning ? 2 : 1;
     }
     return true;
 }
 
-static bool read_shef(const uint8_t *data, size_t length, uint8_t *text, size_t *count, size_t *bad)
+static bool read_shef(const uint8_t *data, size_t length, uint8_t *text, size_t *count, size_t *codes, size_t *bad)
 {
     size_t bits = 8 * length;
     size_t at = 0;
     *count = 0;
+    *codes = 0;
     while (!at_end(data, bits, at)) {
         *bad = at;
         if (!bit_at(data, at)) {
@@ -228,6 +236,7 @@ static bool read_shef(const uint8_t *data, size_t length, uint8_t *text, size_t 
                 return false;
             put_piece(text, count, numeric_characters[bits_at(data, at, 5)]);
             at += 5;
+            ++*codes;
             continue;
         }
         if (bits - at < 6)
@@ -237,15 +246,17 @@ static bool read_shef(const uint8_t *data, size_t length, uint8_t *text, size_t 
             return false;
         put_piece(text, count, shef_characters[code - 0x20]);
         at += 6;
+        ++*codes;
     }
     return true;
 }
 
-static bool read_full_ascii(const uint8_t *data, size_t length, uint8_t *text, size_t *count, size_t *bad)
+static bool read_full_ascii(const uint8_t *data, size_t length, uint8_t *text, size_t *count, size_t *codes, size_t *bad)
 {
     size_t bits = 8 * length;
     size_t at = 0;
     *count = 0;
+    *codes = 0;
     while (!at_end(data, bits, at)) {
         *bad = at;
         if (!bit_at(data, at)) {
@@ -253,6 +264,7 @@ static bool read_full_ascii(const uint8_t *data, size_t length, uint8_t *text, s
                 return false;
             put_character(text, count, 32 + bits_at(data, at, 6));
             at += 6;
+            ++*codes;
             continue;
         }
         if (bits - at < 7)
@@ -261,6 +273,7 @@ static bool read_full_ascii(const uint8_t *data, size_t length, uint8_t *text, s
         if (code != 0x7f) {
             put_character(text, count, code);
             at += 7;
+            ++*codes;
             continue;
         }
         if (bits - at < 9)
@@ -281,21 +294,22 @@ static bool read_full_ascii(const uint8_t *data, size_t length, uint8_t *text, s
             break;
         }
         at += 9;
+        ++*codes;
     }
     return true;
 }
 
-static bool read_data(unsigned format, const uint8_t *data, size_t length, uint8_t *text, size_t *count, size_t *bad)
+static bool read_data(unsigned format, const uint8_t *data, size_t length, uint8_t *text, size_t *count, size_t *codes, size_t *bad)
 {
     if (format == 0)
-        return read_open(data, length, text, count);
+        return read_open(data, length, text, count, codes);
     if (format == 1)
-        return read_pseudo_binary(data, length, text, count, bad);
+        return read_pseudo_binary(data, length, text, count, codes, bad);
     if (format == 2)
-        return read_numeric(data, length, text, count);
+        return read_numeric(data, length, text, count, codes);
     if (format == 3)
-        return read_shef(data, length, text, count, bad);
-    return read_full_ascii(data, length, text, count, bad);
+        return read_shef(data, length, text, count, codes, bad);
+    return read_full_ascii(data, length, text, count, codes, bad);
 }
 
 static rosopyat_read_answer refuse_reading(uint32_t refusal, size_t number)
@@ -303,6 +317,13 @@ static rosopyat_read_answer refuse_reading(uint32_t refusal, size_t number)
     rosopyat_read_answer answer = {0};
     answer.refusal = refusal;
     answer.number = number;
+    return answer;
+}
+
+static rosopyat_read_answer refuse_malformed(size_t bad, size_t codes)
+{
+    rosopyat_read_answer answer = refuse_reading(7, bad);
+    answer.codes = codes;
     return answer;
 }
 
@@ -331,18 +352,19 @@ rosopyat_read_answer independent_read_mending(uint32_t mend, const uint8_t *pack
     if (checksum(data, length) != (data[length] | data[length + 1] << 8))
         return refuse_reading(6, 0);
 
-    size_t count = 0, bad = 0;
-    if (!read_data(format, data, length, NULL, &count, &bad))
-        return refuse_reading(7, bad);
+    size_t count = 0, codes = 0, bad = 0;
+    if (!read_data(format, data, length, NULL, &count, &codes, &bad))
+        return refuse_malformed(bad, codes);
     if (text_room < count)
         return refuse_reading(8, count);
-    read_data(format, data, length, text, &count, &bad);
+    read_data(format, data, length, text, &count, &codes, &bad);
 
     rosopyat_read_answer answer = {0};
     answer.format = format;
     answer.sync = flag >> 1 & 1;
     answer.mended = mended;
     answer.mask = turned_over(received, header);
+    answer.codes = codes;
     answer.data_length = length;
     answer.text_length = count;
     answer.used = length + 6;

@@ -99,14 +99,14 @@ pub fn last_bits(s: &[u8], place: Place) -> Buffer
     }
 }
 
-// What the last bits come to, told of the whole: `at` bits stand before them, which say n characters.
-pub fn with_front(last: Measured, n: usize, at: usize) -> Measured
-    requires { ⌜ FrontFits n at last ⌝ }
-    ensures { λ r. ⌜ r ≡ withFront n at last ⌝ }
+// What the last bits come to, told of the whole: `at` bits stand before them, which have so many codes and say n characters.
+pub fn with_front(last: Measured, n: usize, codes: usize, at: usize) -> Measured
+    requires { ⌜ FrontFits n codes at last ⌝ }
+    ensures { λ r. ⌜ r ≡ withFront n codes at last ⌝ }
 {
     match last {
-        Measured::Text(k) => Measured::Text(n + k),
-        Measured::Malformed(i) => Measured::Malformed(at + i),
+        Measured::Text(k, more) => Measured::Text(n + k, codes + more),
+        Measured::Malformed(i, more) => Measured::Malformed(at + i, codes + more),
     }
 }
 

@@ -173,7 +173,7 @@ module _ (es : List Entry) where
   written-bytes h = packed-bytes (filled (codes es)) (filled-binary (codes es) h) (filled-whole (codes es))
 
   -- it is a building of what they say, where they close
-  pub written-built : {scheme : Scheme} → Closes scheme es → Row scheme 0 es 0 → Binary (codes es) → Built scheme (texts es) (written es)
+  unfoldable pub written-built : {scheme : Scheme} → Closes scheme es → Row scheme 0 es 0 → Binary (codes es) → Built scheme (texts es) (written es)
   written-built {scheme} few r h = record {
     entries = es;
     fill = replicate (gap (length (codes es))) 1;

@@ -7,7 +7,7 @@ use mathlib.Core.Path.{_≡_}
 use Prim.Native.Nat.{ℕ, _≤_, _<_}
 use lib.ListN.{length}
 use Rattle.bits.specs.Row.{bits}
-use Rattle.codes.specs.Chain.{Entry, Scheme, Built, Malformed}
+use Rattle.codes.specs.Chain.{Entry, Scheme, Builds, Stuck, Built, Malformed}
 use Rattle.codes.specs.Coded.{CodedBelow}
 use Rattle.codes.specs.Pack.{written}
 use Rattle.codes.proofs.Fill.{no-fill}
@@ -36,9 +36,9 @@ pub record DataLaws (Carried : List ℕ → List ℕ → Type 0) (Place : List �
 
 -- what a computed reading means, as a text or a place
 text-or-place : (scheme : Scheme) (bs : List ℕ) (a : Answer) → Means scheme 0 bs a
-    → ((t : List ℕ) × Means scheme 0 bs (text t)) ⊎ ((i : ℕ) × Means scheme 0 bs (stuck i))
-text-or-place scheme bs (text t) m = inl (t, m)
-text-or-place scheme bs (stuck i) m = inr (i, m)
+    → ((t : List ℕ) × Builds scheme 0 bs t) ⊎ ((i : ℕ) × Stuck scheme 0 bs i)
+text-or-place scheme bs (text t codes) m = inl (t, m .0)
+text-or-place scheme bs (stuck i codes) m = inr (i, m .0)
 
 module _ {scheme : Scheme} (laws : Laws scheme) where
   pub scheme-either : (carried : List ℕ) → ((t : List ℕ) × Built scheme t carried) ⊎ ((i : ℕ) × Malformed scheme carried i)

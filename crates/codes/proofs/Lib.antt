@@ -13,14 +13,15 @@ pub mod EveryElement
 pub mod Fill
 pub mod FirstOfText
 pub mod FoundEntries
+pub mod JoinedCodes
 pub mod LaidRows
 pub mod LastBytes
-pub mod JoinedCodes
 pub mod LeastCost
 pub mod LineEnds
 pub mod LineTables
 pub mod Lookup
 pub mod LowBits
+pub mod MostCodes
 pub mod NonemptyText
 pub mod OneAnswer
 pub mod OneBuilding

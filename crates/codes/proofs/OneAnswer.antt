@@ -1,6 +1,6 @@
 -- The contracts of measuring, reading and sizing leave one answer, and one content of the buffer.
 -- Assumes nothing.
-use mathlib.Core.Path.{_≡_, refl, sym, ap, _∙_}
+use mathlib.Core.Path.{_≡_, refl, sym, ap, ap₂, _∙_}
 use mathlib.Core.Bool.{Bool}
 use mathlib.Core.Logic.{by-cases}
 use mathlib.Core.List.{List, _++_}
@@ -22,30 +22,34 @@ use Rattle.codes.specs.declared.Needed.the-variants.{NoCode, TooMany, By
 use Rattle.codes.specs.declared.Uncoded.{Uncoded}
 use Rattle.codes.specs.declared.Uncoded.the-variants.{At, Nowhere}
 use Rattle.codes.proofs.SchemeLaws.{Laws}
-use Rattle.codes.proofs.OneReading.{one-text, one-place, never-both}
+use Rattle.codes.proofs.OneReading.{one-text, one-count, one-place, one-before, never-both}
 
 -- ---- taking data apart, where it carries one text or is malformed at one place, never both
 
-module _ (Carried : List ℕ → Type 0) (Place : ℕ → Type 0) (one : (t u : List ℕ) → Carried t → Carried u → t ≡ u)
-    (place : (i j : ℕ) → Place i → Place j → i ≡ j) (never : (t : List ℕ) (i : ℕ) → Carried t → Place i → ⊥) (size : ℕ) where
+module _ (Carried : List ℕ → ℕ → Type 0) (Place : ℕ → ℕ → Type 0) (one : (t u : List ℕ) (k l : ℕ) → Carried t k → Carried u l → (t ≡ u) × (k ≡ l))
+    (place : (i j k l : ℕ) → Place i k → Place j l → (i ≡ j) × (k ≡ l)) (never : (t : List ℕ) (i k l : ℕ) → Carried t k → Place i l → ⊥) (size : ℕ) where
   pub one-coming : (a b : Outcome) → TakesApart Carried Place size a → TakesApart Carried Place size b → a ≡ b
-  one-coming (Outcome.Text m) (Outcome.Text n) (s, (t, l, p)) (s′, (u, l′, q)) = ap {B = Outcome} Outcome.Text (sym l ∙ ap length (one t u p q) ∙ l′)
-  one-coming (Outcome.Text m) (Outcome.Malformed j) (s, (t, l, p)) (s′, q) = absurd (never t j p q)
-  one-coming (Outcome.Text m) Outcome.TooLong (s, h) k = absurd (let no′ : ⊥ = omega (arith, s, k) in no′)
-  one-coming (Outcome.Malformed i) (Outcome.Text n) (s, p) (s′, (u, l′, q)) = absurd (never u i q p)
-  one-coming (Outcome.Malformed i) (Outcome.Malformed j) (s, p) (s′, q) = ap {B = Outcome} Outcome.Malformed (place i j p q)
-  one-coming (Outcome.Malformed i) Outcome.TooLong (s, h) k = absurd (let no′ : ⊥ = omega (arith, s, k) in no′)
-  one-coming Outcome.TooLong (Outcome.Text n) h (s′, k) = absurd (let no′ : ⊥ = omega (arith, h, s′) in no′)
-  one-coming Outcome.TooLong (Outcome.Malformed j) h (s′, k) = absurd (let no′ : ⊥ = omega (arith, h, s′) in no′)
-  one-coming Outcome.TooLong Outcome.TooLong h k = refl
+  one-coming (Outcome.Text m k) (Outcome.Text n l) (s, (t, e, p)) (s′, (u, f, q)) =
+      let same = one t u k l p q in ap₂ {C = Outcome} Outcome.Text (sym e ∙ ap length (same .0) ∙ f) (same .1)
+  one-coming (Outcome.Text m k) (Outcome.Malformed j l) (s, (t, e, p)) (s′, q) = absurd (never t j k l p q)
+  one-coming (Outcome.Text m k) Outcome.TooLong (s, h) g = absurd (let no′ : ⊥ = omega (arith, s, g) in no′)
+  one-coming (Outcome.Malformed i k) (Outcome.Text n l) (s, p) (s′, (u, f, q)) = absurd (never u i l k q p)
+  one-coming (Outcome.Malformed i k) (Outcome.Malformed j l) (s, p) (s′, q) =
+      let same = place i j k l p q in ap₂ {C = Outcome} Outcome.Malformed (same .0) (same .1)
+  one-coming (Outcome.Malformed i k) Outcome.TooLong (s, h) g = absurd (let no′ : ⊥ = omega (arith, s, g) in no′)
+  one-coming Outcome.TooLong (Outcome.Text n l) h (s′, g) = absurd (let no′ : ⊥ = omega (arith, h, s′) in no′)
+  one-coming Outcome.TooLong (Outcome.Malformed j l) h (s′, g) = absurd (let no′ : ⊥ = omega (arith, h, s′) in no′)
+  one-coming Outcome.TooLong Outcome.TooLong h g = refl
 
 -- ---- what bits come to, and their text in a buffer
 
 pub measured-one : {scheme : Scheme} → Laws scheme → (bs : List ℕ) (a b : Measured) → Measures scheme bs a → Measures scheme bs b → a ≡ b
-measured-one laws bs (Measured.Text m) (Measured.Text n) (t, l, p) (u, l′, q) = ap {B = Measured} Measured.Text (sym l ∙ ap length (one-text laws p q) ∙ l′)
-measured-one laws bs (Measured.Text m) (Measured.Malformed j) (t, l, p) q = absurd (never-both laws p q)
-measured-one laws bs (Measured.Malformed i) (Measured.Text n) p (u, l′, q) = absurd (never-both laws q p)
-measured-one laws bs (Measured.Malformed i) (Measured.Malformed j) p q = ap {B = Measured} Measured.Malformed (one-place laws p q)
+measured-one laws bs (Measured.Text m k) (Measured.Text n l) (t, e, (p, c)) (u, f, (q, d)) =
+    ap₂ {C = Measured} Measured.Text (sym e ∙ ap length (one-text laws p q) ∙ f) (sym c ∙ one-count laws p q ∙ d)
+measured-one laws bs (Measured.Text m k) (Measured.Malformed j l) (t, e, (p, c)) (q, d) = absurd (never-both laws p q)
+measured-one laws bs (Measured.Malformed i k) (Measured.Text n l) (p, c) (u, f, (q, d)) = absurd (never-both laws q p)
+measured-one laws bs (Measured.Malformed i k) (Measured.Malformed j l) (p, c) (q, d) =
+    ap₂ {C = Measured} Measured.Malformed (one-place laws p q) (sym c ∙ one-before laws p q ∙ d)
 
 pub placed-one : {scheme : Scheme} → Laws scheme → {bs entry x y : List ℕ} {n r q : ℕ} → Placed scheme bs entry x n r → Placed scheme bs entry y n q
     → (x ≡ y) × (r ≡ q)

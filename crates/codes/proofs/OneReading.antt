@@ -10,7 +10,8 @@ use native.Mathlib.Omega.{arith}
 use lib.Dec.{T}
 use lib.ListN.{length, drop, length-append, length-drop}
 use lib.Seq.{drop-append-seam}
-use Rattle.codes.specs.Chain.{Entry, Scheme, In, stateAfter, Row, codes, texts, Fill, Begins, Builds, Stuck}
+use Rattle.codes.specs.Chain.{Entry, Scheme, In, stateAfter, Row, codes, texts, Fill, Begins, Builds, Stuck, countIn, countBefore}
+use Rattle.codes.specs.Steps.Measure.{BuildsIn, StuckAfter}
 pub use Rattle.codes.specs.Reading.{Answer, text, stuck, Halts}
 use Rattle.codes.specs.Reading.{front}
 use Rattle.codes.proofs.Fill.{fills, fills-fill, fill-fills}
@@ -30,7 +31,7 @@ builds-more {e = e} h r = record {
   bits = ap (λ (l : List ℕ). e .code ++ l) (r .bits) ∙ sym (append-assoc (e .code) (codes (r .entries)) (r .fill));
 }
 
-pub stuck-more : {scheme : Scheme} {m i : ℕ} {e : Entry} {bs : List ℕ} → In e (scheme .table m)
+unfoldable pub stuck-more : {scheme : Scheme} {m i : ℕ} {e : Entry} {bs : List ℕ} → In e (scheme .table m)
     → Stuck scheme (stateAfter m e) bs i → Stuck scheme m (e .code ++ bs) (length (e .code) + i)
 unfolding codes
 stuck-more {e = e} h s = record {
@@ -45,11 +46,11 @@ stuck-more {e = e} h s = record {
 }
 
 -- the end of a reading
-pub builds-end : (scheme : Scheme) {f : List ℕ} → Fill (scheme .unused) f → Builds scheme 0 f []
+unfoldable pub builds-end : (scheme : Scheme) {f : List ℕ} → Fill (scheme .unused) f → Builds scheme 0 f []
 unfolding codes texts
 builds-end scheme {f} h = record { entries = []; fill = f; row = refl; says = refl; ends = h; bits = refl }
 
-pub stuck-here : {scheme : Scheme} {m : ℕ} {bs : List ℕ} → Halts scheme m bs → (m ≡ 0 → Fill (scheme .unused) bs → ⊥) → Stuck scheme m bs 0
+unfoldable pub stuck-here : {scheme : Scheme} {m : ℕ} {bs : List ℕ} → Halts scheme m bs → (m ≡ 0 → Fill (scheme .unused) bs → ⊥) → Stuck scheme m bs 0
 unfolding codes
 stuck-here {m = m} {bs = bs} h k = record {
   entries = [];
@@ -62,15 +63,15 @@ stuck-here {m = m} {bs = bs} h k = record {
   no-end = k;
 }
 
--- what an answer means for a maker: the bits are a building of the text, or no building goes on at the bit
+-- what an answer means for a maker: the bits are a building of the text in so many codes, or no building goes on at the bit, behind so many
 abbrev pub Means : Scheme → ℕ → List ℕ → Answer → Type 0
-Means scheme m bs (text t) = Builds scheme m bs t
-Means scheme m bs (stuck i) = Stuck scheme m bs i
+Means scheme m bs (text t codes) = BuildsIn scheme m bs t codes
+Means scheme m bs (stuck i codes) = StuckAfter scheme m bs i codes
 
 -- the answer where no entry begins the bits
 abbrev pub last : Scheme → ℕ → List ℕ → Answer
-last scheme zero bs = cond (fills (scheme .unused) bs) (text []) (stuck 0)
-last scheme (suc m) bs = stuck 0
+last scheme zero bs = cond (fills (scheme .unused) bs) (text [] 0) (stuck 0 0)
+last scheme (suc m) bs = stuck 0 0
 
 abbrev pub first : Option Entry → Answer → (Entry → Answer) → Answer
 first none a f = a
@@ -84,16 +85,18 @@ answer scheme (suc n) m bs =
 
 pub front-means : (scheme : Scheme) (m : ℕ) (e : Entry) (bs : List ℕ) (a : Answer) → In e (scheme .table m) → Means scheme (stateAfter m e) bs a
     → Means scheme m (e .code ++ bs) (front e a)
-front-means scheme m e bs (text t) h r = builds-more h r
-front-means scheme m e bs (stuck i) h s = stuck-more h s
+unfolding builds-more stuck-more
+front-means scheme m e bs (text t codes) h r = (builds-more h (r .0), ap suc (r .1))
+front-means scheme m e bs (stuck i codes) h s = (stuck-more h (s .0), ap suc (s .1))
 
 last-means : (scheme : Scheme) (m : ℕ) (bs : List ℕ) → Halts scheme m bs → Means scheme m bs (last scheme m bs)
-last-means scheme (suc m) bs h = stuck-here h (λ e. absurd (let no′ : ⊥ = omega arith in no′))
+unfolding builds-end stuck-here
+last-means scheme (suc m) bs h = (stuck-here h (λ e. absurd (let no′ : ⊥ = omega arith in no′)), refl)
 last-means scheme zero bs h = pick (fills (scheme .unused) bs) refl
   where
-    pick : (t : Bool) → fills (scheme .unused) bs ≡ t → Means scheme 0 bs (cond t (text []) (stuck 0))
-    pick true x = builds-end scheme (fills-fill (scheme .unused) bs (subst⁻¹ T x tt))
-    pick false x = stuck-here h (λ e f. subst T x (fill-fills (scheme .unused) bs f))
+    pick : (t : Bool) → fills (scheme .unused) bs ≡ t → Means scheme 0 bs (cond t (text [] 0) (stuck 0 0))
+    pick true x = (builds-end scheme (fills-fill (scheme .unused) bs (subst⁻¹ T x tt)), refl)
+    pick false x = (stuck-here h (λ e f. subst T x (fill-fills (scheme .unused) bs f)), refl)
 
 module _ {scheme : Scheme} (laws : Laws scheme) where
   -- entries that go as far as they can, whichever they are, are the same, and leave the same
@@ -127,13 +130,20 @@ module _ {scheme : Scheme} (laws : Laws scheme) where
   pub one-text : {m : ℕ} {bs t u : List ℕ} → Builds scheme m bs t → Builds scheme m bs u → t ≡ u
   one-text a b = sym (a .says) ∙ ap texts (one-row a b) ∙ b .says
 
+  -- and of one count
+  pub one-count : {m : ℕ} {bs t u : List ℕ} (a : Builds scheme m bs t) (b : Builds scheme m bs u) → countIn a ≡ countIn b
+  one-count a b = ap length (one-row a b)
+
+  -- the entries before a place at which a reading is stuck, the place, and how many they are
+  one-stuck : {m i j : ℕ} {bs : List ℕ} (a : Stuck scheme m bs i) (b : Stuck scheme m bs j) → a .entries ≡ b .entries
+  one-stuck {m = m} a b =
+      agree m (a .state) (b .state) (a .entries) (b .entries) (a .rest) (b .rest) (a .row) (b .row) (a .none) (b .none) (sym (a .bits) ∙ b .bits) .0
+
   pub one-place : {m i j : ℕ} {bs : List ℕ} → Stuck scheme m bs i → Stuck scheme m bs j → i ≡ j
-  one-place {m = m} a b =
-      a .place
-      ∙ ap (λ (es : List Entry). length (codes es))
-      (agree m (a .state) (b .state) (a .entries) (b .entries) (a .rest) (b .rest) (a .row) (b .row) (a .none) (b .none)
-      (sym (a .bits) ∙ b .bits) .0)
-      ∙ sym (b .place)
+  one-place a b = a .place ∙ ap (λ (es : List Entry). length (codes es)) (one-stuck a b) ∙ sym (b .place)
+
+  pub one-before : {m i j : ℕ} {bs : List ℕ} (a : Stuck scheme m bs i) (b : Stuck scheme m bs j) → countBefore a ≡ countBefore b
+  one-before a b = ap length (one-stuck a b)
 
   pub never-both : {m i : ℕ} {bs t : List ℕ} → Builds scheme m bs t → Stuck scheme m bs i → ⊥
   never-both {m = m} a b =
@@ -144,10 +154,10 @@ module _ {scheme : Scheme} (laws : Laws scheme) where
 
   -- one answer
   pub one-answer : (m : ℕ) (bs : List ℕ) (a b : Answer) → Means scheme m bs a → Means scheme m bs b → a ≡ b
-  one-answer m bs (text t) (text u) r s = ap {B = Answer} text (one-text r s)
-  one-answer m bs (text t) (stuck j) r s = absurd (never-both r s)
-  one-answer m bs (stuck i) (text u) r s = absurd (never-both s r)
-  one-answer m bs (stuck i) (stuck j) r s = ap {B = Answer} stuck (one-place r s)
+  one-answer m bs (text t k) (text u l) r s = ap₂ {C = Answer} text (one-text (r .0) (s .0)) (sym (r .1) ∙ one-count (r .0) (s .0) ∙ s .1)
+  one-answer m bs (text t k) (stuck j l) r s = absurd (never-both (r .0) (s .0))
+  one-answer m bs (stuck i k) (text u l) r s = absurd (never-both (s .0) (r .0))
+  one-answer m bs (stuck i k) (stuck j l) r s = ap₂ {C = Answer} stuck (one-place (r .0) (s .0)) (sym (r .1) ∙ one-before (r .0) (s .0) ∙ s .1)
 
   first-means : (m : ℕ) (bs : List ℕ) (f : Entry → Answer) (o : Option Entry) → Found (scheme .table m) bs o
       → ((e : Entry) → In e (scheme .table m) → (b : Begins (e .code) bs) → Means scheme (stateAfter m e) (b .0) (f e))

@@ -20,10 +20,11 @@ use Rattle.codes.specs.Steps.Measure.{Measures, countable, withFront, Fr
 use Rattle.codes.specs.Steps.Words.{SkimsInto, Begun, beyond, LaidWords, CountedTo, Last}
 use Rattle.codes.specs.declared.Measured.{Measured}
 use Rattle.codes.specs.declared.Measured.the-variants.{Malformed}
+use Rattle.codes.specs.declared.Counted.{Counted}
+use Rattle.codes.specs.declared.Laid.{Laid}
 use Rattle.codes.specs.declared.Place.{Place}
-use Rattle.codes.specs.declared.Skimmed.{Skimmed}
 use Rattle.codes.proofs.BitBuffer.{low-drop}
-use Rattle.codes.proofs.ReadSoFar.{counting-on, counting-front, counting-stuck, counting-whole, front-fits, laying-on, laying-front, laying-length, laying-later, laying-within}
+use Rattle.codes.proofs.ReadSoFar.{counting-on, counting-front, counting-bits, counting-stuck, counting-whole, front-fits, laying-on, laying-front, laying-length, laying-later, laying-within}
 use Rattle.codes.proofs.LowBits.{length-low, value-low}
 use Rattle.codes.proofs.BitsInBytes.{drop-bits, length-bits}
 use Rattle.codes.proofs.EightBytes.{eight-bits}
@@ -57,25 +58,25 @@ module _ (s : List ℕ) (next held : ℕ) (here : next + 8 ≤ length s) (bytes 
         ∙ ap₂ (beyond s) (let e : next + (64 - (64 - skip)) / 8 ≡ next = omega arith in e) (let e : (64 - (64 - skip)) % 8 ≡ skip = omega arith in e)
 
     -- the codes of the number are passed
-    pub counted-word : {scheme : Scheme} (bs : List ℕ) (n left count : ℕ) → left ≤ 64 → CountedSoFar scheme bs (beyond s next skip) n
-        → CountedSoFar scheme (low (64 - skip) held) (low left held) count
-        → CountedSoFar scheme bs (beyond s (next + (64 - left) / 8) ((64 - left) % 8)) (n + count)
-    counted-word {scheme} bs n left count h c d =
-        counting-on c (subst₂ (λ (a b : List ℕ). CountedSoFar scheme a b count) beyond-here (beyond-left left h) (counting-front d after))
+    pub counted-word : {scheme : Scheme} (bs : List ℕ) (n codes left count more : ℕ) → left ≤ 64 → CountedSoFar scheme bs (beyond s next skip) n codes
+        → CountedSoFar scheme (low (64 - skip) held) (low left held) count more
+        → CountedSoFar scheme bs (beyond s (next + (64 - left) / 8) ((64 - left) % 8)) (n + count) (codes + more)
+    counted-word {scheme} bs n codes left count more h c d =
+        counting-on c (subst₂ (λ (a b : List ℕ). CountedSoFar scheme a b count more) beyond-here (beyond-left left h) (counting-front d after))
 
     -- and no code comes next, whatever follows the number
-    pub stuck-word : {scheme : Scheme} {at : ℕ} (n left count : ℕ) → at ≡ next * 8 + (64 - left) → left ≤ 64 → scheme .unused < left → CountedSoFar scheme (bits s) (beyond s next skip) n
-        → CountedSoFar scheme (low (64 - skip) held) (low left held) count → ((more : List ℕ) → Halts scheme 0 (low left held ++ more))
-        → Measures scheme (bits s) (Malformed at)
+    pub stuck-word : {scheme : Scheme} {at before : ℕ} (n codes left count more : ℕ) → at ≡ next * 8 + (64 - left) → before ≡ codes + more → left ≤ 64
+        → scheme .unused < left → CountedSoFar scheme (bits s) (beyond s next skip) n codes → CountedSoFar scheme (low (64 - skip) held) (low left held) count more
+        → ((behind : List ℕ) → Halts scheme 0 (low left held ++ behind)) → Measures scheme (bits s) (Malformed at before)
     unfolding after
-    stuck-word {scheme} {at} n left count e h k c d halts =
+    stuck-word {scheme} {at} {before} n codes left count more e told h k c d halts =
         let size : length (low left held ++ after) ≡ left + (length s - (next + 8)) * 8 =
         length-append (low left held) after
         ∙ ap₂ (λ (a b : ℕ). a + b) (length-low left held)
         (length-bits (drop (next + 8) s) ∙ ap (λ (a : ℕ). a * 8) (length-drop (next + 8) s)) in
         counting-stuck
-        (counting-on c (subst (λ (a : List ℕ). CountedSoFar scheme a (low left held ++ after) count) beyond-here (counting-front d after)))
-        at (omega (arith, size, length-bits s)) (halts after)
+        (counting-on c (subst (λ (a : List ℕ). CountedSoFar scheme a (low left held ++ after) count more) beyond-here (counting-front d after)))
+        at before (omega (arith, size, length-bits s)) told (halts after)
         (λ f. let no′ : ⊥ = omega (arith, f .few, size) in no′)
 
   -- where there is room for the whole text: for what the number's codes say there is, and then they are passed
@@ -92,7 +93,7 @@ module _ (s : List ℕ) (next held : ℕ) (here : next + 8 ≤ length s) (bytes 
           ),
         )
 
-    pub words-on : {exit : List ℕ} (r : Skimmed) → SkimsInto scheme held (64 - skip) out exit n r
+    pub words-on : {exit : List ℕ} (r : Laid) → SkimsInto scheme held (64 - skip) out exit n r
         → LaidWords scheme s entry exit (next + (64 - r .left) / 8) ((64 - r .left) % 8) (n + r .count)
     words-on {exit} r z =
         let on : LaidSoFar scheme (bits s) (beyond s (next + (64 - r .left) / 8) ((64 - r .left) % 8)) entry exit 0 (n + r .count) =
@@ -137,15 +138,18 @@ pub last-one : {s : List ℕ} {place : Place} {held have end held′ have′ end
 last-one a b = (a .whole ∙ sym (b .whole), omega (arith, a .size, b .size), a .behind ∙ sym (b .behind))
 
 -- what the last bits come to, told of the whole
-module _ {scheme : Scheme} (s : List ℕ) (place : Place) (held have end n at : ℕ) (counted : CountedTo scheme s place) (last : Last s place held have end)
-    (said : n ≡ place .n) (size : at + have ≡ length s * 8) (m : Measured) (comes : Measures scheme (low have held) m) where
-  pub last-fits : ((k : ℕ) → T (every (brief 1) (scheme .table k))) → length s < countable → FrontFits n at m
-  last-fits briefs h =
-      let near : (place .next ≤ length s) × (place .skip ≤ (length s - place .next) * 8) = (counted .0 .within, counted .0 .skips) in
-      front-fits scheme briefs (low have held) n at m comes (omega (arith, near, counted .1, last .size, length-low have held))
-      (omega (arith, length-low have held))
+module _ {scheme : Scheme} (s : List ℕ) (r : Counted) (held have end n codes at : ℕ) (counted : CountedTo scheme s r) (last : Last s (r .place) held have end)
+    (said : n ≡ r .place .n) (taken : codes ≡ r .codes) (size : at + have ≡ length s * 8) (m : Measured) (comes : Measures scheme (low have held) m) where
+  here : CountedSoFar scheme (bits s) (low have held) n codes
+  here =
+      subst⁻¹ (λ (l : List ℕ). CountedSoFar scheme (bits s) l n codes) (last .same)
+      (subst₂ (CountedSoFar scheme (bits s) (beyond s (r .place .next) (r .place .skip))) (sym said) (sym taken) (counted .2))
 
-  pub last-whole : Measures scheme (bits s) (withFront n at m)
-  last-whole =
-      counting-whole (subst₂ (CountedSoFar scheme (bits s)) (sym (last .same)) (sym said) (counted .2)) at
-      (omega (arith, length-low have held, length-bits s)) m comes
+  pub last-fits : Laws scheme → ((k : ℕ) → T (every (brief 1) (scheme .table k))) → length s < countable → FrontFits n codes at m
+  last-fits laws briefs h =
+      let near : (r .place .next ≤ length s) × (r .place .skip ≤ (length s - r .place .next) * 8) = (counted .0 .within, counted .0 .skips) in
+      front-fits scheme laws briefs (low have held) n codes at m comes (omega (arith, near, counted .1, last .size, length-low have held))
+      (omega (arith, counting-bits here laws, length-bits s)) (omega (arith, length-low have held))
+
+  pub last-whole : Measures scheme (bits s) (withFront n codes at m)
+  last-whole = counting-whole here at (omega (arith, length-low have held, length-bits s)) m comes

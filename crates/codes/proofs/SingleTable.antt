@@ -3,7 +3,7 @@
 use mathlib.Core.Path.{_≡_, subst, subst⁻¹}
 use mathlib.Core.Bool.{Bool}
 use mathlib.Core.List.{List, _∷_, _++_}
-use Prim.Native.Nat.{ℕ}
+use Prim.Native.Nat.{ℕ, _+_}
 use native.Mathlib.Omega.{arith}
 use lib.Dec.{T, eqb, eqb→eq}
 use Rattle.codes.specs.Chain.{Entry, single, In, stateAfter, Row, Builds}
@@ -28,7 +28,7 @@ module _ {table : List Entry} (mutes : T (every mute table)) where
         → Builds (single table unused) 0 (e .code ++ bs) (e .says ++ text)
     builds-one {e} {bs} {text} h r = builds-more h (subst⁻¹ (λ (n : ℕ). Builds (single table unused) n bs text) (stays h) r)
 
-    pub passed-one : {bs said : List ℕ} (rest later : List ℕ) → Passed (single table unused) bs 0 rest said → (e : Entry) → In e table
-        → rest ≡ e .code ++ later → Passed (single table unused) bs 0 later (said ++ e .says)
-    passed-one {bs} {said} rest later p e h x =
-        subst (λ (n : ℕ). Passed (single table unused) bs n later (said ++ e .says)) (stays h) (passed-more rest later p e h x)
+    pub passed-one : {bs said : List ℕ} {k : ℕ} (rest later : List ℕ) → Passed (single table unused) bs 0 rest said k → (e : Entry) → In e table
+        → rest ≡ e .code ++ later → Passed (single table unused) bs 0 later (said ++ e .says) (k + 1)
+    passed-one {bs} {said} {k} rest later p e h x =
+        subst (λ (n : ℕ). Passed (single table unused) bs n later (said ++ e .says) (k + 1)) (stays h) (passed-more rest later p e h x)

@@ -1,7 +1,7 @@
 -- A code taken out of the bits of a number: what was read so far and what is laid with it, and where no code is left. It holds of every table whose
 -- entries announce nothing.
 -- Assumes nothing.
-use mathlib.Core.Path.{_≡_, sym, ap, subst, _∙_}
+use mathlib.Core.Path.{_≡_, sym, ap, subst, subst₂, _∙_}
 use mathlib.Core.Logic.{by-cases}
 use mathlib.Core.List.{List, [], _∷_, _++_}
 use Prim.Native.Nat.{ℕ, _+_, _-_, _≤_, _<_}
@@ -43,19 +43,19 @@ put-two d n c e f h =
 
 module _ {table : List Entry} (mutes : T (every mute table)) where
   -- the code of the window is the next to be read, if its bits are there
-  passed-code : (bs said : List ℕ) (held have w : ℕ) (r : Code) → Passed (single table 7) bs 0 (low have held) said
+  passed-code : (bs said : List ℕ) {codes : ℕ} (held have w : ℕ) (r : Code) → Passed (single table 7) bs 0 (low have held) said codes
       → Window held have w → (k : FirstCode table w r) → r .width ≤ have
-      → Passed (single table 7) bs 0 (low (have - r .width) held) (said ++ k .entry .says)
+      → Passed (single table 7) bs 0 (low (have - r .width) held) (said ++ k .entry .says) (codes + 1)
   passed-code bs said held have w r p v k h =
       passed-one mutes 7 (low have held) (low (have - r .width) held) p (k .entry) (k .legal)
       (window-begins held have w (k .entry .code) v (k .begins) (subst (λ (n : ℕ). n ≤ have) (k .width) h)
       ∙ ap (λ (n : ℕ). k .entry .code ++ low (have - n) held) (sym (k .width)))
 
-  pub counted-code : (bs : List ℕ) (held have w n : ℕ) (r : Code) {m : ℕ} → CountedSoFar (single table 7) bs (low have held) n
-      → Window held have w → FirstCode table w r → r .width ≤ have → n + r .count ≡ m
-      → CountedSoFar (single table 7) bs (low (have - r .width) held) m
-  counted-code bs held have w n r c v k h e =
-      subst (CountedSoFar (single table 7) bs (low (have - r .width) held)) e
+  pub counted-code : (bs : List ℕ) (held have w n codes : ℕ) (r : Code) {m j : ℕ} → CountedSoFar (single table 7) bs (low have held) n codes
+      → Window held have w → FirstCode table w r → r .width ≤ have → n + r .count ≡ m → codes + 1 ≡ j
+      → CountedSoFar (single table 7) bs (low (have - r .width) held) m j
+  counted-code bs held have w n codes r c v k h e f =
+      subst₂ (CountedSoFar (single table 7) bs (low (have - r .width) held)) e f
       (counting-more c (k .entry .says) (k .counts) (passed-code bs (c .said) held have w r (c .passed) v k h))
 
   pub laying-code : (bs entry out : List ℕ) (m n held have w : ℕ) (r : Code) → Window held have w → FirstCode table w r

@@ -77,6 +77,14 @@ pub record Stuck (scheme : Scheme) (m : ℕ) (bs : List ℕ) (i : ℕ) : Type 0 
   pub none : (e : Entry) → In e (scheme .table state) → Begins (e .code) rest → ⊥
   pub no-end : state ≡ 0 → Fill (scheme .unused) rest → ⊥
 
+-- how many indicators, values and codes a building has; its fill is none
+abbrev pub countIn : {scheme : Scheme} {m : ℕ} {bs text : List ℕ} → Builds scheme m bs text → ℕ
+countIn b = length (b .entries)
+
+-- and how many stand before the bit at which a reading is stuck
+abbrev pub countBefore : {scheme : Scheme} {m i : ℕ} {bs : List ℕ} → Stuck scheme m bs i → ℕ
+countBefore s = length (s .entries)
+
 -- what a maker may build of the text: its data bytes are such codes and fill, from where no value is announced
 abbrev pub Built : Scheme → List ℕ → List ℕ → Type 0
 Built scheme text sent = Builds scheme 0 (bits sent) text

@@ -1,16 +1,16 @@
 // Codes in a row, then fill: definitions in specs/, what holds of every format of this shape in proofs/. The code is only what loops and steps answer each
 // other.
 
-// What a reading comes to, its text unwritten: the text's length, or the bit at which it is malformed.
+// What a reading comes to, its text unwritten: the text's length, or the bit at which it is malformed; and how many indicators, values and codes were read.
 pub enum Measured {
-    Text(usize),
-    Malformed(usize),
+    Text(usize, usize),
+    Malformed(usize, usize),
 }
 
 // The same of data of any length: there is data so long that its bits or characters cannot be counted.
 pub enum Outcome {
-    Text(usize),
-    Malformed(usize),
+    Text(usize, usize),
+    Malformed(usize, usize),
     TooLong,
 }
 
@@ -40,8 +40,15 @@ pub struct Code {
     pub second: u8,
 }
 
-// What codes that were passed leave of the bits of a number, and how many characters they say.
+// What codes that were passed leave of the bits of a number, how many they are, and how many characters they say.
 pub struct Skimmed {
+    pub left: u64,
+    pub codes: usize,
+    pub count: usize,
+}
+
+// What codes whose characters were put leave of the bits of a number, and how many characters these are.
+pub struct Laid {
     pub left: u64,
     pub count: usize,
 }
@@ -51,6 +58,12 @@ pub struct Place {
     pub next: usize,
     pub skip: u64,
     pub n: usize,
+}
+
+// The same with the codes so far.
+pub struct Counted {
+    pub place: Place,
+    pub codes: usize,
 }
 
 // A code to be sent, or some in a row: the bits as a number, how many they are, and the characters that they take.

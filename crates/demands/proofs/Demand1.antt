@@ -20,7 +20,7 @@ use Rattle.full_ascii.proofs.Writer as ascii-writer
 use Rattle.numeric.proofs.Table as numeric-table
 use Rattle.pseudo_binary.proofs.Writer as pseudo-writer
 use Rattle.shef.proofs.Table as shef-table
-use Rattle.formats.specs.Data.{Carries, Unreadable, coded, AllCoded, Uncoded, dataOf, comesBack}
+use Rattle.formats.specs.Data.{Carries, UnreadableAfter, coded, AllCoded, Uncoded, dataOf, comesBack}
 use Rattle.formats.proofs.Formats.{carries-coded, back-coded, readable, never-unreadable, writer-carries, no-fewer}
 use Rattle.refusals.specs.declared.ExamineRefusal.{ExamineRefusal}
 use Rattle.refusals.specs.declared.ReadRefusal.{ReadRefusal}
@@ -29,7 +29,6 @@ use Rattle.refusals.specs.Match.{FirstMatch, readerTurn, writerTurn}
 use Rattle.refusals.specs.Refusals.{Told, examineTold, readTold, writeTold}
 use Rattle.refusals.proofs.Refused.{numbered}
 use Rattle.terms.specs.declared.Terms.{Terms}
-use Rattle.reader.specs.declared.ExamineAnswer.{ExamineAnswer}
 use Rattle.reader.specs.declared.ExamineAnswer.the-variants.{Refused as NotReadable}
 use Rattle.reader.specs.declared.ReadAnswer.{ReadAnswer}
 use Rattle.reader.specs.declared.ReadAnswer.the-variants.{Refused as NotRead}
@@ -49,8 +48,8 @@ use Rattle.demands.specs.Demand1.{RefusedExactly, StuckAt, Demand1, Cond
 exactly : (Refusal : Type 0) (told : Refusal → Told) (Fault : Refusal → Type 0) (turn : ℕ → ℕ) (Answered : Refusal → Type 0)
     → ((r : Refusal) → Answered r → FirstMatch Refusal told Fault turn r) → ((r : Refusal) → FirstMatch Refusal told Fault turn r → Answered r)
     → RefusedExactly Refusal told Fault turn Answered
-exactly Refusal told Fault turn Answered to from number value =
-    let first = numbered Refusal told Fault turn number value in
+exactly Refusal told Fault turn Answered to from as-told =
+    let first = numbered Refusal told Fault turn as-told in
     (λ a. first .0 (a .0, a .1, to (a .0) (a .2)), λ f. let r = first .1 f in (r .0, r .1, from (r .0) (r .2)))
 
 our-length : (format : Format) (sync : Bool) (text : List ℕ) → length (ourPacket format sync text) ≡ length (dataOf format text) + 6
@@ -87,16 +86,16 @@ module _ (terms : Terms) (bytes : OnePacket (terms .most)) where
 
 -- ---- the conditions
 
-malformed-bit : (format : Format) (carried : List ℕ) (bit : ℕ) → Unreadable format carried bit ↔ StuckAt format carried bit
-malformed-bit Open carried bit = (λ u. u, λ s. s)
-malformed-bit PseudoBinary carried bit =
-    (pseudo-writer.reading-agrees .malformed-is-stuck bit carried, pseudo-writer.reading-agrees .stuck-is-malformed bit carried)
-malformed-bit Numeric carried bit =
-    (numeric-table.reading-agrees .malformed-is-stuck bit carried, numeric-table.reading-agrees .stuck-is-malformed bit carried)
-malformed-bit Shef carried bit =
-    (shef-table.reading-agrees .malformed-is-stuck bit carried, shef-table.reading-agrees .stuck-is-malformed bit carried)
-malformed-bit FullAscii carried bit =
-    (ascii-writer.reading-agrees .malformed-is-stuck bit carried, ascii-writer.reading-agrees .stuck-is-malformed bit carried)
+malformed-bit : (format : Format) (carried : List ℕ) (bit codes : ℕ) → UnreadableAfter format carried bit codes ↔ StuckAt format carried bit codes
+malformed-bit Open carried bit codes = (λ u. u .0, λ s. absurd s)
+malformed-bit PseudoBinary carried bit codes =
+    (pseudo-writer.reading-agrees .malformed-is-stuck bit codes carried, pseudo-writer.reading-agrees .stuck-is-malformed bit codes carried)
+malformed-bit Numeric carried bit codes =
+    (numeric-table.reading-agrees .malformed-is-stuck bit codes carried, numeric-table.reading-agrees .stuck-is-malformed bit codes carried)
+malformed-bit Shef carried bit codes =
+    (shef-table.reading-agrees .malformed-is-stuck bit codes carried, shef-table.reading-agrees .stuck-is-malformed bit codes carried)
+malformed-bit FullAscii carried bit codes =
+    (ascii-writer.reading-agrees .malformed-is-stuck bit codes carried, ascii-writer.reading-agrees .stuck-is-malformed bit codes carried)
 
 take-front : (i n : ℕ) (l : List ℕ) → i ≤ n → take i (take n l) ≡ take i l
 take-front zero n l le = refl

@@ -17,7 +17,8 @@ use Rattle.header.specs.Valid.{lengthIn}
 use Rattle.header.proofs.Formats.{one-number}
 use Rattle.distance.specs.Distance.{distance}
 use Rattle.checksum.specs.Checksum.{checksumBytes}
-use Rattle.formats.specs.Data.{Carries, AllCoded, comesBack, dataOf}
+use Rattle.formats.specs.Data.{Carries, codesIn, AllCoded, comesBack, dataOf, codesOf}
+use Rattle.formats.proofs.Codes.{ours-codes}
 use Rattle.formats.proofs.Formats.{carries-coded, carries-kept, carries-some, data-some, no-fewer, writer-carries}
 use Rattle.refusals.specs.declared.WriteRefusal.the-variants.{Empty}
 use Rattle.terms.specs.declared.Terms.{Terms}
@@ -91,12 +92,15 @@ module _ (terms : Terms) (named : MayBeNamed terms) where
       let sent : received packet ≡ header = packet-header terms named format sync text packet made in
       let clean : distance header (received packet) ≡ 0 = ap (distance header) sent ∙ no-bits header in
       let same : bitXor header (received packet) ≡ 0 = ap (bitXor header) sent ∙ xor-self header in
+      let codes = codesIn format (comesBack format text) (dataOf format text) (made .carries) in
+      let ours : codes ≡ codesOf format text = ours-codes format text (comesBack format text) (w .coded) (made .carries) in
       let once =
       intact terms named format sync text packet made header
       (record { bits = header-valid format sync (length (dataOf format text)) small .bits; few = omega (arith, clean) }) after entry exit answer held
       (subst (λ (p : List ℕ). Reads terms p entry answer exit) (in-front format sync text after) reads) in (
         once .0
-            ∙ ap₂ (λ (mended mask : ℕ). Accepted (readingWith format sync mended mask (length (dataOf format text)) (length (comesBack format text)))) clean same,
+            ∙ ap₂ (λ (mended mask : ℕ). Accepted (readingWith format sync mended mask codes (length (dataOf format text)) (length (comesBack format text)))) clean same
+            ∙ ap (λ (k : ℕ). Accepted (readingWith format sync 0 0 k (length (dataOf format text)) (length (comesBack format text)))) ours,
         once .1,
       )
 
@@ -115,20 +119,24 @@ module _ (terms : Terms) (named : MayBeNamed terms) where
 
   -- ---- a packet is accepted exactly when it is allowed and the buffer holds its text
 
-  accepts-of : (packet : List ℕ) (format : Format) (header : ℕ) (text : List ℕ) → Allowed terms packet format header text
-      → Accepts terms packet (readingOf format header (received packet) text) text
+  -- the reading of a packet that is allowed
+  abbrev readingIn : (packet : List ℕ) (format : Format) (header : ℕ) (text : List ℕ) → Allowed terms packet format header text → Reading
+  readingIn packet format header text a = readingOf format header (received packet) text (codesIn format text (dataIn header packet) (a .carries))
+
+  accepts-of : (packet : List ℕ) (format : Format) (header : ℕ) (text : List ℕ) (a : Allowed terms packet format header text)
+      → Accepts terms packet (readingIn packet format header text a) text
   accepts-of packet format header text a = record { format = format; header = header; allowed = a; is = refl }
 
   allowed-readable : (packet : List ℕ) (answer : ExamineAnswer) → Examines terms packet answer → (format : Format) (header : ℕ) (text : List ℕ)
-      → Allowed terms packet format header text → answer ≡ Readable (readingOf format header (received packet) text)
+      → (a : Allowed terms packet format header text) → answer ≡ Readable (readingIn packet format header text a)
   allowed-readable packet answer examines format header text a =
-      examines-one terms (named .bytes) packet answer (Readable (readingOf format header (received packet) text)) examines (text, accepts-of packet format header text a)
+      examines-one terms (named .bytes) packet answer (Readable (readingIn packet format header text a)) examines (text, accepts-of packet format header text a)
 
   allowed-accepted : (packet entry exit : List ℕ) (answer : ReadAnswer) → Reads terms packet entry answer exit
-      → (format : Format) (header : ℕ) (text : List ℕ) → Allowed terms packet format header text → length text ≤ length entry
-      → (answer ≡ Accepted (readingOf format header (received packet) text)) × StandsInFront text entry exit
+      → (format : Format) (header : ℕ) (text : List ℕ) (a : Allowed terms packet format header text) → length text ≤ length entry
+      → (answer ≡ Accepted (readingIn packet format header text a)) × StandsInFront text entry exit
   allowed-accepted packet entry exit answer reads format header text a held =
-      reads-one terms (named .bytes) packet entry answer (Accepted (readingOf format header (received packet) text)) exit (text ++ drop (length text) entry) reads
+      reads-one terms (named .bytes) packet entry answer (Accepted (readingIn packet format header text a)) exit (text ++ drop (length text) entry) reads
       (text, accepts-of packet format header text a, held, refl)
 
   accepted-exactly : (packet entry exit : List ℕ) (answer : ReadAnswer) → Reads terms packet entry answer exit
@@ -139,7 +147,7 @@ module _ (terms : Terms) (named : MayBeNamed terms) where
         let told = subst (λ (b : ReadAnswer). Reads terms packet entry b exit) (a .1) reads in
         (told .1 .format, told .1 .header, told .0, told .1 .allowed, told .2),
     λ a. (
-      readingOf (a .0) (a .1) (received packet) (a .2),
+      readingIn packet (a .0) (a .1) (a .2) (a .3),
       allowed-accepted packet entry exit answer reads (a .0) (a .1) (a .2) (a .3) (a .4) .0,
     ),
   )
@@ -148,7 +156,7 @@ module _ (terms : Terms) (named : MayBeNamed terms) where
       → ((reading : Reading) × (answer ≡ Readable reading)) ↔ ((format : Format) × (header : ℕ) × (text : List ℕ) × Allowed terms packet format header text)
   readable-exactly packet answer examines = (
     λ a. let told = subst (Examines terms packet) (a .1) examines in (told .1 .format, told .1 .header, told .0, told .1 .allowed),
-    λ a. (readingOf (a .0) (a .1) (received packet) (a .2), allowed-readable packet answer examines (a .0) (a .1) (a .2) (a .3)),
+    λ a. (readingIn packet (a .0) (a .1) (a .2) (a .3), allowed-readable packet answer examines (a .0) (a .1) (a .2) (a .3)),
   )
 
   -- ---- and is then a packet that a maker could have built
@@ -273,7 +281,9 @@ module _ (terms : Terms) (named : MayBeNamed terms) where
     reads-the-same : (sync : Bool) (lent again : List ℕ) (wrote : WriteAnswer) → packetLength (reading .format) text ≤ length lent
         → Writes terms (formatNumber (reading .format)) sync text lent wrote again
         → (entry exit : List ℕ) (answer : ReadAnswer) → length text ≤ length entry → Reads terms again entry answer exit
-        → (answer ≡ Accepted (readingWith (reading .format) sync 0 0 (length (dataOf (reading .format) text)) (length text))) × StandsInFront text entry exit
+        → (answer
+        ≡ Accepted (readingWith (reading .format) sync 0 0 (codesOf (reading .format) text) (length (dataOf (reading .format) text)) (length text)))
+        × StandsInFront text entry exit
     reads-the-same sync lent again wrote given writes entry exit answer held reads =
         let is = written-again sync lent again wrote given writes .0 in
         let back =
@@ -282,7 +292,9 @@ module _ (terms : Terms) (named : MayBeNamed terms) where
         (subst⁻¹ (λ (t : List ℕ). length t ≤ length entry) again-kept held) reads in
         subst
         (λ (t : List ℕ).
-        (answer ≡ Accepted (readingWith (reading .format) sync 0 0 (length (dataOf (reading .format) text)) (length t))) × StandsInFront t entry exit)
+        (answer
+        ≡ Accepted (readingWith (reading .format) sync 0 0 (codesOf (reading .format) text) (length (dataOf (reading .format) text)) (length t)))
+        × StandsInFront t entry exit)
         again-kept (back .0, back .2)
 
   pub demand-2 : Demand2 terms

@@ -19,7 +19,7 @@ use Rattle.distance.proofs.Unique.{one-near, none-within}
 use Rattle.checksum.specs.Alike.{AlikeBut}
 use Rattle.checksum.specs.Checksum.{checksumOf, checksumBytes}
 use Rattle.checksum.proofs.Detect.{checksum-bytes-detect}
-use Rattle.formats.specs.Data.{comesBack}
+use Rattle.formats.specs.Data.{codesIn, comesBack}
 use Rattle.refusals.specs.declared.ExamineRefusal.the-variants.{NoHeader, Checksum}
 use Rattle.refusals.specs.declared.ReadRefusal.the-variants.{Packet}
 use Rattle.terms.specs.declared.Terms.{Terms}
@@ -29,14 +29,14 @@ use Rattle.reader.specs.declared.ExamineAnswer.the-variants.{Refused as NotRead
 use Rattle.reader.specs.declared.ReadAnswer.{ReadAnswer}
 use Rattle.reader.specs.declared.ReadAnswer.the-variants.{Accepted, Refused}
 use Rattle.reader.specs.Examine.{readingOf, Accepts, Refuses, Examines}
-use Rattle.packet.specs.Packet.{received, packetOf, headerFor}
+use Rattle.packet.specs.Packet.{received, dataIn, packetOf, headerFor}
 use Rattle.reader.specs.Reader.{Reads}
 use Rattle.terms.specs.Terms.{MayBeNamed}
 use Rattle.reader.proofs.ExamineOnce.{examines-one}
 use Rattle.reader.proofs.ExamineStages.{clear-two}
 use Rattle.reader.proofs.ReadOnce.{reads-one, refused-packet}
 use Rattle.packet.proofs.Sent.{received-front, arrived, received-is, header-valid}
-use Rattle.reader.proofs.Sent.{sent-allowed, sent-reading, sent-refused}
+use Rattle.reader.proofs.Sent.{sent-allowed, sent-codes, sent-reading, sent-refused}
 use Rattle.demands.specs.Demand3.{RefusedByChecksum, Demand3}
 use Rattle.demands.specs.Makers.{Made, Flipped, FlippedBeyond, arriving, readingWith}
 
@@ -67,7 +67,8 @@ module _ (terms : Terms) (named : MayBeNamed terms) (format : Format) (sync : Bo
     pub intact : length (comesBack format text) ≤ length entry → Reads terms (arriving word packet after) entry answer exit
         → (answer
         ≡ Accepted
-        (readingWith format sync (distance word (received packet)) (bitXor word (received packet)) (length (made .carried)) (length (comesBack format text))))
+        (readingWith format sync (distance word (received packet)) (bitXor word (received packet))
+        (codesIn format (comesBack format text) (made .carried) (made .carries)) (length (made .carried)) (length (comesBack format text))))
         × (exit ≡ comesBack format text ++ drop (length (comesBack format text)) entry)
     unfolding checksumBytes
     intact held reads =
@@ -78,14 +79,17 @@ module _ (terms : Terms) (named : MayBeNamed terms) (format : Format) (sync : Bo
         let came = arrived word (made .carried) low high after in
         let allowed =
         sent-allowed terms named format sync word (made .carried) low high after (made .some) (made .few) (flipped .bits) (near word flipped) refl back (made .carries) in
+        let codes = codesIn format back (dataIn header came) (allowed .carries) in
+        let sent =
+        sent-codes terms named format sync word (made .carried) low high after (made .some) (made .few) (flipped .bits) (near word flipped) refl back (made .carries) in
         let once =
-        reads-one terms (named .bytes) came entry answer (Accepted (readingOf format header (received came) back)) exit (back ++ drop (length back) entry)
+        reads-one terms (named .bytes) came entry answer (Accepted (readingOf format header (received came) back codes)) exit (back ++ drop (length back) entry)
         (subst (λ (p : List ℕ). Reads terms p entry answer exit) (arrives word after) reads)
         (back, record { format = format; header = header; allowed = allowed; is = refl }, held, refl) in (
           once .0
               ∙ ap {B = ReadAnswer} Accepted
-              (sent-reading terms named format sync word (made .carried) low high after (made .some) (made .few) (flipped .bits) (near word flipped) back)
-              ∙ ap (λ (h : ℕ). Accepted (readingWith format sync (distance word h) (bitXor word h) (length (made .carried)) (length back))) (sym packet-header),
+              (sent-reading terms named format sync word (made .carried) low high after (made .some) (made .few) (flipped .bits) (near word flipped) back codes)
+              ∙ ap₂ (λ (h k : ℕ). Accepted (readingWith format sync (distance word h) (bitXor word h) k (length (made .carried)) (length back))) (sym packet-header) sent,
           once .1,
         )
 

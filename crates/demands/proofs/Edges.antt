@@ -2,7 +2,7 @@
 -- Assumes nothing.
 use mathlib.Core.Bool.{Bool, true, false, not, _&&_}
 use mathlib.Core.List.{List, [], _∷_}
-use mathlib.Core.Path.{subst}
+use mathlib.Core.Path.{_≡_, subst₂}
 use Prim.Native.Nat.{ℕ, _^_}
 use native.Mathlib.Omega.{arith}
 use lib.Bits.{bitXor}
@@ -27,12 +27,13 @@ use Rattle.distance.specs.Distance.{distance}
 use Rattle.mending.specs.Mends.{MendsWithin}
 use Rattle.mending.specs.Search.{isValid, turnedOver, answerOf, search}
 use Rattle.mending.proofs.Search.{passing-valid}
-use Rattle.codes.specs.Chain.{Scheme, stateAfter, codes, texts, Builds, Stuck}
+use Rattle.codes.specs.Chain.{Scheme, stateAfter, codes, texts}
 use Rattle.codes.specs.Coded.{lastOf}
 use Rattle.codes.specs.Consecutive.{codeFor, consecutive}
 use Rattle.codes.specs.LineEnds.{eachAfter, ended, lineEnds}
 use Rattle.codes.specs.Lookup.{same, found, saying, meaning}
 use Rattle.codes.specs.Pack.{low, value, bytes, packed, gap, filled, written}
+use Rattle.codes.specs.Steps.Measure.{BuildsIn, StuckAfter}
 use Rattle.codes.proofs.Beginning.{begun}
 use Rattle.codes.proofs.EveryElement.{every}
 use Rattle.codes.proofs.Lookup.{same-is}
@@ -46,7 +47,7 @@ use Rattle.numeric.specs.Steps.Text.{character, spelled, textOf}
 use Rattle.numeric.specs.Table as numeric
 use Rattle.numeric.specs.Translation as numeric-translation
 use Rattle.numeric.specs.Writer as numeric-writer
-use Rattle.numeric.proofs.Data.{text-built}
+use Rattle.numeric.proofs.Data.{text-built, count-built}
 use Rattle.pseudo_binary.specs.Table as pseudo
 use Rattle.pseudo_binary.specs.Writer as pseudo-writer
 use Rattle.pseudo_binary.proofs.Table as pseudo-table
@@ -54,57 +55,70 @@ use Rattle.shef.specs.Table as shef
 use Rattle.shef.specs.Writer as shef-writer
 use Rattle.shef.proofs.Table as shef-table
 use Rattle.refusals.specs.declared.ExamineRefusal.the-variants.{TooManyBits, NoHeader, OtherType}
-use Rattle.formats.specs.Data.{Carries, Unreadable, coded, dataOf, comesBack}
+use Rattle.formats.specs.Ceiling.{ceiling}
+use Rattle.formats.specs.Data.{CarriesIn, UnreadableAfter, coded, dataOf, comesBack}
 use Rattle.packet.specs.Packet.{received, headerFor}
 use Rattle.terms.specs.Terms.{naming}
 use Rattle.packet.proofs.Sent.{header-valid, header-typed, header-length, header-sync}
 use Rattle.reader.proofs.ExamineOnce.{too-many}
 use Rattle.reader.proofs.ReadOnce.{refused-packet}
-use Rattle.demands.specs.Edges.{Edge, checks, heads, reads, hopeless, foreign, unnamed, writes, carries, stops, lacks, RefusesAll, Holds, edges, Every}
+use Rattle.demands.specs.Edges.{Edge, checks, heads, reads, hopeless, foreign, unnamed, writes, carries, stops, fullest, lacks, RefusesAll, Holds, edges, Every}
 use Rattle.demands.proofs.HeaderTests.{findsNone, none, none-near, mends-by-test, ours, other, other-none, refuses-hopeless, refuses-foreign, whichever}
 
 -- ---- data, by a reading that computes
 
 reading : Format → List ℕ → Answer
-reading Open carried = reads-text carried
+reading Open carried = reads-text carried 0
 reading PseudoBinary carried = answer pseudo.scheme (length (bits carried)) 0 (bits carried)
-reading Numeric carried = reads-text (textOf carried)
+reading Numeric carried = reads-text (textOf carried) (length (spelled carried))
 reading Shef carried = answer shef.scheme (length (bits carried)) 0 (bits carried)
 reading FullAscii carried = answer ascii.scheme (length (bits carried)) 0 (bits carried)
 
-comes-to : Answer → List ℕ → Bool
-comes-to (reads-text t) text = same t text
-comes-to (reads-stuck i) text = false
+comes-to : Answer → List ℕ → ℕ → Bool
+comes-to (reads-text t k) text codes = same t text && eqb k codes
+comes-to (reads-stuck i k) text codes = false
 
-stuck-at : Answer → ℕ → Bool
-stuck-at (reads-text t) bit = false
-stuck-at (reads-stuck i) bit = eqb i bit
+stuck-at : Answer → ℕ → ℕ → Bool
+stuck-at (reads-text t k) bit codes = false
+stuck-at (reads-stuck i k) bit codes = eqb i bit && eqb k codes
 
-to-text : (scheme : Scheme) (bs : List ℕ) (a : Answer) (text : List ℕ) → Means scheme 0 bs a → T (comes-to a text) → Builds scheme 0 bs text
+-- of two numbers and a row, or of three numbers, each by its own test
+both-same : (t text : List ℕ) (k codes : ℕ) → T (same t text && eqb k codes) → (t ≡ text) × (k ≡ codes)
+both-same t text k codes p =
+    (same-is t text (and-left (same t text) (eqb k codes) p), eqb→eq k codes (and-right (same t text) (eqb k codes) p))
+
+to-text : (scheme : Scheme) (bs : List ℕ) (a : Answer) (text : List ℕ) (codes : ℕ) → Means scheme 0 bs a → T (comes-to a text codes) → BuildsIn scheme 0 bs text codes
 unfolding comes-to
-to-text scheme bs (reads-text t) text m p = subst (Builds scheme 0 bs) (same-is t text p) m
-to-text scheme bs (reads-stuck i) text m p = absurd p
+to-text scheme bs (reads-text t k) text codes m p = let e = both-same t text k codes p in subst₂ (BuildsIn scheme 0 bs) (e .0) (e .1) m
+to-text scheme bs (reads-stuck i k) text codes m p = absurd p
 
-to-place : (scheme : Scheme) (bs : List ℕ) (a : Answer) (bit : ℕ) → Means scheme 0 bs a → T (stuck-at a bit) → Stuck scheme 0 bs bit
+to-place : (scheme : Scheme) (bs : List ℕ) (a : Answer) (bit codes : ℕ) → Means scheme 0 bs a → T (stuck-at a bit codes) → StuckAfter scheme 0 bs bit codes
 unfolding stuck-at
-to-place scheme bs (reads-text t) bit m p = absurd p
-to-place scheme bs (reads-stuck i) bit m p = subst (Stuck scheme 0 bs) (eqb→eq i bit p) m
+to-place scheme bs (reads-text t k) bit codes m p = absurd p
+to-place scheme bs (reads-stuck i k) bit codes m p =
+    subst₂ (StuckAfter scheme 0 bs) (eqb→eq i bit (and-left (eqb i bit) (eqb k codes) p)) (eqb→eq k codes (and-right (eqb i bit) (eqb k codes) p)) m
 
-carries-by-test : (format : Format) (text carried : List ℕ) → T (comes-to (reading format carried) text) → Carries format text carried
+carries-by-test : (format : Format) (text carried : List ℕ) (codes : ℕ) → T (comes-to (reading format carried) text codes) → CarriesIn format carried text codes
 unfolding reading comes-to
-carries-by-test Open text carried p = same-is carried text p
-carries-by-test PseudoBinary text carried p = to-text pseudo.scheme (bits carried) (reading PseudoBinary carried) text (always pseudo-table.laws 0 (bits carried)) p
-carries-by-test Numeric text carried p = subst (λ (t : List ℕ). Carries Numeric t carried) (same-is (textOf carried) text p) (text-built carried)
-carries-by-test Shef text carried p = to-text shef.scheme (bits carried) (reading Shef carried) text (always shef-table.laws 0 (bits carried)) p
-carries-by-test FullAscii text carried p = to-text ascii.scheme (bits carried) (reading FullAscii carried) text (always ascii-table.laws 0 (bits carried)) p
+carries-by-test Open text carried codes p = both-same carried text 0 codes p
+carries-by-test PseudoBinary text carried codes p =
+    to-text pseudo.scheme (bits carried) (reading PseudoBinary carried) text codes (always pseudo-table.laws 0 (bits carried)) p
+carries-by-test Numeric text carried codes p =
+    let e = both-same (textOf carried) text (length (spelled carried)) codes p in
+    subst₂ (CarriesIn Numeric carried) (e .0) (e .1) (text-built carried, count-built (textOf carried) carried (text-built carried))
+carries-by-test Shef text carried codes p = to-text shef.scheme (bits carried) (reading Shef carried) text codes (always shef-table.laws 0 (bits carried)) p
+carries-by-test FullAscii text carried codes p =
+    to-text ascii.scheme (bits carried) (reading FullAscii carried) text codes (always ascii-table.laws 0 (bits carried)) p
 
-stops-by-test : (format : Format) (carried : List ℕ) (bit : ℕ) → T (stuck-at (reading format carried) bit) → Unreadable format carried bit
+stops-by-test : (format : Format) (carried : List ℕ) (bit codes : ℕ) → T (stuck-at (reading format carried) bit codes) → UnreadableAfter format carried bit codes
 unfolding reading stuck-at
-stops-by-test Open carried bit p = p
-stops-by-test PseudoBinary carried bit p = to-place pseudo.scheme (bits carried) (reading PseudoBinary carried) bit (always pseudo-table.laws 0 (bits carried)) p
-stops-by-test Numeric carried bit p = absurd p
-stops-by-test Shef carried bit p = to-place shef.scheme (bits carried) (reading Shef carried) bit (always shef-table.laws 0 (bits carried)) p
-stops-by-test FullAscii carried bit p = to-place ascii.scheme (bits carried) (reading FullAscii carried) bit (always ascii-table.laws 0 (bits carried)) p
+stops-by-test Open carried bit codes p = absurd p
+stops-by-test PseudoBinary carried bit codes p =
+    to-place pseudo.scheme (bits carried) (reading PseudoBinary carried) bit codes (always pseudo-table.laws 0 (bits carried)) p
+stops-by-test Numeric carried bit codes p = absurd p
+stops-by-test Shef carried bit codes p = to-place shef.scheme (bits carried) (reading Shef carried) bit codes (always shef-table.laws 0 (bits carried)) p
+stops-by-test FullAscii carried bit codes p =
+    to-place ascii.scheme (bits carried) (reading FullAscii carried) bit codes (always ascii-table.laws 0 (bits carried)) p
 
 -- ---- the rows
 
@@ -129,9 +143,10 @@ tests (foreign numbers head header mended) =
     let d = distance (received head) h in
     eqb (length head) 4 ∷ ltb h (2 ^ 32) ∷ isValid h ∷ every (λ (mend : ℕ). _&&_ (leb mend 2) (_&&_ (leb d mend) (eqb mended d))) numbers ∷ other (fieldsIn h) ∷ []
 tests (unnamed numbers) = every (ltb 2) numbers ∷ []
-tests (writes format text carried) = same (dataOf format text) carried ∷ comes-to (reading format carried) (comesBack format text) ∷ []
-tests (carries format text carried) = comes-to (reading format carried) text ∷ []
-tests (stops format carried bit) = stuck-at (reading format carried) bit ∷ []
+tests (writes format text carried codes) = same (dataOf format text) carried ∷ comes-to (reading format carried) (comesBack format text) codes ∷ []
+tests (carries format text carried codes) = comes-to (reading format carried) text codes ∷ []
+tests (stops format carried bit codes) = stuck-at (reading format carried) bit codes ∷ []
+tests (fullest format text carried codes) = comes-to (reading format carried) text codes ∷ eqb codes (ceiling format (length carried)) ∷ []
 tests (lacks format text index) =
     ltb index (length text) ∷ all (λ (i : ℕ). coded format (take i text) (getD text i 0)) index ∷ not (coded format (take index text) (getD text index 0)) ∷ []
 
@@ -185,9 +200,12 @@ row-holds (unnamed numbers) (many, t) =
     (λ mend p after room.
     refused-packet (naming mend) after room TooManyBits (too-many (naming mend) after (λ few. omega (arith, few, ltb→lt 2 mend p))))
     numbers many
-row-holds (writes format text carried) (made, (read, t)) = (same-is (dataOf format text) carried made, carries-by-test format (comesBack format text) carried read)
-row-holds (carries format text carried) (read, t) = carries-by-test format text carried read
-row-holds (stops format carried bit) (read, t) = stops-by-test format carried bit read
+row-holds (writes format text carried codes) (made, (read, t)) =
+    (same-is (dataOf format text) carried made, carries-by-test format (comesBack format text) carried codes read)
+row-holds (carries format text carried codes) (read, t) = carries-by-test format text carried codes read
+row-holds (stops format carried bit codes) (read, t) = stops-by-test format carried bit codes read
+row-holds (fullest format text carried codes) (read, (most, t)) =
+    (carries-by-test format text carried codes read, eqb→eq codes (ceiling format (length carried)) most)
 row-holds (lacks format text index) (there, (before, (none, t))) =
     record {
       there = ltb→lt index (length text) there;
@@ -206,7 +224,7 @@ rows-hold (e ∷ es) (p, t) = (row-holds e (passed (tests e) p), rows-hold es t)
 
 -- every row's tests, computed: one `tt` a row
 computed : Passed (every-row edges)
-unfolding Passed every-row every-test tests same other ours reading comes-to stuck-at findsNone none isValid search answerOf turnedOver turnings chosen maskOf all onesIn Odd received distance differences
+unfolding Passed every-row every-test tests ceiling same other ours reading comes-to stuck-at findsNone none isValid search answerOf turnedOver turnings chosen maskOf all onesIn Odd received distance differences
     flagIn checkIn checkOf informationIn lengthIn remainder generator bytesOf headerFor headerOf lowFlag parityFor fieldsIn messageTypeIn extendedTypeIn spareIn syncIn flagBits
     bits bit low numbers every begun fills find answer stateAfter codes texts value bytes packed gap filled written
     pseudo.isOf pseudo.coded pseudo.valueOf pseudo.characterOf pseudo.indicator pseudo.most pseudo.indicators pseudo.six pseudo.tables
@@ -217,7 +235,7 @@ unfolding Passed every-row every-test tests same other ours reading comes-to stu
     numeric-writer.sentFor numeric-writer.ours numeric-writer.comesBack shef.table shef-writer.coded shef-writer.own shef-writer.ours
     ascii.six ascii.seven ascii.special ascii.pair ascii.table ascii-writer.own ascii-writer.ours
 computed =
-    (tt, (tt, (tt, (tt, (tt, (tt, (tt, (tt, (tt, (tt, (tt, (tt, (tt, (tt, (tt, (tt, (tt, (tt, (tt, (tt, (tt, (tt, (tt, (tt, (tt, (tt, (tt, (tt, (tt, (tt, (tt, (tt, (tt, (tt, (tt, (tt, (tt, (tt, (tt, (tt, (tt, (tt, (tt, (tt, (tt, (tt, (tt, (tt, (tt, (tt, (tt, (tt, (tt, (tt, (tt, (tt, tt))))))))))))))))))))))))))))))))))))))))))))))))))))))))
+    (tt, (tt, (tt, (tt, (tt, (tt, (tt, (tt, (tt, (tt, (tt, (tt, (tt, (tt, (tt, (tt, (tt, (tt, (tt, (tt, (tt, (tt, (tt, (tt, (tt, (tt, (tt, (tt, (tt, (tt, (tt, (tt, (tt, (tt, (tt, (tt, (tt, (tt, (tt, (tt, (tt, (tt, (tt, (tt, (tt, (tt, (tt, (tt, (tt, (tt, (tt, (tt, (tt, (tt, (tt, (tt, (tt, (tt, (tt, (tt, (tt, (tt, (tt, (tt, tt))))))))))))))))))))))))))))))))))))))))))))))))))))))))))))))))
 
 -- the one statement: every row of the table
 pub edges-hold : Every edges

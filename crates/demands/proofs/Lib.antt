@@ -4,6 +4,7 @@ pub mod Demand2
 pub mod Demand3
 pub mod Edges
 pub mod HeaderTests
+pub mod HowManyCodes
 pub mod OneAnswer
 pub mod Parts
 pub mod Promised

@@ -18,7 +18,8 @@ use Rattle.checksum.specs.Checksum.{checksumBytes}
 use Rattle.numeric.proofs.Writer as numeric-writer
 use Rattle.pseudo_binary.proofs.Makers as pseudo-makers
 use Rattle.shef.proofs.Writer as shef-writer
-use Rattle.formats.specs.Data.{Carries, Unreadable}
+use Rattle.formats.specs.Data.{Carries, UnreadableAfter}
+use Rattle.formats.proofs.Codes.{codes-same}
 use Rattle.refusals.specs.declared.ExamineRefusal.{ExamineRefusal}
 use Rattle.refusals.specs.declared.ExamineRefusal.the-variants.{TooManyBits, Short, NoHeader, OtherType, OtherLength, CutOff, Checksum, Malformed}
 use Rattle.refusals.specs.declared.ReadRefusal.{ReadRefusal}
@@ -99,9 +100,9 @@ module _ (terms : Terms) (named : MayBeNamed terms) (p q : List ℕ) (header : �
     λ e.
         under terms named p (λ (h : ℕ). sumIn h p ≡ checksumBytes (dataIn h p) → ⊥) header near f (sym same-sum ∙ e ∙ ap checksumBytes same-data),
   )
-  moves (Malformed i) f =
-      let u = under terms named p (λ (h : ℕ). (k : Format) × HasFormat (fieldsIn h) k × Unreadable k (dataIn h p) i) header near f in
-      (header, near′, (u .0, u .1, subst (λ (l : List ℕ). Unreadable (u .0) l i) (sym same-data) (u .2)))
+  moves (Malformed i codes) f =
+      let u = under terms named p (λ (h : ℕ). (k : Format) × HasFormat (fieldsIn h) k × UnreadableAfter k (dataIn h p) i codes) header near f in
+      (header, near′, (u .0, u .1, subst (λ (l : List ℕ). UnreadableAfter (u .0) l i codes) (sym same-data) (u .2)))
 
   read-moves : (room : ℕ) (r : ReadRefusal) → ReadFault terms p room r → ReadFault terms q room r
   read-moves room (Packet r) f = moves r f
@@ -166,11 +167,15 @@ module _ (terms : Terms) (named : MayBeNamed terms) (packet after : List ℕ) (h
   accepts-behind : (reading : Reading) (text : List ℕ) → Accepts terms packet reading text → Accepts terms (packet ++ after) reading text
   accepts-behind reading text a =
       let same : a .header ≡ header = one-header terms named packet (a .header) header (a .allowed .framed .near) near in
+      let behind = allowed-behind (a .format) text (subst (λ (h : ℕ). Allowed terms packet (a .format) h text) same (a .allowed)) in
+      let codes =
+      codes-same (a .format) text text (dataIn (a .header) packet) (dataIn header (packet ++ after))
+      (ap (λ (h : ℕ). dataIn h packet) same ∙ sym same-data) (a .allowed .carries) (behind .carries) in
       record {
         format = a .format;
         header = header;
-        allowed = allowed-behind (a .format) text (subst (λ (h : ℕ). Allowed terms packet (a .format) h text) same (a .allowed));
-        is = a .is ∙ ap₂ (λ (h w : ℕ). readingOf (a .format) h w text) same (sym same-received);
+        allowed = behind;
+        is = a .is ∙ (λ i. readingOf (a .format) (same i) (sym same-received i) text (codes i));
       }
 
   refuses-behind : (r : ExamineRefusal) → Refuses terms packet r → Refuses terms (packet ++ after) r

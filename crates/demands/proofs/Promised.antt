@@ -8,6 +8,7 @@ use Rattle.demands.specs.Promised.{Promised}
 use Rattle.demands.proofs.Demand1 as first
 use Rattle.demands.proofs.Demand2 as second
 use Rattle.demands.proofs.Demand3 as third
+use Rattle.demands.proofs.HowManyCodes as counted
 use Rattle.demands.proofs.OneAnswer as beside
 use Rattle.demands.proofs.WhichBits as which
 
@@ -23,6 +24,7 @@ kept terms bytes = record {
   agreement = beside.agreement terms bytes;
   nothing-after = beside.nothing-after terms bytes;
   which-bits = which.which-bits terms;
+  how-many-codes = counted.how-many-codes terms bytes;
 }
 
 pub kept-naming : (mend : ℕ) → Promised (naming mend)

@@ -16,12 +16,12 @@ use Rattle.full_ascii.specs.Table as ascii
 use Rattle.numeric.specs.Table as numeric
 use Rattle.pseudo_binary.specs.Table as pseudo
 use Rattle.shef.specs.Table as shef
-use Rattle.formats.specs.Data.{Carries, Unreadable, AllCoded, Uncoded, comesBack, dataOf}
+use Rattle.formats.specs.Data.{Carries, Unreadable, UnreadableAfter, AllCoded, Uncoded, comesBack, dataOf}
 use Rattle.refusals.specs.declared.ExamineRefusal.{ExamineRefusal}
 use Rattle.refusals.specs.declared.ReadRefusal.{ReadRefusal}
 use Rattle.refusals.specs.declared.WriteRefusal.{WriteRefusal}
 use Rattle.refusals.specs.Match.{ToldAs, readerTurn, writerTurn}
-use Rattle.refusals.specs.Refusals.{Told, examineTold, readTold, writeTold}
+use Rattle.refusals.specs.Refusals.{Told, numberIn, examineTold, readTold, writeTold}
 use Rattle.terms.specs.declared.Terms.{Terms}
 use Rattle.reader.specs.declared.Reading.{Reading}
 use Rattle.reader.specs.declared.ExamineAnswer.{ExamineAnswer}
@@ -34,20 +34,20 @@ use Rattle.reader.specs.Examine.{Fault, Examines}
 use Rattle.reader.specs.Reader.{ReadFault, Reads}
 use Rattle.writer.specs.Writer.{WriteFault, Writes}
 
--- the answer is the refusal of this number and value exactly when the condition of that number holds, with that value, and none that is tested before it
+-- the answer is the refusal of this number, value and codes exactly when the condition of that number holds, with these, and none that is tested before it
 abbrev pub RefusedExactly : (Refusal : Type 0) → (Refusal → Told) → (Refusal → Type 0) → (ℕ → ℕ) → (Refusal → Type 0) → Type 0
 RefusedExactly Refusal told Fault turn Answered =
-    (number value : ℕ)
-    → ToldAs Refusal told Answered number value
-    ↔ (ToldAs Refusal told Fault number value × ((earlier other : ℕ) → turn earlier < turn number → ToldAs Refusal told Fault earlier other → ⊥))
+    (as-told : Told)
+    → ToldAs Refusal told Answered as-told
+    ↔ (ToldAs Refusal told Fault as-told × ((earlier : Told) → turn (numberIn earlier) < turn (numberIn as-told) → ToldAs Refusal told Fault earlier → ⊥))
 
--- the bit at which reading the data is stuck. Open data never is
-abbrev pub StuckAt : Format → List ℕ → ℕ → Type 0
-StuckAt Open carried bit = ⊥
-StuckAt PseudoBinary carried bit = DataGives pseudo.scheme carried (stuck bit)
-StuckAt Numeric carried bit = DataGives numeric.scheme carried (stuck bit)
-StuckAt Shef carried bit = DataGives shef.scheme carried (stuck bit)
-StuckAt FullAscii carried bit = DataGives ascii.scheme carried (stuck bit)
+-- the bit at which reading the data is stuck, and how many codes were read. Open data never is
+abbrev pub StuckAt : Format → List ℕ → (bit codes : ℕ) → Type 0
+StuckAt Open carried bit codes = ⊥
+StuckAt PseudoBinary carried bit codes = DataGives pseudo.scheme carried (stuck bit codes)
+StuckAt Numeric carried bit codes = DataGives numeric.scheme carried (stuck bit codes)
+StuckAt Shef carried bit codes = DataGives shef.scheme carried (stuck bit codes)
+StuckAt FullAscii carried bit codes = DataGives ascii.scheme carried (stuck bit codes)
 
 pub record Demand1 (terms : Terms) : Type 0 where
   -- Each kind of bad input has one refusal number, given under its stated condition and under no other: 17, then 1 to 7,
@@ -74,8 +74,8 @@ pub record Conditions (terms : Terms) : Type 0 where
   -- 7: data that has such a place carries no text, and data that carries no text has such a place
   pub malformed-means : (format : Format) (carried : List ℕ)
       → ((bit : ℕ) × Unreadable format carried bit) ↔ ((text : List ℕ) → Carries format text carried → ⊥)
-  -- its bit is where reading the data, as RULES has it read, is stuck
-  pub malformed-bit : (format : Format) (carried : List ℕ) (bit : ℕ) → Unreadable format carried bit ↔ StuckAt format carried bit
+  -- its bit is where reading the data, as RULES has it read, is stuck, and its codes are those that were read
+  pub malformed-bit : (format : Format) (carried : List ℕ) (bit codes : ℕ) → UnreadableAfter format carried bit codes ↔ StuckAt format carried bit codes
   -- 9: what is carried has codes; and of a text that has codes our data carries what it comes back as
   pub carried-coded : (format : Format) (text carried : List ℕ) → Carries format text carried → AllCoded format text
   pub coded-carried : (format : Format) (text : List ℕ) → AllCoded format text → Carries format (comesBack format text) (dataOf format text)

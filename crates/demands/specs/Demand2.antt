@@ -16,7 +16,7 @@ use Rattle.bits.specs.Row.{Bytes}
 use Rattle.header.specs.declared.Format.{Format}
 use Rattle.header.specs.Formats.{formatNumber}
 use Rattle.distance.specs.Distance.{distance}
-use Rattle.formats.specs.Data.{AllCoded, comesBack, dataOf}
+use Rattle.formats.specs.Data.{codesIn, AllCoded, comesBack, dataOf, codesOf}
 use Rattle.refusals.specs.declared.WriteRefusal.the-variants.{Empty}
 use Rattle.terms.specs.declared.Terms.{Terms}
 use Rattle.reader.specs.declared.Reading.{Reading}
@@ -27,7 +27,7 @@ use Rattle.reader.specs.declared.ReadAnswer.the-variants.{Accepted}
 use Rattle.writer.specs.declared.WriteAnswer.{WriteAnswer}
 use Rattle.writer.specs.declared.WriteAnswer.the-variants.{Written, Refused as NotWritten}
 use Rattle.reader.specs.Examine.{Allowed, readingOf, Accepts, Examines}
-use Rattle.packet.specs.Packet.{received}
+use Rattle.packet.specs.Packet.{received, dataIn}
 use Rattle.reader.specs.Reader.{Reads}
 use Rattle.writer.specs.Writer.{ourPacket, Writes}
 use Rattle.demands.specs.Makers.{Made, Flipped, arriving, readingWith}
@@ -44,7 +44,7 @@ packetLength format text = length (dataOf format text) + 6
 
 -- the reading of that packet as it was written: no bit mended
 abbrev pub cleanReading : Format → Bool → List ℕ → Reading
-cleanReading format sync text = readingWith format sync 0 0 (length (dataOf format text)) (length (comesBack format text))
+cleanReading format sync text = readingWith format sync 0 0 (codesOf format text) (length (dataOf format text)) (length (comesBack format text))
 
 -- the text stands at the front of the buffer, and behind it the buffer is as it was
 abbrev pub StandsInFront : List ℕ → List ℕ → List ℕ → Type 0
@@ -83,10 +83,12 @@ pub record Demand2 (terms : Terms) : Type 0 where
       → ((reading : Reading) × (answer ≡ Readable reading)) ↔ ((format : Format) × (header : ℕ) × (text : List ℕ) × Allowed terms packet format header text)
   -- (with which answer, and which text in the buffer)
   pub allowed-readable : (packet : List ℕ) (answer : ExamineAnswer) → Examines terms packet answer → (format : Format) (header : ℕ) (text : List ℕ)
-      → Allowed terms packet format header text → answer ≡ Readable (readingOf format header (received packet) text)
+      → (allowed : Allowed terms packet format header text)
+      → answer ≡ Readable (readingOf format header (received packet) text (codesIn format text (dataIn header packet) (allowed .carries)))
   pub allowed-accepted : (packet entry exit : List ℕ) (answer : ReadAnswer) → Reads terms packet entry answer exit
-      → (format : Format) (header : ℕ) (text : List ℕ) → Allowed terms packet format header text → length text ≤ length entry
-      → (answer ≡ Accepted (readingOf format header (received packet) text)) × StandsInFront text entry exit
+      → (format : Format) (header : ℕ) (text : List ℕ) (allowed : Allowed terms packet format header text) → length text ≤ length entry
+      → (answer ≡ Accepted (readingOf format header (received packet) text (codesIn format text (dataIn header packet) (allowed .carries))))
+      × StandsInFront text entry exit
   -- (it is a packet that a maker could have built of that text, with no more header bits flipped than are mended, and whatever follows it)
   pub accepted-is-made : (packet : List ℕ) (reading : Reading) (text : List ℕ) → Bytes packet → Accepts terms packet reading text
       → (made after : List ℕ) × Made terms (reading .format) (reading .sync) text made × Flipped terms made (received packet)
@@ -104,4 +106,6 @@ pub record Demand2 (terms : Terms) : Type 0 where
       → (sync : Bool) (lent again : List ℕ) (wrote : WriteAnswer) → packetLength (reading .format) text ≤ length lent
       → Writes terms (formatNumber (reading .format)) sync text lent wrote again
       → (entry exit : List ℕ) (answer : ReadAnswer) → length text ≤ length entry → Reads terms again entry answer exit
-      → (answer ≡ Accepted (readingWith (reading .format) sync 0 0 (length (dataOf (reading .format) text)) (length text))) × StandsInFront text entry exit
+      → (answer
+      ≡ Accepted (readingWith (reading .format) sync 0 0 (codesOf (reading .format) text) (length (dataOf (reading .format) text)) (length text)))
+      × StandsInFront text entry exit

@@ -19,7 +19,7 @@ use Rattle.header.specs.Fields.{bytesOf}
 use Rattle.distance.specs.Distance.{distance}
 use Rattle.checksum.specs.Alike.{AlikeBut}
 use Rattle.checksum.specs.Checksum.{checksumBytes}
-use Rattle.formats.specs.Data.{comesBack}
+use Rattle.formats.specs.Data.{codesIn, comesBack}
 use Rattle.refusals.specs.declared.ExamineRefusal.the-variants.{NoHeader, Checksum}
 use Rattle.refusals.specs.declared.ReadRefusal.the-variants.{Packet}
 use Rattle.terms.specs.declared.Terms.{Terms}
@@ -39,13 +39,15 @@ RefusedByChecksum entry answer exit = (answer ≡ Refused (Packet Checksum)) × 
 
 -- of a packet that was made, and of 32 bits that came for its header, whatever follows it
 pub record Demand3 (terms : Terms) : Type 0 where
-  -- With data and checksum intact and room for the text: exactly the text, format and sync bit, the number of flipped bits, and which they are.
+  -- With data and checksum intact and room for the text: exactly the text, format and sync bit, the number of flipped bits, which they are, and as many
+  -- codes as the maker's data has.
   pub intact : (format : Format) (sync : Bool) (text packet : List ℕ) (made : Made terms format sync text packet) (word : ℕ) → Flipped terms packet word
       → (after entry exit : List ℕ) (answer : ReadAnswer) → length (comesBack format text) ≤ length entry
       → Reads terms (arriving word packet after) entry answer exit
       → (answer
       ≡ Accepted
-      (readingWith format sync (distance word (received packet)) (bitXor word (received packet)) (length (made .carried)) (length (comesBack format text))))
+      (readingWith format sync (distance word (received packet)) (bitXor word (received packet))
+      (codesIn format (comesBack format text) (made .carried) (made .carries)) (length (made .carried)) (length (comesBack format text))))
       × (exit ≡ comesBack format text ++ drop (length (comesBack format text)) entry)
   -- The mask is exactly the bits that were flipped, read into a buffer or examined: bit k of it (31 is the flag's parity bit) is 1 where bit k of what came
   -- is not that of what was sent.

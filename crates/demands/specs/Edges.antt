@@ -4,7 +4,7 @@ use mathlib.Core.Bool.{Bool, false}
 use mathlib.Core.List.{List, [], _∷_, _++_}
 use mathlib.Core.Path.{_≡_}
 use Prim.Native.Nat.{ℕ}
-use lib.ListN.{replicate}
+use lib.ListN.{length, replicate}
 use Rattle.header.specs.declared.Format.{Format}
 use Rattle.header.specs.declared.Format.the-variants.{Open, PseudoBinary, Numeric, Shef, FullAscii}
 use Rattle.header.specs.Fields.{fieldsIn, bytesOf}
@@ -12,7 +12,8 @@ use Rattle.header.specs.Formats.{HasFormat}
 use Rattle.header.specs.Valid.{Valid, flagIn, lengthIn, checkIn}
 use Rattle.mending.specs.declared.Mending.the-variants.{Mended}
 use Rattle.mending.specs.Mends.{MendsWithin}
-use Rattle.formats.specs.Data.{Carries, Unreadable, Uncoded, dataOf, comesBack}
+use Rattle.formats.specs.Ceiling.{ceiling}
+use Rattle.formats.specs.Data.{CarriesIn, UnreadableAfter, Uncoded, dataOf, comesBack}
 use Rattle.refusals.specs.declared.ExamineRefusal.{ExamineRefusal}
 use Rattle.refusals.specs.declared.ExamineRefusal.the-variants.{TooManyBits, NoHeader, OtherType}
 use Rattle.refusals.specs.declared.ReadRefusal.the-variants.{Packet}
@@ -34,12 +35,14 @@ pub data Edge : Type 0 where
   foreign : (numbers : List ℕ) (head header : List ℕ) (mended : ℕ) → Edge
   -- none of these numbers may be named: refusal 17, whatever the packet is
   unnamed : (numbers : List ℕ) → Edge
-  -- our writer makes this data of the text, and the data carries what the text comes back as
-  writes : Format → (text carried : List ℕ) → Edge
-  -- the data carries the text
-  carries : Format → (text carried : List ℕ) → Edge
-  -- the data is malformed at this bit
-  stops : Format → (carried : List ℕ) (bit : ℕ) → Edge
+  -- our writer makes this data of the text, and the data carries what the text comes back as, in so many codes
+  writes : Format → (text carried : List ℕ) (codes : ℕ) → Edge
+  -- the data carries the text in so many codes
+  carries : Format → (text carried : List ℕ) (codes : ℕ) → Edge
+  -- the data is malformed at this bit, behind so many codes
+  stops : Format → (carried : List ℕ) (bit codes : ℕ) → Edge
+  -- the data carries the text in so many codes, and no data of as many bytes has more
+  fullest : Format → (text carried : List ℕ) (codes : ℕ) → Edge
   -- the first character of the text that has no code is this one
   lacks : Format → (text : List ℕ) (index : ℕ) → Edge
 
@@ -60,14 +63,15 @@ Holds (heads format sync length bytes) = bytesOf (headerFor format sync length) 
 Holds (reads numbers head format sync length mended mask) =
     let header = headerFor format sync length in
     Naming numbers (λ mend. MendsWithin mend (received head) (Mended header mended)) × HasFormat (fieldsIn header) format
-    × (fieldsIn header .sync ≡ sync) × (lengthIn header ≡ length) × (readingOf format header (received head) [] .mask ≡ mask)
+    × (fieldsIn header .sync ≡ sync) × (lengthIn header ≡ length) × (readingOf format header (received head) [] 0 .mask ≡ mask)
 Holds (hopeless numbers head) = Naming numbers (λ mend. RefusesAll mend head NoHeader)
 Holds (foreign numbers head header mended) =
     Naming numbers (λ mend. MendsWithin mend (received head) (Mended (received header) mended) × RefusesAll mend head OtherType)
 Holds (unnamed numbers) = Naming numbers (λ mend. RefusesAll mend [] TooManyBits)
-Holds (writes format text carried) = (dataOf format text ≡ carried) × Carries format (comesBack format text) carried
-Holds (carries format text carried) = Carries format text carried
-Holds (stops format carried bit) = Unreadable format carried bit
+Holds (writes format text carried codes) = (dataOf format text ≡ carried) × CarriesIn format carried (comesBack format text) codes
+Holds (carries format text carried codes) = CarriesIn format carried text codes
+Holds (stops format carried bit codes) = UnreadableAfter format carried bit codes
+Holds (fullest format text carried codes) = CarriesIn format carried text codes × (codes ≡ ceiling format (length carried))
 Holds (lacks format text index) = Uncoded format text index
 
 -- text in ASCII: A 65, B 66, E 69, a 97, > 62, ? 63, ~ 126, DEL 127, 0 48, 1 49, 2 50, space 32, # 35, + 43, - 45, . 46, slash 47, : 58, ; 59, = 61, CR 13, LF 10
@@ -99,65 +103,78 @@ edges =
     ∷ reads (1 ∷ 2 ∷ []) (0x40 ∷ 0x80 ∷ 0x04 ∷ 0xDD ∷ []) Open false 1 1 0x00800000
     ∷ hopeless (0 ∷ []) (0x40 ∷ 0x80 ∷ 0x04 ∷ 0xDD ∷ [])
     -- P8
-    ∷ writes PseudoBinary (65 ∷ 66 ∷ []) (0x81 ∷ 0x04 ∷ 0x2F ∷ [])
+    ∷ writes PseudoBinary (65 ∷ 66 ∷ []) (0x81 ∷ 0x04 ∷ 0x2F ∷ []) 3
     -- P9
-    ∷ writes PseudoBinary (replicate 16 47) (0x7F ∷ [])
-    ∷ writes PseudoBinary (replicate 17 47) (0x7D ∷ 0x0F ∷ [])
+    ∷ writes PseudoBinary (replicate 16 47) (0x7F ∷ []) 1
+    ∷ writes PseudoBinary (replicate 17 47) (0x7D ∷ 0x0F ∷ []) 2
     -- P10
-    ∷ carries PseudoBinary (replicate 4 47 ++ (replicate 4 32 ++ (replicate 4 47 ++ replicate 4 32))) (0x4C ∷ 0x34 ∷ 0xC3 ∷ [])
+    ∷ carries PseudoBinary (replicate 4 47 ++ (replicate 4 32 ++ (replicate 4 47 ++ replicate 4 32))) (0x4C ∷ 0x34 ∷ 0xC3 ∷ []) 4
     -- P11
-    ∷ stops PseudoBinary (0xFF ∷ []) 8
+    ∷ stops PseudoBinary (0xFF ∷ []) 8 1
     -- P12
-    ∷ writes FullAscii (65 ∷ []) (0x83 ∷ [])
-    ∷ writes FullAscii (65 ∷ 66 ∷ []) (0x83 ∷ 0x0B ∷ [])
+    ∷ writes FullAscii (65 ∷ []) (0x83 ∷ []) 1
+    ∷ writes FullAscii (65 ∷ 66 ∷ []) (0x83 ∷ 0x0B ∷ []) 2
     -- P13
-    ∷ writes FullAscii (65 ∷ 13 ∷ 10 ∷ []) (0x83 ∷ 0xFF ∷ [])
+    ∷ writes FullAscii (65 ∷ 13 ∷ 10 ∷ []) (0x83 ∷ 0xFF ∷ []) 2
     -- P14
-    ∷ writes FullAscii (13 ∷ 10 ∷ []) (0xFF ∷ 0xFF ∷ [])
+    ∷ writes FullAscii (13 ∷ 10 ∷ []) (0xFF ∷ 0xFF ∷ []) 1
     -- P15
-    ∷ stops FullAscii (0xFF ∷ []) 0
+    ∷ stops FullAscii (0xFF ∷ []) 0 0
     -- Q1
-    ∷ writes PseudoBinary (63 ∷ []) (0x80 ∷ 0xFF ∷ [])
-    ∷ writes PseudoBinary (127 ∷ []) (0x80 ∷ 0xFF ∷ [])
-    ∷ carries PseudoBinary (63 ∷ []) (0x80 ∷ 0xFF ∷ [])
+    ∷ writes PseudoBinary (63 ∷ []) (0x80 ∷ 0xFF ∷ []) 2
+    ∷ writes PseudoBinary (127 ∷ []) (0x80 ∷ 0xFF ∷ []) 2
+    ∷ carries PseudoBinary (63 ∷ []) (0x80 ∷ 0xFF ∷ []) 2
     -- Q2
-    ∷ writes PseudoBinary (126 ∷ []) (0x80 ∷ 0xFB ∷ [])
+    ∷ writes PseudoBinary (126 ∷ []) (0x80 ∷ 0xFB ∷ []) 2
     ∷ lacks PseudoBinary (62 ∷ []) 0
     -- Q3
-    ∷ writes PseudoBinary (replicate 8 63) (0x87 ∷ 0xFF ∷ 0xFF ∷ 0xFF ∷ 0xFF ∷ 0xFF ∷ 0xFF ∷ [])
+    ∷ writes PseudoBinary (replicate 8 63) (0x87 ∷ 0xFF ∷ 0xFF ∷ 0xFF ∷ 0xFF ∷ 0xFF ∷ 0xFF ∷ []) 9
     -- N1
-    ∷ writes Numeric (49 ∷ 50 ∷ []) (0x12 ∷ [])
-    ∷ writes Numeric (49 ∷ []) (0x1A ∷ [])
-    ∷ carries Numeric (49 ∷ 32 ∷ []) (0x1A ∷ [])
+    ∷ writes Numeric (49 ∷ 50 ∷ []) (0x12 ∷ []) 2
+    ∷ writes Numeric (49 ∷ []) (0x1A ∷ []) 2
+    ∷ carries Numeric (49 ∷ 32 ∷ []) (0x1A ∷ []) 2
     -- N2
-    ∷ writes Numeric (13 ∷ 10 ∷ []) (0xBB ∷ [])
-    ∷ writes Numeric (13 ∷ []) (0xBB ∷ [])
-    ∷ writes Numeric (10 ∷ []) (0xBB ∷ [])
+    ∷ writes Numeric (13 ∷ 10 ∷ []) (0xBB ∷ []) 2
+    ∷ writes Numeric (13 ∷ []) (0xBB ∷ []) 2
+    ∷ writes Numeric (10 ∷ []) (0xBB ∷ []) 2
     -- N3
-    ∷ writes Numeric (35 ∷ 61 ∷ 58 ∷ 69 ∷ []) (0xBD ∷ 0xDB ∷ 0xEE ∷ 0xDD ∷ [])
+    ∷ writes Numeric (35 ∷ 61 ∷ 58 ∷ 69 ∷ []) (0xBD ∷ 0xDB ∷ 0xEE ∷ 0xDD ∷ []) 8
     -- N4
-    ∷ carries Numeric (48 ∷ 13 ∷ 10 ∷ 43 ∷ []) (0x0B ∷ 0xBB ∷ [])
+    ∷ carries Numeric (48 ∷ 13 ∷ 10 ∷ 43 ∷ []) (0x0B ∷ 0xBB ∷ []) 4
     -- N5
     ∷ lacks Numeric (43 ∷ 43 ∷ []) 1
     ∷ lacks Numeric (43 ∷ 35 ∷ []) 1
     ∷ lacks Numeric (45 ∷ 69 ∷ []) 1
     ∷ lacks Numeric (46 ∷ 58 ∷ []) 1
     ∷ lacks Numeric (49 ∷ 50 ∷ 43 ∷ 13 ∷ []) 3
-    ∷ writes Numeric (49 ∷ 50 ∷ 43 ∷ []) (0x12 ∷ 0xBA ∷ [])
+    ∷ writes Numeric (49 ∷ 50 ∷ 43 ∷ []) (0x12 ∷ 0xBA ∷ []) 4
     -- S1
-    ∷ writes Shef (48 ∷ []) (0x07 ∷ [])
-    ∷ writes Shef (65 ∷ []) (0x83 ∷ [])
+    ∷ writes Shef (48 ∷ []) (0x07 ∷ []) 1
+    ∷ writes Shef (65 ∷ []) (0x83 ∷ []) 1
     -- S2
-    ∷ writes Shef (13 ∷ 10 ∷ []) (0xEB ∷ [])
-    ∷ writes Shef (13 ∷ []) (0xEB ∷ [])
-    ∷ writes Shef (10 ∷ []) (0xEB ∷ [])
+    ∷ writes Shef (13 ∷ 10 ∷ []) (0xEB ∷ []) 1
+    ∷ writes Shef (13 ∷ []) (0xEB ∷ []) 1
+    ∷ writes Shef (10 ∷ []) (0xEB ∷ []) 1
     -- S3
-    ∷ writes Shef (59 ∷ []) (0xFB ∷ [])
-    ∷ stops Shef (0xFF ∷ []) 0
+    ∷ writes Shef (59 ∷ []) (0xFB ∷ []) 1
+    ∷ stops Shef (0xFF ∷ []) 0 0
     -- S4
-    ∷ stops Shef (0x07 ∷ 0xFF ∷ []) 5
+    ∷ stops Shef (0x07 ∷ 0xFF ∷ []) 5 1
     -- S5
     ∷ lacks Shef (65 ∷ 97 ∷ []) 1
+    -- C1
+    ∷ fullest PseudoBinary (replicate 4 32) (0x00 ∷ 0x00 ∷ 0x00 ∷ []) 4
+    ∷ fullest PseudoBinary (replicate 2 47) (0x41 ∷ 0x0F ∷ []) 2
+    -- C2
+    ∷ fullest Numeric (48 ∷ 48 ∷ []) (0x00 ∷ []) 2
+    -- C3
+    ∷ fullest Shef (replicate 8 48) (0x00 ∷ 0x00 ∷ 0x00 ∷ 0x00 ∷ 0x00 ∷ []) 8
+    ∷ fullest Shef (replicate 3 48) (0x00 ∷ 0x01 ∷ []) 3
+    -- C4
+    ∷ fullest FullAscii (replicate 4 32) (0x00 ∷ 0x00 ∷ 0x00 ∷ []) 4
+    -- C5
+    ∷ stops PseudoBinary (0x82 ∷ 0x00 ∷ 0x0F ∷ []) 20 3
+    ∷ carries PseudoBinary (64 ∷ 64 ∷ 64 ∷ []) (0x82 ∷ 0x00 ∷ 0x00 ∷ 0x3F ∷ []) 4
     ∷ []
 
 abbrev pub Every : List Edge → Type 0

@@ -2,6 +2,7 @@ pub mod Demand1
 pub mod Demand2
 pub mod Demand3
 pub mod Edges
+pub mod HowManyCodes
 pub mod Makers
 pub mod OneAnswer
 pub mod Promised

@@ -39,14 +39,15 @@ pub record FlippedBeyond (terms : Terms) (packet : List ℕ) (word : ℕ) : Type
 unfoldable pub arriving : ℕ → List ℕ → List ℕ → List ℕ
 arriving word packet after = bytesOf word ++ (drop 4 packet ++ after)
 
--- the reading of a packet of so many data bytes and characters, with so many header bits mended, and these
-abbrev pub readingWith : Format → Bool → (mended mask carried text : ℕ) → Reading
-readingWith format sync mended mask carried text =
+-- the reading of a packet of so many codes, data bytes and characters, with so many header bits mended, and these
+abbrev pub readingWith : Format → Bool → (mended mask codes carried text : ℕ) → Reading
+readingWith format sync mended mask codes carried text =
     record {
       format = format;
       sync = sync;
       mended = mended;
       mask = mask;
+      codes = codes;
       «data_length» = carried;
       «text_length» = text;
       used = carried + 6;

@@ -1,22 +1,25 @@
 -- Data of Compact Numeric: all of it has a text, which its functions compute.
 -- Assumes nothing.
 use mathlib.Core.List.{List}
-use mathlib.Core.Path.{_≡_, sym, _∙_, subst, subst⁻¹}
+use mathlib.Core.Path.{_≡_, refl, subst, subst⁻¹}
 use Prim.Native.Nat.{ℕ, _≤_}
 use lib.ListN.{length}
 use Rattle.header.specs.declared.Format.{Format}
 use Rattle.header.specs.declared.Format.the-variants.{Numeric}
 use Rattle.codes.specs.Steps.Laid.{Fronted}
+use Rattle.codes.specs.declared.Measured.{Measured}
 use Rattle.codes.specs.declared.Measured.the-variants.{Text}
-use Rattle.numeric.specs.Steps.Text.{textOf}
-use Rattle.numeric.proofs.Data.{text-built, one-built}
+use Rattle.numeric.specs.Steps.Text.{spelled, textOf}
+use Rattle.numeric.proofs.Data.{text-built, one-built, count-built}
 use Rattle.formats.specs.Steps.Text.{MeasuresData, HasRoom, PutsText}
 
 -- where the format is Numeric. Each number of the answer stands with what it must be, so that a wrong one is refused where it stands
 module _ (format : Format) (told : format ≡ Numeric) (carried : List ℕ) where
-  pub numeric-measures : (n long : ℕ) → n ≡ long → long ≡ length (textOf carried) → MeasuresData format carried (Text n)
-  numeric-measures n long e told-long =
-      subst⁻¹ (λ (k : Format). MeasuresData k carried (Text n)) told (textOf carried, sym (e ∙ told-long), text-built carried)
+  pub numeric-measures : (r : Measured) → r ≡ Text (length (textOf carried)) (length (spelled carried)) → MeasuresData format carried r
+  numeric-measures r e =
+      subst⁻¹ (MeasuresData format carried) e
+      (subst⁻¹ (λ (k : Format). MeasuresData k carried (Text (length (textOf carried)) (length (spelled carried)))) told
+      (textOf carried, refl, (text-built carried, count-built (textOf carried) carried (text-built carried))))
 
   pub numeric-room : (room : ℕ) → HasRoom format carried room → length (textOf carried) ≤ room
   numeric-room room h =

@@ -12,9 +12,10 @@ use Rattle.codes.specs.declared.Needed.{Needed}
 use Rattle.codes.specs.declared.Outcome.{Outcome}
 use Rattle.codes.specs.declared.Uncoded.{Uncoded}
 use Rattle.codes.proofs.OneAnswer.{one-coming, one-search, one-need, one-front}
-use Rattle.formats.specs.Data.{Carries, Unreadable, coded, dataOf}
+use Rattle.formats.specs.Data.{CarriesIn, UnreadableAfter, coded, dataOf}
 use Rattle.formats.specs.Steps.Text.{PutsText}
-use Rattle.formats.proofs.Formats.{carries-one, unreadable-one, never-unreadable}
+use Rattle.formats.proofs.Codes.{carries-in-one, unreadable-after-one}
+use Rattle.formats.proofs.Formats.{carries-one, never-unreadable}
 
 module _ (format : Format) (text : List ℕ) where
   pub first-uncoded-once : (a b : Uncoded) → FindsUncoded (coded format) text a → FindsUncoded (coded format) text b → a ≡ b
@@ -28,11 +29,11 @@ module _ (format : Format) (text : List ℕ) where
   put-data-once entry x y r q h k = one-front h k
 
 module _ (format : Format) (carried : List ℕ) where
-  pub take-apart-once : (a b : Outcome) → TakesApart (λ text. Carries format text carried) (Unreadable format carried) (length carried) a
-      → TakesApart (λ text. Carries format text carried) (Unreadable format carried) (length carried) b → a ≡ b
+  pub take-apart-once : (a b : Outcome) → TakesApart (CarriesIn format carried) (UnreadableAfter format carried) (length carried) a
+      → TakesApart (CarriesIn format carried) (UnreadableAfter format carried) (length carried) b → a ≡ b
   take-apart-once =
-      one-coming (λ (text : List ℕ). Carries format text carried) (Unreadable format carried) (λ t u p q. carries-one format t u carried p q)
-      (λ i j p q. unreadable-one format i j carried p q) (λ t i p q. never-unreadable format t carried i p q) (length carried)
+      one-coming (CarriesIn format carried) (UnreadableAfter format carried) (λ t u k l p q. carries-in-one format t u carried p q)
+      (λ i j k l p q. unreadable-after-one format i j carried p q) (λ t i k l p q. never-unreadable format t carried i (p .0) (q .0)) (length carried)
 
   pub put-text-once : (entry x y : List ℕ) (r q : ℕ) → PutsText format carried entry x r → PutsText format carried entry y q → (x ≡ y) × (r ≡ q)
   put-text-once entry x y r q h k =

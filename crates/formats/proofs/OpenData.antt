@@ -28,8 +28,8 @@ module _ (format : Format) (told : format ≡ Open) where
   open-copied text entry exit r long whole = subst⁻¹ (λ (k : Format). Fronted (dataOf k text) entry exit r) told (copied text entry exit r long whole)
 
   module _ (carried : List ℕ) where
-    pub open-measures : (n : ℕ) → n ≡ length carried → MeasuresData format carried (Text n)
-    open-measures n e = subst⁻¹ (λ (k : Format). MeasuresData k carried (Text n)) told (carried, sym e, refl)
+    pub open-measures : (n codes : ℕ) → n ≡ length carried → codes ≡ 0 → MeasuresData format carried (Text n codes)
+    open-measures n codes e d = subst⁻¹ (λ (k : Format). MeasuresData k carried (Text n codes)) told (carried, sym e, (refl, sym d))
 
     pub open-room : (room : ℕ) → HasRoom format carried room → length carried ≤ room
     open-room room h = let held = subst (λ (k : Format). HasRoom k carried room) told h in omega (arith, ap length (held .carries), held .fits)

@@ -8,7 +8,7 @@ use Prim.Native.Nat.{ℕ}
 use lib.ListN.{length}
 use Rattle.header.specs.declared.Format.{Format}
 use Rattle.header.specs.declared.Format.the-variants.{Open, PseudoBinary, Numeric, Shef, FullAscii}
-use Rattle.codes.specs.Chain.{Built, Malformed}
+use Rattle.codes.specs.Chain.{Built, Malformed, countIn, countBefore}
 use Rattle.codes.specs.Coded.{alone, CodedBelow, FirstUncoded}
 use Rattle.codes.specs.Pack.{written}
 use Rattle.full_ascii.specs.Table as ascii
@@ -37,6 +37,30 @@ Unreadable Numeric carried i = Malformed numeric.scheme carried i
 Unreadable Shef carried i = Malformed shef.scheme carried i
 Unreadable FullAscii carried i = Malformed ascii.scheme carried i
 
+-- how many indicators, values and codes the data has that carries a text: those of the building. Open has none
+abbrev pub codesIn : (format : Format) (text carried : List ℕ) → Carries format text carried → ℕ
+codesIn Open text carried built = 0
+codesIn PseudoBinary text carried built = countIn built
+codesIn Numeric text carried built = countIn (built .codes)
+codesIn Shef text carried built = countIn built
+codesIn FullAscii text carried built = countIn built
+
+-- and how many come before the first that is unreadable
+abbrev pub codesBefore : (format : Format) (carried : List ℕ) (i : ℕ) → Unreadable format carried i → ℕ
+codesBefore Open carried i stuck = 0
+codesBefore PseudoBinary carried i stuck = countBefore stuck
+codesBefore Numeric carried i stuck = countBefore stuck
+codesBefore Shef carried i stuck = countBefore stuck
+codesBefore FullAscii carried i stuck = countBefore stuck
+
+-- the data carries the text in so many codes
+abbrev pub CarriesIn : Format → List ℕ → List ℕ → ℕ → Type 0
+CarriesIn format carried text codes = (built : Carries format text carried) × (codesIn format text carried built ≡ codes)
+
+-- the data is malformed at this bit, behind so many codes
+abbrev pub UnreadableAfter : Format → List ℕ → ℕ → ℕ → Type 0
+UnreadableAfter format carried i codes = (stuck : Unreadable format carried i) × (codesBefore format carried i stuck ≡ codes)
+
 -- whether the character has a code, by what stands before it in the text and by itself: in Numeric by the character right before it and by
 -- itself, in the others by itself alone, and in Open each has one
 abbrev pub coded : Format → List ℕ → ℕ → Bool
@@ -61,6 +85,14 @@ dataOf PseudoBinary text = written (pseudo-writer.ours text)
 dataOf Numeric text = written (numeric-writer.ours text)
 dataOf Shef text = written (shef-writer.ours text)
 dataOf FullAscii text = written (ascii-writer.ours text)
+
+-- how many codes it has
+abbrev pub codesOf : Format → List ℕ → ℕ
+codesOf Open text = 0
+codesOf PseudoBinary text = length (pseudo-writer.ours text)
+codesOf Numeric text = length (numeric-writer.ours text)
+codesOf Shef text = length (shef-writer.ours text)
+codesOf FullAscii text = length (ascii-writer.ours text)
 
 -- what such a text comes back as when that data is read
 abbrev pub comesBack : Format → List ℕ → List ℕ

@@ -1,2 +1,3 @@
+pub mod Ceiling
 pub mod Data
 pub mod Steps

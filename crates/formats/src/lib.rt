@@ -16,7 +16,7 @@ ghost use Rattle.codes.specs.Steps.Laid.{Fronted};
 ghost use Rattle.codes.specs.Steps.Measure.{countable, TakesApart};
 ghost use Rattle.codes.specs.Steps.Size.{FindsUncoded, Needs};
 ghost use Rattle.header.specs.declared.Format.the-variants.{Open};
-ghost use Rattle.formats.specs.Data.{Carries, Unreadable, coded, AllCoded, dataOf};
+ghost use Rattle.formats.specs.Data.{CarriesIn, UnreadableAfter, coded, AllCoded, dataOf};
 ghost use Rattle.formats.specs.Steps.Text.{MeasuresData, HasRoom, PutsText};
 
 // Whether the character at place i has a code.
@@ -149,15 +149,15 @@ pub fn put_data(format: Format, text: &[u8], out: &mut [u8]) -> usize
     }
 }
 
-// The length of the text that the data carries, or the bit at which it is malformed.
+// The length of the text that the data carries, or the bit at which it is malformed, and how many codes were read; in Open there are none.
 fn measure(format: Format, data: &[u8]) -> Measured
     requires { ⌜ length (now «data») < countable ⌝ }
     ensures { λ r. ⌜ MeasuresData format (now («data» .entry)) r ⌝ }
 {
     match format {
-        Format::Open => Measured::Text(data.len()),
+        Format::Open => Measured::Text(data.len(), 0),
         Format::PseudoBinary => pseudo_binary_reader::measure(data),
-        Format::Numeric => Measured::Text(numeric_reader::measure(data)),
+        Format::Numeric => numeric_reader::measure(data),
         Format::Shef => shef_reader::measure(data),
         Format::FullAscii => full_ascii_reader::measure(data),
     }
@@ -165,15 +165,15 @@ fn measure(format: Format, data: &[u8]) -> Measured
 
 // The data taken apart, whatever its length.
 pub fn take_apart(format: Format, data: &[u8]) -> Outcome
-    ensures { λ r. ⌜ TakesApart (λ text. Carries format text (now («data» .entry))) (Unreadable format (now («data» .entry))) (length (now («data» .entry))) r ⌝ }
+    ensures { λ r. ⌜ TakesApart (CarriesIn format (now («data» .entry))) (UnreadableAfter format (now («data» .entry))) (length (now («data» .entry))) r ⌝ }
 {
     if Outcome::LIMIT <= data.len() {
         return Outcome::TooLong;
     }
     let measured = measure(format, data);
     match measured {
-        Measured::Text(n) => Outcome::Text(n),
-        Measured::Malformed(bit) => Outcome::Malformed(bit),
+        Measured::Text(n, codes) => Outcome::Text(n, codes),
+        Measured::Malformed(bit, codes) => Outcome::Malformed(bit, codes),
     }
 }
 

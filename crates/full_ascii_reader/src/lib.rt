@@ -1,6 +1,8 @@
 // Compact Full ASCII (001, 4.5), read: how long the text of its data is, or where the data is malformed; and the text. The table is in full_ascii.
 
 use codes::Code;
+use codes::Counted;
+use codes::Laid;
 use codes::Measured;
 use codes::Place;
 use codes::Skimmed;
@@ -93,14 +95,16 @@ fn skim_plain(held: u64, have: u64) -> Skimmed
 {
     let mut top = held << (64 - have);
     let mut left = have;
+    let mut codes: usize = 0;
     let mut count: usize = 0;
-    while count < 8 {
+    while codes < 8 {
         let c = first_plain(top >> 57);
         top = top << c.width;
         left -= c.width;
+        codes += 1;
         count += c.count;
     }
-    Skimmed { left, count }
+    Skimmed { left, codes, count }
 }
 
 // Codes passed one by one, as long as there are nine bits.
@@ -109,13 +113,15 @@ fn skim_each(held: u64, have: u64) -> Skimmed
     ensures { λ r. ⌜ Skims held have r ⌝ }
 {
     let mut left = have;
+    let mut codes: usize = 0;
     let mut count: usize = 0;
     while 9 <= left {
         let c = first_code(bit_buffer::window(held, left));
         left -= c.width;
+        codes += 1;
         count += c.count;
     }
-    Skimmed { left, count }
+    Skimmed { left, codes, count }
 }
 
 // The codes in the lowest `have` bits of a number, up to its last few bits.
@@ -130,21 +136,26 @@ fn skim(held: u64, have: u64) -> Skimmed
 }
 
 // The codes passed, up to fewer than eight bytes before the end.
-fn measure_words(s: &[u8]) -> Place
+fn measure_words(s: &[u8]) -> Counted
     requires { ⌜ length (now s) < countable ⌝ }
     ensures { λ r. ⌜ CountedTo scheme (now (s .entry)) r ⌝ }
 {
     let mut next: usize = 0;
     let mut skip: u64 = 0;
+    let mut codes: usize = 0;
     let mut n: usize = 0;
     while 8 <= s.len() - next {
         let w = skim(bit_buffer::eight(s, next), 64 - skip);
         let passed = 64 - w.left;
         next += (passed / 8) as usize;
         skip = passed % 8;
+        codes += w.codes;
         n += w.count;
     }
-    Place { next, skip, n }
+    Counted {
+        place: Place { next, skip, n },
+        codes,
+    }
 }
 
 // What the last bits come to, `have` of them.
@@ -153,16 +164,18 @@ fn measure_last(held: u64, have: u64) -> Measured
     ensures { λ r. ⌜ Measures scheme (low have held) r ⌝ }
 {
     let mut left = have;
+    let mut codes: usize = 0;
     let mut n: usize = 0;
     loop {
         if bit_buffer::at_end(held, left) {
-            return Measured::Text(n);
+            return Measured::Text(n, codes);
         }
         let c = first_code(bit_buffer::window(held, left));
         if left < c.width {
-            return Measured::Malformed((have - left) as usize);
+            return Measured::Malformed((have - left) as usize, codes);
         }
         left -= c.width;
+        codes += 1;
         n += c.count;
     }
 }
@@ -172,14 +185,15 @@ pub fn measure(s: &[u8]) -> Measured
     requires { ⌜ length (now s) < countable ⌝ }
     ensures { λ r. ⌜ Measures scheme (bits (now (s .entry))) r ⌝ }
 {
-    let place = measure_words(s);
+    let counted = measure_words(s);
+    let place = counted.place;
     let b = bit_buffer::last_bits(s, place);
     let last = measure_last(b.held, b.have);
-    bit_buffer::with_front(last, place.n, s.len() * 8 - b.have as usize)
+    bit_buffer::with_front(last, place.n, counted.codes, s.len() * 8 - b.have as usize)
 }
 
 // The characters of eight codes of six or seven bits, from place n on.
-fn put_plain(held: u64, have: u64, out: &mut [u8], n: usize) -> Skimmed
+fn put_plain(held: u64, have: u64, out: &mut [u8], n: usize) -> Laid
     requires { ⌜ (57 ≤ have) × (have ≤ 64) × Plain held × (n ≤ length (now out)) × Begun scheme held have (length (now out) - n) ⌝ }
     ensures { λ r. ⌜ SkimsInto scheme held have (now (out .entry)) (now (out .exit)) n r ⌝ }
 {
@@ -193,11 +207,11 @@ fn put_plain(held: u64, have: u64, out: &mut [u8], n: usize) -> Skimmed
         left -= c.width;
         count += c.count;
     }
-    Skimmed { left, count }
+    Laid { left, count }
 }
 
 // The characters of codes one by one, as long as there are nine bits.
-fn put_each(held: u64, have: u64, out: &mut [u8], n: usize) -> Skimmed
+fn put_each(held: u64, have: u64, out: &mut [u8], n: usize) -> Laid
     requires { ⌜ (have ≤ 64) × (n ≤ length (now out)) × Begun scheme held have (length (now out) - n) ⌝ }
     ensures { λ r. ⌜ SkimsInto scheme held have (now (out .entry)) (now (out .exit)) n r ⌝ }
 {
@@ -209,11 +223,11 @@ fn put_each(held: u64, have: u64, out: &mut [u8], n: usize) -> Skimmed
         left -= c.width;
         count += c.count;
     }
-    Skimmed { left, count }
+    Laid { left, count }
 }
 
 // The characters of the codes in the lowest `have` bits of a number, up to its last few bits.
-fn put_word(held: u64, have: u64, out: &mut [u8], n: usize) -> Skimmed
+fn put_word(held: u64, have: u64, out: &mut [u8], n: usize) -> Laid
     requires { ⌜ (57 ≤ have) × (have ≤ 64) × (n ≤ length (now out)) × Begun scheme held have (length (now out) - n) ⌝ }
     ensures { λ r. ⌜ SkimsInto scheme held have (now (out .entry)) (now (out .exit)) n r ⌝ }
 {

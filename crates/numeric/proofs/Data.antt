@@ -2,14 +2,14 @@
 -- Assumes nothing.
 use mathlib.Core.Path.{_≡_, refl, sym, ap, ap₂, subst, subst⁻¹, _∙_}
 use mathlib.Core.List.{List, [], _∷_, _++_, append-assoc, List·Memᴰ, List·Memᴰ·head, List·Memᴰ·tail}
-use Prim.Native.Nat.{ℕ, zero, suc, _+_, _/_, _%_, _<_}
+use Prim.Native.Nat.{ℕ, zero, suc, _+_, _*_, _/_, _%_, _<_}
 use native.Mathlib.Nat.{zero-add}
 use native.Mathlib.Omega.{arith}
 use lib.ListN.{length, getD}
 use Rattle.bits.specs.Numbers.{numbers}
 use Rattle.bits.specs.Row.{bits}
 use Rattle.codes.specs.Chain as chain
-use Rattle.codes.specs.Chain.{Malformed, Builds}
+use Rattle.codes.specs.Chain.{Malformed, Builds, countIn}
 use Rattle.codes.specs.Consecutive.{codeFor}
 use Rattle.codes.specs.Pack.{low}
 use Rattle.codes.proofs.BitsInBytes.{bits-cons}
@@ -18,11 +18,12 @@ use Rattle.codes.proofs.Fill.{no-fill}
 use Rattle.codes.proofs.LowBits.{low-add, low-mod}
 use Rattle.codes.proofs.OneReading.{builds-end, one-text, never-both}
 use Rattle.codes.proofs.SingleTable.{builds-one}
+use Rattle.codes.proofs.SizeBounds.{few-codes, short-text}
 use Rattle.numeric.specs.Table.{characters, table, scheme}
 use Rattle.numeric.specs.Data.{Built}
 use Rattle.numeric.specs.Translation.{translated}
 use Rattle.numeric.specs.Steps.Text.{character, spelled, textOf}
-use Rattle.numeric.proofs.Table.{laws, mutes}
+use Rattle.numeric.proofs.Table.{laws, mutes, all-sized}
 use Rattle.numeric.proofs.Translation.{AllBase, translated-back, translates}
 
 -- the entry of a code
@@ -50,6 +51,12 @@ spelled-built (b ∷ s) =
     subst⁻¹ (λ (l : List ℕ). Builds scheme 0 l (spelled (b ∷ s))) (byte-codes b s)
     (builds-one mutes 0 (code-in (b / 16 % 16) (omega arith)) (builds-one mutes 0 (code-in (b % 16) (omega arith)) (spelled-built s)))
 
+-- two to a byte
+pub length-spelled : (carried : List ℕ) → length (spelled carried) ≡ 2 * length carried
+unfolding spelled
+length-spelled [] = refl
+length-spelled (b ∷ s) = omega (arith, length-spelled s)
+
 spelled-base : (carried : List ℕ) → AllBase (spelled carried)
 unfolding spelled character characters numbers
 spelled-base [] = tt
@@ -63,6 +70,17 @@ text-built carried = record { base = spelled carried; translates = translates (s
 pub one-built : (t u carried : List ℕ) → Built t carried → Built u carried → t ≡ u
 one-built t u carried p q =
     sym (translated-back (p .base) t (p .translates)) ∙ ap translated (one-text laws (p .codes) (q .codes)) ∙ translated-back (q .base) u (q .translates)
+
+-- each base character is one code, so any building has as many
+pub count-built : (t carried : List ℕ) (b : Built t carried) → countIn (b .codes) ≡ length (spelled carried)
+count-built t carried b =
+    omega (
+      arith,
+      length-spelled carried,
+      few-codes scheme 4 1 all-sized carried (b .codes),
+      short-text scheme 4 1 all-sized carried (b .codes),
+      ap length (one-text laws (b .codes) (spelled-built carried)),
+    )
 
 pub never-malformed : (carried : List ℕ) (i : ℕ) → Malformed scheme carried i → ⊥
 never-malformed carried i s = never-both laws (spelled-built carried) s

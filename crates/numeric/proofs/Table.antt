@@ -14,6 +14,7 @@ use Rattle.codes.proofs.NonemptyText.{Speaks, heard, said, speaks}
 use Rattle.codes.proofs.ReadingAgrees.{Agrees, agrees}
 use Rattle.codes.proofs.SchemeLaws.{Laws, parted, apart, unfilled, tested}
 use Rattle.codes.proofs.SingleTable.{mute}
+use Rattle.codes.proofs.SizeBounds.{sized}
 use Rattle.numeric.specs.Table.{characters, table, scheme}
 
 pub laws : Laws scheme
@@ -35,3 +36,8 @@ mutes = tt
 pub all-bits : (m : ℕ) → T (every binary (scheme .table m))
 unfolding table consecutive codeFor characters numbers low bit every binary
 all-bits m = tt
+
+-- each code has four bits and says one character
+pub all-sized : (m : ℕ) → T (every (sized 4 1) (scheme .table m))
+unfolding table consecutive codeFor characters numbers low bit every sized
+all-sized m = tt

@@ -11,7 +11,7 @@ use lib.ListN.{length, length-append, take, getD}
 use Rattle.bits.specs.Numbers.{numbers}
 use Rattle.bits.specs.Row.{bits, Bytes}
 use Rattle.codes.specs.Chain as chain
-use Rattle.codes.specs.Chain.{Entry, In, Row, codes, texts, Malformed}
+use Rattle.codes.specs.Chain.{Entry, In, Row, codes, texts, countIn, Malformed}
 use Rattle.codes.specs.Coded.{lastOf}
 use Rattle.codes.specs.Consecutive.{codeFor, consecutive}
 use Rattle.codes.specs.LineEnds.{eachAfter, ended, lineEnds}
@@ -19,6 +19,7 @@ use Rattle.codes.specs.Lookup.{same, found, saying, meaning}
 use Rattle.codes.specs.Pack.{low, gap, written}
 use Rattle.bits.proofs.Said.{and-left, and-right}
 use Rattle.codes.proofs.BitsInBytes.{length-written, written-built, length-bits}
+use Rattle.codes.proofs.WriterLaws.{written-count}
 use Rattle.codes.proofs.CodedBehind.{coded-after, after-coded}
 use Rattle.codes.proofs.CodedTexts.{coded-every}
 use Rattle.codes.proofs.DataLaws.{DataLaws}
@@ -248,6 +249,12 @@ ours-built t h =
           (written-built (ours t) (even-closes (length (codes (ours t))) (length (sentFor t)) (ours-size t) (sent-even t)) (ours-row t)
           (ours-binary t));
     }
+
+-- with as many codes as it has entries
+pub ours-count : (t u : List ℕ) (b : Built u (written (ours t))) → countIn (b .codes) ≡ length (ours t)
+ours-count t u b =
+    written-count four-bits.laws (ours t) (even-closes (length (codes (ours t))) (length (sentFor t)) (ours-size t) (sent-even t)) (ours-row t)
+    (ours-binary t) (b .codes)
 
 -- all data that carries what a text comes back as has the same base characters, so as many bytes
 same-base : (t carried : List ℕ) → AllCoded t → (b : Built (comesBack t) carried) → b .base ≡ sentFor t

@@ -4,7 +4,7 @@ use mathlib.Core.Bool.{cond}
 use mathlib.Core.List.{List, [], _∷_, _++_, append-assoc}
 use mathlib.Core.Logic.{by-cases}
 use mathlib.Core.Path.{_≡_, refl, sym, ap, ap₂, subst, _∙_}
-use Prim.Native.Nat.{ℕ, suc, _+_, _/_, _%_, _≤_, _<_}
+use Prim.Native.Nat.{ℕ, suc, _+_, _*_, _/_, _%_, _≤_, _<_}
 use native.Mathlib.Decide.{ℕ-discrete}
 use native.Mathlib.Numerals.{add-one}
 use native.Mathlib.Omega.{arith}
@@ -13,8 +13,11 @@ use lib.ListN.{length, getD, take, drop, set, length-append, length-drop}
 use lib.Seq.{set-at, take-at, drop-append-add, drop-drop, drop-cons, append-snoc}
 use borrow.Author.Tests.{eq-eqb, ne-eqb}
 use Rattle.codes.specs.Steps.Laid.{laid, Fronted}
-use Rattle.numeric.specs.Steps.Text.{character, spelled}
+use Rattle.codes.specs.declared.Measured.{Measured}
+use Rattle.codes.specs.declared.Measured.the-variants.{Text}
+use Rattle.numeric.specs.Steps.Text.{character, spelled, textOf}
 use Rattle.numeric.specs.Translation.{translated}
+use Rattle.numeric.proofs.Data.{length-spelled}
 use Rattle.numeric_reader.specs.Steps.Reached.{Reached, Put}
 use Rattle.numeric_reader.specs.Steps.Signs.{signIf, sign, paired}
 use Rattle.numeric_reader.proofs.Pairs.{translated-two, ends, pairs-length}
@@ -97,6 +100,10 @@ reached-within {text} {rest} r =
 pub reached-end : {text : List ℕ} {before n : ℕ} → Reached text [] before n → n ≡ length text
 unfolding translated
 reached-end {text} r = omega (arith, ap length (r .ahead), length-append (r .kept) (r .last ∷ []), r .size)
+
+-- what the data comes to, each number with what it must be, so that a wrong one is refused where it stands
+pub measured : (s : List ℕ) (n codes : ℕ) → n ≡ length (textOf s) → codes ≡ 2 * length s → Text n codes ≡ Text (length (textOf s)) (length (spelled s))
+measured s n codes e d = ap₂ {C = Measured} Text e (d ∙ sym (length-spelled s))
 
 module _ {text rest entry out : List ℕ} {before n : ℕ} (a : ℕ) (p : Put text (a ∷ rest) entry out before n) where
   kept : List ℕ

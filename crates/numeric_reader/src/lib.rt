@@ -1,5 +1,6 @@
 // Compact Numeric ASCII (001, 4.3), read: how long the text of its data is, and the text. All data has one.
 
+use codes::Measured;
 ghost use mathlib.Core.Bool.{true};
 ghost use mathlib.Core.List.{[], _∷_};
 ghost use mathlib.Core.Path.{_≡_};
@@ -8,7 +9,8 @@ ghost use lib.Bits.{bitAnd};
 ghost use lib.ListN.{length};
 ghost use Rattle.codes.specs.Steps.Laid.{laid, Fronted};
 ghost use Rattle.codes.specs.Steps.Measure.{countable};
-ghost use Rattle.numeric.specs.Steps.Text.{textOf};
+ghost use Rattle.codes.specs.declared.Measured.the-variants.{Text};
+ghost use Rattle.numeric.specs.Steps.Text.{spelled, textOf};
 ghost use Rattle.numeric_reader.specs.Steps.Reached.{Passes, CountsByte, Counts, Fits, Puts};
 ghost use Rattle.numeric_reader.specs.Steps.Signs.{paired, sign, meets, saves, one, entries, Entry, firstOf, secondOf};
 
@@ -59,11 +61,12 @@ fn pass_pair(before: u32, entry: u32) -> Passed
     }
 }
 
-// The length of the text: two characters for each byte, less what pairs save.
-fn measure_by(s: &[u8], table: &[u32; 256]) -> usize
+// The length of the text, and how many codes say it: two for each byte, and a character for each, less what pairs save.
+fn measure_by(s: &[u8], table: &[u32; 256]) -> Measured
     requires { ⌜ (length (now s) < countable) × (now table ≡ entries) ⌝ }
-    ensures { λ r. ⌜ r ≡ length (textOf (now (s .entry))) ⌝ }
+    ensures { λ r. ⌜ r ≡ Text (length (textOf (now (s .entry)))) (length (spelled (now (s .entry)))) ⌝ }
 {
+    let mut codes: usize = 0;
     let mut saved: usize = 0;
     let mut before: u32 = 8;
     let mut i: usize = 0;
@@ -76,15 +79,16 @@ fn measure_by(s: &[u8], table: &[u32; 256]) -> usize
             saved += p.fewer;
             before = p.before;
         }
+        codes += 2;
         i += 1;
     }
-    i * 2 - saved
+    Measured::Text(codes - saved, codes)
 }
 
-// The length of the text, byte by byte.
-fn measure_each(s: &[u8]) -> usize
+// The same, byte by byte.
+fn measure_each(s: &[u8]) -> Measured
     requires { ⌜ length (now s) < countable ⌝ }
-    ensures { λ r. ⌜ r ≡ length (textOf (now (s .entry))) ⌝ }
+    ensures { λ r. ⌜ r ≡ Text (length (textOf (now (s .entry)))) (length (spelled (now (s .entry)))) ⌝ }
 {
     let table = table();
     measure_by(s, &table)
@@ -157,14 +161,15 @@ fn block_end(from: usize, length: usize) -> usize
     from + 112
 }
 
-// The length of the text.
-pub fn measure(s: &[u8]) -> usize
+// The length of the text, and how many codes say it. All data has a text.
+pub fn measure(s: &[u8]) -> Measured
     requires { ⌜ length (now s) < countable ⌝ }
-    ensures { λ r. ⌜ r ≡ length (textOf (now (s .entry))) ⌝ }
+    ensures { λ r. ⌜ r ≡ Text (length (textOf (now (s .entry)))) (length (spelled (now (s .entry)))) ⌝ }
 {
     if s.len() == 0 {
-        return 0;
+        return Measured::Text(0, 0);
     }
+    let mut codes: usize = 2;
     let mut saved = saved_by(s[0]) as usize;
     let mut i: usize = 1;
     while i < s.len() {
@@ -173,10 +178,12 @@ pub fn measure(s: &[u8]) -> usize
         if !block.apart {
             return measure_each(s);
         }
+        codes += (to - i) * 2;
         saved += block.saved as usize;
         i = to;
     }
-    s.len() * 2 - saved
+    let characters = codes - saved;
+    Measured::Text(characters, codes)
 }
 
 // How far the text is put: the place after it, and the sign of its last character, with an 8.

@@ -7,7 +7,7 @@ use native.Mathlib.Omega.{arith}
 use lib.Dec.{T}
 use lib.ListN.{length, replicate, length-replicate}
 use Rattle.bits.specs.Numbers.{numbers}
-use Rattle.codes.specs.Chain.{codes, Built}
+use Rattle.codes.specs.Chain.{codes, countIn, Built}
 use Rattle.codes.specs.Pack.{low, written}
 use Rattle.codes.proofs.EveryElement.{every}
 use Rattle.codes.proofs.BitsInBytes.{length-written}
@@ -19,13 +19,13 @@ use Rattle.pseudo_binary.proofs.Characters.{alike-replicate}
 use Rattle.pseudo_binary.proofs.Size.{started, our-bits, run-bits}
 
 -- here a code has six bits or more, and says sixteen characters or fewer
-all-sized : (m : ℕ) → T (every (sized 6 16) (tables m))
+pub all-sized : (m : ℕ) → T (every (sized 6 16) (tables m))
 unfolding indicator most indicators six tables numbers low every sized
 all-sized zero = tt
 all-sized (suc m) = tt
 
 -- how many indicators and values a building has
-pub built-entries : {text : List ℕ} (sent : List ℕ) (b : Built scheme text sent) → length (b .entries) ≤ 8 * length sent / 6
+pub built-entries : {text : List ℕ} (sent : List ℕ) (b : Built scheme text sent) → countIn b ≤ 8 * length sent / 6
 built-entries sent b = omega (arith, few-codes scheme 6 16 all-sized sent b)
 
 -- how long its text is: for 4,000 bytes at most 85,328 characters

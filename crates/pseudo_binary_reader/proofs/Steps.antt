@@ -1,6 +1,6 @@
 -- An indicator at a bit of the data, with the values that it announces: passed, or where the reading is stuck.
 -- Assumes nothing.
-use mathlib.Core.Path.{_≡_, sym, ap, ap₂, subst, subst⁻¹, _∙_}
+use mathlib.Core.Path.{_≡_, refl, sym, ap, ap₂, subst, subst₂, subst⁻¹, _∙_}
 use mathlib.Core.Logic.{by-cases}
 use mathlib.Core.List.{List, _++_, append-assoc}
 use Prim.Native.Nat.{ℕ, _+_, _-_, _*_, _/_, _%_, _≤_, _<_}
@@ -10,13 +10,12 @@ use native.Mathlib.Omega.{arith}
 use lib.ListN.{length, drop, replicate, length-append, length-drop, length-replicate}
 use lib.Seq.{drop-drop}
 use Rattle.bits.specs.Row.{bits}
-use Rattle.codes.specs.Chain.{Fill, stateAfter, Stuck}
+use Rattle.codes.specs.Chain.{Fill, stateAfter}
 use Rattle.codes.specs.Steps.Laid.{laid, Readable, Placed}
-use Rattle.codes.specs.Steps.Measure.{Measures}
-use Rattle.codes.specs.declared.Measured.the-variants.{Text}
+use Rattle.codes.specs.Steps.Measure.{StuckAfter}
 use Rattle.codes.specs.Pack.{Binary}
 use Rattle.codes.specs.Steps.Passed.{Passed, CountedSoFar, LaidSoFar}
-use Rattle.codes.proofs.ReadSoFar.{counting-more, counting-end, laying-more, laying-within, laying-end}
+use Rattle.codes.proofs.ReadSoFar.{counting-more, laying-more, laying-within, laying-end}
 use Rattle.codes.proofs.BitsInBytes.{binary-drop, bits-binary, length-bits}
 use Rattle.codes.proofs.PassedEntries.{passed-more, passed-stuck}
 use Rattle.codes.proofs.OneReading.{stuck-here, never-both}
@@ -39,46 +38,51 @@ length-left s at = length-drop at (bits s) ∙ ap (λ (n : ℕ). n - at) (length
 left-binary : (s : List ℕ) (at : ℕ) → Binary (drop at (bits s))
 left-binary s at = binary-drop at (bits s) (bits-binary s)
 
-module _ (s : List ℕ) (at : ℕ) (inside : at ≤ length s * 8) (w : ℕ) (v : Nine (drop at (bits s)) w) (r : Indicator) (k : FirstIndicator w r) (said : List ℕ) (p : Passed scheme (bits s) 0 (drop at (bits s)) said) where
+module _ (s : List ℕ) (at : ℕ) (inside : at ≤ length s * 8) (w : ℕ) (v : Nine (drop at (bits s)) w) (r : Indicator) (k : FirstIndicator w r) (said : List ℕ) (codes : ℕ) (p : Passed scheme (bits s) 0 (drop at (bits s)) said codes) where
   pub passed-indicator : r .width ≤ length s * 8 - at
-      → Passed scheme (bits s) (r .values) (drop (at + r .width) (bits s)) (said ++ replicate (r .count) (r .character))
+      → Passed scheme (bits s) (r .values) (drop (at + r .width) (bits s)) (said ++ replicate (r .count) (r .character)) (codes + 1)
   unfolding stateAfter
   passed-indicator there =
-      subst⁻¹ (λ (n : ℕ). Passed scheme (bits s) n (drop (at + r .width) (bits s)) (said ++ replicate (r .count) (r .character)))
+      subst⁻¹ (λ (n : ℕ). Passed scheme (bits s) n (drop (at + r .width) (bits s)) (said ++ replicate (r .count) (r .character)) (codes + 1))
       (k .announces ∙ sym (zero-add (k .entry .announces)))
-      (subst⁻¹ (λ (l : List ℕ). Passed scheme (bits s) (0 + k .entry .announces) (drop (at + r .width) (bits s)) (said ++ l)) (k .says)
+      (subst⁻¹ (λ (l : List ℕ). Passed scheme (bits s) (0 + k .entry .announces) (drop (at + r .width) (bits s)) (said ++ l) (codes + 1)) (k .says)
       (passed-more (drop at (bits s)) (drop (at + r .width) (bits s)) p (k .entry) (k .legal)
       (next-indicator (drop at (bits s)) (left-binary s at) w v r k (omega (arith, length-left s at))
       ∙ ap (λ (l : List ℕ). k .entry .code ++ l) (drop-drop (r .width) at (bits s)))))
 
   -- with the values that it announces
   pub passed-run : r .width + r .values * 6 ≤ length s * 8 - at
-      → Passed scheme (bits s) 0 (drop (at + (r .width + r .values * 6)) (bits s)) (said ++ saying r (drop (at + r .width) (bits s)))
+      → Passed scheme (bits s) 0 (drop (at + (r .width + r .values * 6)) (bits s)) (said ++ saying r (drop (at + r .width) (bits s))) (codes + (1 + r .values))
   passed-run there =
       let rest : List ℕ = drop (at + r .width) (bits s) in
-      let all : Passed scheme (bits s) 0 (drop (6 * r .values) rest) ((said ++ replicate (r .count) (r .character)) ++ charactersIn (r .values) rest) =
+      let all : Passed scheme (bits s) 0 (drop (6 * r .values) rest) ((said ++ replicate (r .count) (r .character)) ++ charactersIn (r .values) rest) (codes + 1 + r .values) =
       passed-values (r .values) rest (said ++ replicate (r .count) (r .character)) (left-binary s (at + r .width))
       (omega (arith, length-left s (at + r .width))) (passed-indicator (omega arith)) in
-      subst (λ (l : List ℕ). Passed scheme (bits s) 0 l (said ++ saying r (drop (at + r .width) (bits s))))
+      let more : codes + 1 + r .values ≡ codes + (1 + r .values) = omega arith in
+      subst (λ (l : List ℕ). Passed scheme (bits s) 0 l (said ++ saying r (drop (at + r .width) (bits s))) (codes + (1 + r .values)))
       (drop-drop (6 * r .values) (at + r .width) (bits s)
       ∙ ap (λ (n : ℕ). drop n (bits s)) (let e : at + r .width + 6 * r .values ≡ at + (r .width + r .values * 6) = omega arith in e))
-      (subst (Passed scheme (bits s) 0 (drop (6 * r .values) rest))
-      (append-assoc said (replicate (r .count) (r .character)) (charactersIn (r .values) rest)) all)
+      (subst₂ (Passed scheme (bits s) 0 (drop (6 * r .values) rest))
+      (append-assoc said (replicate (r .count) (r .character)) (charactersIn (r .values) rest)) more all)
 
   -- an indicator that lacks its bits
-  pub stuck-indicator : length s * 8 - at < r .width → (Fill 7 (drop at (bits s)) → ⊥) → Stuck scheme 0 (bits s) at
-  stuck-indicator short none =
-      passed-stuck (drop at (bits s)) at 0 p (omega (arith, length-left s at, length-bits s))
-      (stuck-here (no-indicator (drop at (bits s)) (left-binary s at) w v r k (omega (arith, length-left s at))) (λ e. none))
+  pub stuck-indicator : length s * 8 - at < r .width → (Fill 7 (drop at (bits s)) → ⊥) → {before : ℕ} → before ≡ codes → StuckAfter scheme 0 (bits s) at before
+  unfolding stuck-here
+  stuck-indicator short none {before} told =
+      let is : codes + 0 ≡ before = omega arith in
+      subst (StuckAfter scheme 0 (bits s) at) is
+      (passed-stuck (drop at (bits s)) at 0 p (omega (arith, length-left s at, length-bits s))
+      (stuck-here (no-indicator (drop at (bits s)) (left-binary s at) w v r k (omega (arith, length-left s at))) (λ e. none)))
 
-  -- a value that lacks its bits
-  pub stuck-value : (left : ℕ) → at + r .width + left ≡ length s * 8 → left < r .values * 6 → {place : ℕ} → place + left % 6 ≡ length s * 8
-      → Stuck scheme 0 (bits s) place
-  stuck-value left e short {place} part =
+  -- a value that lacks its bits, behind the indicator and the values before it
+  pub stuck-value : (left : ℕ) → at + r .width + left ≡ length s * 8 → left < r .values * 6 → {place before : ℕ} → place + left % 6 ≡ length s * 8
+      → before ≡ codes + (1 + left / 6) → StuckAfter scheme 0 (bits s) place before
+  stuck-value left e short {place} {before} part told =
       let rest : List ℕ = drop (at + r .width) (bits s) in
       let size : length rest ≡ left = omega (arith, length-left s (at + r .width)) in
-      passed-stuck rest place (length rest / 6 * 6) (passed-indicator (omega arith)) (omega (arith, length-bits s))
-      (stuck-values (r .values) rest (left-binary s (at + r .width)) (omega arith))
+      let stuck = stuck-values (r .values) rest (left-binary s (at + r .width)) (omega arith) in
+      let whole = passed-stuck rest place (length rest / 6 * 6) (passed-indicator (omega arith)) (omega (arith, length-bits s)) (stuck .0) in
+      (whole .0, omega (arith, whole .1, stuck .1, size))
 
 pub length-saying : (r : Indicator) (bs : List ℕ) → length (saying r bs) ≡ r .count + r .values
 length-saying r bs =
@@ -86,22 +90,24 @@ length-saying r bs =
     ∙ ap₂ (λ (m n : ℕ). m + n) (length-replicate (r .count) (r .character)) (length-characters (r .values) bs)
 
 pub counting-run : (s : List ℕ) (at : ℕ) → at ≤ length s * 8 → (w : ℕ) → Nine (drop at (bits s)) w → (r : Indicator) → FirstIndicator w r
-    → (n : ℕ) → CountedSoFar scheme (bits s) (drop at (bits s)) n → r .width + r .values * 6 ≤ length s * 8 - at
-    → CountedSoFar scheme (bits s) (drop (at + (r .width + r .values * 6)) (bits s)) (n + (r .count + r .values))
-counting-run s at inside w v r k n c there =
+    → (n codes : ℕ) → CountedSoFar scheme (bits s) (drop at (bits s)) n codes → r .width + r .values * 6 ≤ length s * 8 - at
+    → {more : ℕ} → more ≡ codes + (1 + r .values)
+    → CountedSoFar scheme (bits s) (drop (at + (r .width + r .values * 6)) (bits s)) (n + (r .count + r .values)) more
+counting-run s at inside w v r k n codes c there e =
     let rest : List ℕ = drop (at + r .width) (bits s) in
-    counting-more c (saying r rest) (length-saying r rest) (passed-run s at inside w v r k (c .said) (c .passed) there)
+    subst⁻¹ (CountedSoFar scheme (bits s) (drop (at + (r .width + r .values * 6)) (bits s)) (n + (r .count + r .values))) e
+    (counting-more c (saying r rest) (length-saying r rest) (passed-run s at inside w v r k (c .said) codes (c .passed) there))
 
 -- one that announces no values
 pub counting-plain : (s : List ℕ) (at : ℕ) → at ≤ length s * 8 → (w : ℕ) → Nine (drop at (bits s)) w → (r : Indicator) → FirstIndicator w r
-    → (n : ℕ) → CountedSoFar scheme (bits s) (drop at (bits s)) n → r .values ≡ 0 → r .width ≤ length s * 8 - at
-    → CountedSoFar scheme (bits s) (drop (at + r .width) (bits s)) (n + r .count)
-counting-plain s at inside w v r k n c none there =
-    subst (λ (m : ℕ). CountedSoFar scheme (bits s) (drop (at + r .width) (bits s)) m)
+    → (n codes : ℕ) → CountedSoFar scheme (bits s) (drop at (bits s)) n codes → r .values ≡ 0 → r .width ≤ length s * 8 - at
+    → {more : ℕ} → more ≡ codes + 1 → CountedSoFar scheme (bits s) (drop (at + r .width) (bits s)) (n + r .count) more
+counting-plain s at inside w v r k n codes c none there {more} e =
+    subst (λ (m : ℕ). CountedSoFar scheme (bits s) (drop (at + r .width) (bits s)) m more)
     (let x : n + (r .count + r .values) ≡ n + r .count = omega arith in x)
-    (subst (λ (m : ℕ). CountedSoFar scheme (bits s) (drop m (bits s)) (n + (r .count + r .values)))
+    (subst (λ (m : ℕ). CountedSoFar scheme (bits s) (drop m (bits s)) (n + (r .count + r .values)) more)
     (let x : at + (r .width + r .values * 6) ≡ at + r .width = omega arith in x)
-    (counting-run s at inside w v r k n c (omega arith)))
+    (counting-run s at inside w v r k n codes c (omega arith) (omega arith)))
 
 -- an indicator whose bits and values are there, and room for what they say
 pub record Whole (s : List ℕ) (at : ℕ) (r : Indicator) (entry out : List ℕ) (n : ℕ) : Type 0 where
@@ -142,14 +148,14 @@ module _ (s : List ℕ) (at : ℕ) (inside : at ≤ length s * 8) (w : ℕ) (v :
       by-cases (decLe (r .width) (length s * 8 - at))
       (λ l. by-cases (decLe (r .values * 6) (length s * 8 - at - r .width)) (λ m. omega arith)
       (λ m. absurd (never-both laws (f .reads)
-      (stuck-value s at inside w v r k (y .said) (y .passed) (length s * 8 - at - r .width) (omega arith) (omega arith) {place = length s * 8 - (length s * 8 - at - r .width) % 6} (omega arith)))))
-      (λ l. absurd (never-both laws (f .reads) (stuck-indicator s at inside w v r k (y .said) (y .passed) (omega arith) none)))
+      (stuck-value s at inside w v r k (y .said) (y .codes) (y .passed) (length s * 8 - at - r .width) (omega arith) (omega arith) {place = length s * 8 - (length s * 8 - at - r .width) % 6} (omega arith) refl .0))))
+      (λ l. absurd (never-both laws (f .reads) (stuck-indicator s at inside w v r k (y .said) (y .codes) (y .passed) (omega arith) none refl .0)))
 
   laid-whole : LaidSoFar scheme (bits s) (drop (at + (r .width + r .values * 6)) (bits s)) entry
       (laid out n (saying r (drop (at + r .width) (bits s)))) 0 (n + (r .count + r .values))
   laid-whole =
       let rest : List ℕ = drop (at + r .width) (bits s) in
-      laying-more y (saying r rest) (length-saying r rest) fits (passed-run s at inside w v r k (y .said) (y .passed) there)
+      laying-more y (saying r rest) (length-saying r rest) fits (passed-run s at inside w v r k (y .said) (y .codes) (y .passed) there)
 
   pub whole : Whole s at r entry out n
   whole = record {
@@ -161,9 +167,6 @@ module _ (s : List ℕ) (at : ℕ) (inside : at ≤ length s * 8) (w : ℕ) (v :
   }
 
 -- the end of the reading, its number with what it must be, so that a wrong one is refused where it stands
-pub counted-end : {bs rest : List ℕ} {n : ℕ} (r : ℕ) → r ≡ n → CountedSoFar scheme bs rest n → Fill 7 rest → Measures scheme bs (Text r)
-counted-end {bs} r e c f = subst⁻¹ (λ (k : ℕ). Measures scheme bs (Text k)) e (counting-end c f)
-
 pub laid-end : {bs rest entry out : List ℕ} {m n : ℕ} (r : ℕ) → r ≡ n → LaidSoFar scheme bs rest entry out m n → Fill 7 rest
     → Placed scheme bs entry out m r
 laid-end {bs} {entry = entry} {out = out} {m = m} r e y f = subst⁻¹ (Placed scheme bs entry out m) e (laying-end y f)

@@ -1,6 +1,6 @@
 -- Announced values: any six bits are one, and where they are too few the reading is stuck at the first that lacks its bits.
 -- Assumes nothing.
-use mathlib.Core.Path.{_≡_, refl, sym, ap, subst, subst⁻¹, _∙_}
+use mathlib.Core.Path.{_≡_, refl, sym, ap, subst, subst₂, subst⁻¹, _∙_}
 use mathlib.Core.Logic.{by-cases}
 use mathlib.Core.List.{List, [], _∷_, _++_, append-assoc, append-nil}
 use Prim.Native.Nat.{ℕ, zero, suc, _+_, _*_, _/_, _^_, _≤_, _<_}
@@ -8,8 +8,9 @@ use native.Mathlib.Decide.{decLt}
 use native.Mathlib.Omega.{arith}
 use lib.ListN.{length, take, drop, length-append, length-drop, take-append-drop}
 use lib.Seq.{length-take-le, drop-drop}
-use Rattle.codes.specs.Chain.{Entry, In, Begins, Stuck}
+use Rattle.codes.specs.Chain.{Entry, In, Begins, stateAfter}
 use Rattle.codes.specs.Pack.{Binary, low, value}
+use Rattle.codes.specs.Steps.Measure.{StuckAfter}
 use Rattle.codes.specs.Steps.Passed.{Passed}
 use Rattle.codes.proofs.LowBits.{length-low, low-value, value-lt}
 use Rattle.codes.proofs.BitsInBytes.{binary-take, binary-drop}
@@ -41,18 +42,21 @@ module _ (bs : List ℕ) (h : Binary bs) (k : 6 ≤ length bs) where
       (sym (low-value (take 6 bs) (binary-take 6 bs h)) ∙ ap (λ (n : ℕ). low n (value (take 6 bs))) (length-take-le 6 bs k))
 
 -- the values that were announced are passed
-pub passed-values : {bs : List ℕ} (m : ℕ) (rest said : List ℕ) → Binary rest → 6 * m ≤ length rest → Passed scheme bs m rest said
-    → Passed scheme bs 0 (drop (6 * m) rest) (said ++ charactersIn m rest)
+pub passed-values : {bs : List ℕ} {codes : ℕ} (m : ℕ) (rest said : List ℕ) → Binary rest → 6 * m ≤ length rest → Passed scheme bs m rest said codes
+    → Passed scheme bs 0 (drop (6 * m) rest) (said ++ charactersIn m rest) (codes + m)
 unfolding charactersIn six first-value
-passed-values {bs} zero rest said h k p = subst⁻¹ (λ (l : List ℕ). Passed scheme bs 0 rest l) (append-nil said) p
-passed-values {bs} (suc m) rest said h k p =
+passed-values {bs} {codes} zero rest said h k p =
+    let none : codes ≡ codes + 0 = omega arith in
+    subst₂ (Passed scheme bs 0 rest) (sym (append-nil said)) none p
+passed-values {bs} {codes} (suc m) rest said h k p =
     let v : ℕ = first-value rest h (omega arith) in
-    let one : Passed scheme bs m (drop 6 rest) (said ++ (characterOf v ∷ [])) =
-    subst (λ (n : ℕ). Passed scheme bs n (drop 6 rest) (said ++ (characterOf v ∷ []))) (after-six m v)
+    let one : Passed scheme bs m (drop 6 rest) (said ++ (characterOf v ∷ [])) (codes + 1) =
+    subst (λ (n : ℕ). Passed scheme bs n (drop 6 rest) (said ++ (characterOf v ∷ [])) (codes + 1)) (after-six m v)
     (passed-more rest (drop 6 rest) p (six v) (six-in m v (first-small rest h (omega arith))) (first-code rest h (omega arith))) in
-    subst (λ (l : List ℕ). Passed scheme bs 0 l (said ++ (characterOf v ∷ charactersIn m (drop 6 rest))))
+    let more : codes + 1 + m ≡ codes + suc m = omega arith in
+    subst (λ (l : List ℕ). Passed scheme bs 0 l (said ++ (characterOf v ∷ charactersIn m (drop 6 rest))) (codes + suc m))
     (drop-drop (6 * m) 6 rest ∙ ap (λ (n : ℕ). drop n rest) (let e : 6 + 6 * m ≡ 6 * suc m = omega arith in e))
-    (subst (Passed scheme bs 0 (drop (6 * m) (drop 6 rest))) (append-assoc said (characterOf v ∷ []) (charactersIn m (drop 6 rest)))
+    (subst₂ (Passed scheme bs 0 (drop (6 * m) (drop 6 rest))) (append-assoc said (characterOf v ∷ []) (charactersIn m (drop 6 rest))) more
     (passed-values m (drop 6 rest) (said ++ (characterOf v ∷ [])) (binary-drop 6 rest h) (omega (arith, length-drop 6 rest)) one))
 
 -- fewer than six bits begin no value
@@ -68,22 +72,25 @@ no-value m rest k e j b =
       length-low 6 (s .0),
     )
 
-pub stuck-values : (m : ℕ) (rest : List ℕ) → Binary rest → length rest < 6 * m → Stuck scheme m rest (length rest / 6 * 6)
-unfolding six
+pub stuck-values : (m : ℕ) (rest : List ℕ) → Binary rest → length rest < 6 * m → StuckAfter scheme m rest (length rest / 6 * 6) (length rest / 6)
+unfolding six stuck-here stuck-more
 stuck-values zero rest h k = absurd (let none : ⊥ = omega arith in none)
 stuck-values (suc m) rest h k =
     by-cases (decLt (length rest) 6)
     (λ l.
-    subst (Stuck scheme (suc m) rest) (let e : 0 ≡ length rest / 6 * 6 = omega arith in e)
-    (stuck-here (no-value m rest l) (λ e. absurd (let none : ⊥ = omega arith in none))))
+    let none : 0 ≡ length rest / 6 = omega arith in
+    subst (λ (n : ℕ). StuckAfter scheme (suc m) rest (n * 6) n) none
+    (stuck-here (no-value m rest l) (λ e. absurd (let no′ : ⊥ = omega arith in no′)), refl))
     (λ l.
-    let v : ℕ = first-value rest h (omega arith) in
-    let ih : Stuck scheme m (drop 6 rest) (length (drop 6 rest) / 6 * 6) =
-    stuck-values m (drop 6 rest) (binary-drop 6 rest h) (omega (arith, length-drop 6 rest)) in
-    let one : Stuck scheme (suc m) (six v .code ++ drop 6 rest) (length (six v .code) + length (drop 6 rest) / 6 * 6) =
-    stuck-more (six-in m v (first-small rest h (omega arith)))
-    (subst⁻¹ (λ (n : ℕ). Stuck scheme n (drop 6 rest) (length (drop 6 rest) / 6 * 6)) (after-six m v) ih) in
-    subst (Stuck scheme (suc m) rest)
-    (let e : length (six v .code) + length (drop 6 rest) / 6 * 6 ≡ length rest / 6 * 6 = omega (arith, length-low 6 v, length-drop 6 rest) in e)
-    (subst⁻¹ (λ (l : List ℕ). Stuck scheme (suc m) l (length (six v .code) + length (drop 6 rest) / 6 * 6))
-    (first-code rest h (omega arith)) one))
+    let enough : 6 ≤ length rest = omega arith in
+    let v : ℕ = first-value rest h enough in
+    let behind = length (drop 6 rest) / 6 in
+    let ih : StuckAfter scheme (stateAfter (suc m) (six v)) (drop 6 rest) (behind * 6) behind =
+    subst⁻¹ (λ (n : ℕ). StuckAfter scheme n (drop 6 rest) (behind * 6) behind) (after-six m v)
+    (stuck-values m (drop 6 rest) (binary-drop 6 rest h) (omega (arith, length-drop 6 rest))) in
+    let one : StuckAfter scheme (suc m) (six v .code ++ drop 6 rest) (length (six v .code) + behind * 6) (suc behind) =
+    (stuck-more (six-in m v (first-small rest h enough)) (ih .0), ap (λ (n : ℕ). suc n) (ih .1)) in
+    let place : length (six v .code) + behind * 6 ≡ length rest / 6 * 6 = omega (arith, length-low 6 v, length-drop 6 rest) in
+    let before : suc behind ≡ length rest / 6 = omega (arith, length-drop 6 rest) in
+    subst₂ (StuckAfter scheme (suc m) rest) place before
+    (subst⁻¹ (λ (l : List ℕ). StuckAfter scheme (suc m) l (length (six v .code) + behind * 6) (suc behind)) (first-code rest h enough) one))

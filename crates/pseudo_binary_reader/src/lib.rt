@@ -118,37 +118,51 @@ struct Place {
     pub n: usize,
 }
 
+// The same, and how many indicators and values were read.
+struct Counted {
+    pub at: usize,
+    pub codes: usize,
+    pub n: usize,
+}
+
 // The indicators that start in the eighth byte from the end of the data or before it, up to one whose values are not all there.
-fn measure_most(s: &[u8]) -> Place
+fn measure_most(s: &[u8]) -> Counted
     requires { ⌜ length (now s) < countable ⌝ }
-    ensures { λ r. ⌜ (r .at ≤ length (now (s .entry)) * 8) × (r .n ≤ 3 * r .at) ⌝ }
-    ensures { λ r. ⌜ CountedSoFar scheme (bits (now (s .entry))) (drop (r .at) (bits (now (s .entry)))) (r .n) ⌝ }
+    ensures { λ r. ⌜ (r .at ≤ length (now (s .entry)) * 8) × (r .n ≤ 3 * r .at) × (r .codes ≤ r .at) ⌝ }
+    ensures { λ r. ⌜ CountedSoFar scheme (bits (now (s .entry))) (drop (r .at) (bits (now (s .entry)))) (r .n) (r .codes) ⌝ }
 {
     if s.len() < 8 {
-        return Place { at: 0, n: 0 };
+        return Counted {
+            at: 0,
+            codes: 0,
+            n: 0,
+        };
     }
     let end = s.len() * 8;
     let limit = end - 56;
     let mut at: usize = 0;
+    let mut codes: usize = 0;
     let mut n: usize = 0;
     while at < limit {
         let indicator = first_indicator(top_at(s, at) >> 55);
         if indicator.values == 0 {
             at += indicator.width;
+            codes += 1;
             n += indicator.count;
         } else {
             let next = at + (indicator.width + indicator.values * 6);
             if end < next {
-                return Place { at, n };
+                return Counted { at, codes, n };
             }
             at = next;
+            codes += 1 + indicator.values;
             n += indicator.count + indicator.values;
         }
     }
-    Place { at, n }
+    Counted { at, codes, n }
 }
 
-// The length of the text, or the bit at which the data is malformed. Announced values are not looked at: any six bits are a value.
+// The length of the text, or the bit at which the data is malformed. Announced values are not looked at but counted: any six bits are a value.
 pub fn measure(s: &[u8]) -> Measured
     requires { ⌜ length (now s) < countable ⌝ }
     ensures { λ r. ⌜ Measures scheme (bits (now (s .entry))) r ⌝ }
@@ -156,21 +170,23 @@ pub fn measure(s: &[u8]) -> Measured
     let end = s.len() * 8;
     let most = measure_most(s);
     let mut at = most.at;
+    let mut codes = most.codes;
     let mut n = most.n;
     loop {
         let b = buffer_at(s, at);
         if bit_buffer::at_end(b.held, b.have) {
-            return Measured::Text(n);
+            return Measured::Text(n, codes);
         }
         let indicator = first_indicator(bit_buffer::window(b.held, b.have));
         if end - at < indicator.width {
-            return Measured::Malformed(at);
+            return Measured::Malformed(at, codes);
         }
         let left = end - at - indicator.width;
         if left < indicator.values * 6 {
-            return Measured::Malformed(end - left % 6);
+            return Measured::Malformed(end - left % 6, codes + (1 + left / 6));
         }
         at += indicator.width + indicator.values * 6;
+        codes += 1 + indicator.values;
         n += indicator.count + indicator.values;
     }
 }

@@ -55,9 +55,9 @@ flipped byte =
 
 -- the line of a reading with these bits mended
 read-so : (mended mask : ℕ) → mended ≡ 2 → mask ≡ 0x81000000
-    → lineOf (Accepted (readingWith Open false mended mask 1 1)) ≡ printed
+    → lineOf (Accepted (readingWith Open false mended mask 0 1 1)) ≡ printed
 unfolding decimalIn decimal hexadecimalDigit hexadecimalIn hexadecimal spaced lineWith
-read-so mended mask m k = ap₂ (λ (x y : ℕ). lineOf (Accepted (readingWith Open false x y 1 1))) m k
+read-so mended mask m k = ap₂ (λ (x y : ℕ). lineOf (Accepted (readingWith Open false x y 0 1 1))) m k
 
 pub five : {line : List ℕ} (byte : ℕ) (after : List ℕ) → Prints (0xC1 ∷ 0x00 ∷ 0x04 ∷ 0xDD ∷ byte ∷ (checksumBytes (byte ∷ []) ++ after)) line
     → line ≡ printed

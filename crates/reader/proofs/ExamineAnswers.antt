@@ -2,7 +2,7 @@
 -- Assumes nothing.
 use mathlib.Core.Bool.{Bool}
 use mathlib.Core.List.{List, [], _∷_}
-use mathlib.Core.Path.{_≡_, refl, sym, ap, ap₂, subst, subst⁻¹, subst₂, _∙_}
+use mathlib.Core.Path.{_≡_, sym, ap, ap₂, subst₂, _∙_}
 use Prim.Native.Nat.{ℕ, _+_, _-_, _^_, _≤_, _<_}
 use native.Mathlib.Omega.{arith}
 use lib.ListN.{length, getD, take, drop, length-take}
@@ -12,7 +12,7 @@ use Rattle.header.specs.Valid.{lengthIn}
 use Rattle.checksum.specs.Checksum.{checksumBytes}
 use Rattle.codes.specs.Steps.Measure.{countable, TakesApart}
 use Rattle.codes.specs.declared.Outcome.{Outcome}
-use Rattle.formats.specs.Data.{Carries, Unreadable}
+use Rattle.formats.specs.Data.{CarriesIn, UnreadableAfter}
 use Rattle.refusals.specs.declared.ExamineRefusal.the-variants.{Checksum, Malformed}
 use Rattle.terms.specs.declared.Terms.{Terms}
 use Rattle.reader.specs.declared.Reading.{Reading}
@@ -63,11 +63,12 @@ module _ (terms : Terms) (named : MayBeNamed terms) (packet : List ℕ) (found :
   -- what the data comes to, said under the header
   pub apart : (outcome : Outcome)
       → (let carried = take (found .«data_length» + 4 - 4) (drop 4 packet) in
-      TakesApart (λ text. Carries (found .format) text carried) (Unreadable (found .format) carried) (length carried) outcome)
-      → TakesApart (λ text. Carries (h .format) text (dataIn (h .header) packet)) (Unreadable (h .format) (dataIn (h .header) packet)) (length (dataIn (h .header) packet)) outcome
+      TakesApart (CarriesIn (found .format) carried) (UnreadableAfter (found .format) carried) (length carried) outcome)
+      → (let carried = dataIn (h .header) packet in
+      TakesApart (CarriesIn (h .format) carried) (UnreadableAfter (h .format) carried) (length carried) outcome)
   apart outcome taken =
       subst₂
-      (λ (k : Format) (l : List ℕ). TakesApart (λ text. Carries k text l) (Unreadable k l) (length l) outcome)
+      (λ (k : Format) (l : List ℕ). TakesApart (CarriesIn k l) (UnreadableAfter k l) (length l) outcome)
       (ap (λ (r : Reading). r .format) (h .is)) part-is taken
 
   -- a packet's data can be counted
@@ -84,36 +85,43 @@ module _ (terms : Terms) (named : MayBeNamed terms) (packet : List ℕ) (found :
       }
 
   module _ (summed : sumIn (h .header) packet ≡ checksumBytes (dataIn (h .header) packet)) where
-    pub refused-place : (i : ℕ) → Unreadable (h .format) (dataIn (h .header) packet) i → (bit : ℕ) → bit ≡ i → Refuses terms packet (Malformed bit)
-    refused-place i stuck bit e =
+    pub refused-place : (i k : ℕ) → UnreadableAfter (h .format) (dataIn (h .header) packet) i k → (bit codes : ℕ) → bit ≡ i → codes ≡ k
+        → Refuses terms packet (Malformed bit codes)
+    refused-place i k stuck bit codes e d =
         record {
-          fault = (h .header, h .framed .near, (h .format, h .framed .typed, subst⁻¹ (Unreadable (h .format) (dataIn (h .header) packet)) e stuck));
+          fault = (
+            h .header,
+            h .framed .near,
+            (h .format, h .framed .typed, subst₂ (UnreadableAfter (h .format) (dataIn (h .header) packet)) (sym e) (sym d) stuck),
+          );
           first = clear-seven terms packet named (h .header) (h .format) (h .framed) summed;
         }
 
-    -- the reading that was found, with the text's length
-    pub accepted : (text : List ℕ) → Carries (h .format) text (dataIn (h .header) packet) → (n : ℕ) → n ≡ length text
+    -- the reading that was found, with the text's length and the codes
+    pub accepted : (text : List ℕ) (k : ℕ) → CarriesIn (h .format) (dataIn (h .header) packet) text k → (n codes : ℕ) → n ≡ length text → codes ≡ k
         → Accepts terms packet
         (record {
           format = found .format;
           sync = found .sync;
           mended = found .mended;
           mask = found .mask;
+          codes = codes;
           «data_length» = found .«data_length»;
           «text_length» = n;
           used = found .used;
         }) text
-    accepted text carries n e =
+    accepted text k carries n codes e d =
         record {
           format = h .format;
           header = h .header;
-          allowed = record { framed = h .framed; summed = summed; carries = carries };
+          allowed = record { framed = h .framed; summed = summed; carries = carries .0 };
           is = λ i.
               record {
                 format = h .is i .format;
                 sync = h .is i .sync;
                 mended = h .is i .mended;
                 mask = h .is i .mask;
+                codes = (d ∙ sym (carries .1)) i;
                 «data_length» = h .is i .«data_length»;
                 «text_length» = e i;
                 used = h .is i .used;

@@ -1,19 +1,19 @@
 -- What is found out about a packet is one answer.
 -- Assumes nothing.
 use mathlib.Core.List.{List}
-use mathlib.Core.Path.{_≡_, refl, sym, ap, _∙_, subst, subst₂}
+use mathlib.Core.Path.{_≡_, refl, sym, ap, ap₂, _∙_, subst, subst₂}
 use Prim.Native.Nat.{ℕ, _≤_}
 use native.Mathlib.Decide.{decLe}
 use Rattle.header.specs.declared.Format.{Format}
 use Rattle.header.specs.Fields.{fieldsIn}
 use Rattle.header.specs.Formats.{HasFormat}
 use Rattle.header.proofs.Formats.{one-format}
-use Rattle.formats.specs.Data.{Carries, Unreadable}
-use Rattle.formats.proofs.Formats.{carries-one, unreadable-one}
+use Rattle.formats.specs.Data.{codesIn, CarriesIn, UnreadableAfter}
+use Rattle.formats.proofs.Codes.{carries-in-one, unreadable-after-one}
 use Rattle.refusals.specs.declared.ExamineRefusal.{ExamineRefusal}
 use Rattle.refusals.specs.declared.ExamineRefusal.the-variants.{TooManyBits, Short, NoHeader, OtherType, OtherLength, CutOff, Checksum, Malformed}
 use Rattle.refusals.specs.Match.{turnIn, readerTurn}
-use Rattle.refusals.specs.Refusals.{numberIn, valueIn, examineTold}
+use Rattle.refusals.specs.Refusals.{numberIn, examineTold}
 use Rattle.refusals.proofs.Known.{examineFrom, examineKnown, examine-at-turn, examine-one-number, before-room}
 use Rattle.refusals.proofs.Refused.{match-one, first-of-all}
 use Rattle.terms.specs.declared.Terms.{Terms}
@@ -27,27 +27,27 @@ use Rattle.reader.proofs.ExamineStages.{clear-seventeen, clear-eight}
 use Rattle.reader.proofs.Headers.{one-header, under}
 
 module _ (terms : Terms) (named : MayBeNamed terms) (packet : List ℕ) where
-  places : (i j : ℕ) → Fault terms packet (Malformed i) → Fault terms packet (Malformed j) → i ≡ j
-  places i j (header, near, (format, typed, stuck)) g =
-      let other = under terms named packet (λ (h : ℕ). (k : Format) × HasFormat (fieldsIn h) k × Unreadable k (dataIn h packet) j) header near g in
-      unreadable-one format i j (dataIn header packet) stuck
-      (subst (λ (k : Format). Unreadable k (dataIn header packet) j) (one-format (other .1) typed) (other .2))
+  places : (i k j l : ℕ) → Fault terms packet (Malformed i k) → Fault terms packet (Malformed j l) → (i ≡ j) × (k ≡ l)
+  places i k j l (header, near, (format, typed, stuck)) g =
+      let other = under terms named packet (λ (h : ℕ). (f : Format) × HasFormat (fieldsIn h) f × UnreadableAfter f (dataIn h packet) j l) header near g in
+      unreadable-after-one format i j (dataIn header packet) stuck
+      (subst (λ (f : Format). UnreadableAfter f (dataIn header packet) j l) (one-format (other .1) typed) (other .2))
 
-  -- a refusal of one number has one value: 7 the bit, the others none
-  one-value : (r : ExamineRefusal) (v : ℕ) → Fault terms packet r → Fault terms packet (examineFrom (numberIn (examineTold r)) v)
-      → valueIn (examineTold r) ≡ valueIn (examineTold (examineFrom (numberIn (examineTold r)) v))
+  -- a refusal of one number is told one way: 7 with the bit and the codes, the others with none
+  one-told : (r : ExamineRefusal) (v c : ℕ) → Fault terms packet r → Fault terms packet (examineFrom (numberIn (examineTold r), v, c))
+      → r ≡ examineFrom (numberIn (examineTold r), v, c)
   unfolding examineFrom
-  one-value TooManyBits v f g = refl
-  one-value Short v f g = refl
-  one-value NoHeader v f g = refl
-  one-value OtherType v f g = refl
-  one-value OtherLength v f g = refl
-  one-value CutOff v f g = refl
-  one-value Checksum v f g = refl
-  one-value (Malformed i) v f g = places i v f g
+  one-told TooManyBits v c f g = refl
+  one-told Short v c f g = refl
+  one-told NoHeader v c f g = refl
+  one-told OtherType v c f g = refl
+  one-told OtherLength v c f g = refl
+  one-told CutOff v c f g = refl
+  one-told Checksum v c f g = refl
+  one-told (Malformed i k) v c f g = let same = places i k v c f g in ap₂ {C = ExamineRefusal} Malformed (same .0) (same .1)
 
   pub refuses-one : (r s : ExamineRefusal) → Refuses terms packet r → Refuses terms packet s → r ≡ s
-  refuses-one = match-one examineKnown (Fault terms packet) readerTurn examine-one-number one-value
+  refuses-one = match-one examineKnown (Fault terms packet) readerTurn examine-one-number one-told
 
   -- what is accepted meets no refusal's condition
   pub accepts-no-fault : (reading : Reading) (text : List ℕ) → Accepts terms packet reading text → (r : ExamineRefusal) → Fault terms packet r → ⊥
@@ -63,14 +63,22 @@ module _ (terms : Terms) (named : MayBeNamed terms) (packet : List ℕ) where
     same-format : p .format ≡ q .format
     same-format = one-format (subst (λ (h : ℕ). HasFormat (fieldsIn h) (p .format)) same-header (p .allowed .framed .typed)) (q .allowed .framed .typed)
 
+    -- by a building of the same data in as many codes
+    same-carried : (t ≡ u)
+        × (codesIn (p .format) t (dataIn (p .header) packet) (p .allowed .carries) ≡ codesIn (q .format) u (dataIn (q .header) packet) (q .allowed .carries))
+    same-carried =
+        carries-in-one (q .format) t u (dataIn (q .header) packet)
+        (subst₂
+        (λ (k : Format) (h : ℕ). CarriesIn k (dataIn h packet) t (codesIn (p .format) t (dataIn (p .header) packet) (p .allowed .carries)))
+        same-format same-header (p .allowed .carries, refl))
+        (q .allowed .carries, refl)
+
     pub accepts-one-text : t ≡ u
-    accepts-one-text =
-        carries-one (q .format) t u (dataIn (q .header) packet)
-        (subst₂ (λ (k : Format) (h : ℕ). Carries k t (dataIn h packet)) same-format same-header (p .allowed .carries)) (q .allowed .carries)
+    accepts-one-text = same-carried .0
 
     pub accepts-one-reading : a ≡ b
     accepts-one-reading =
-        p .is ∙ (λ i. readingOf (same-format i) (same-header i) (received packet) (accepts-one-text i)) ∙ sym (q .is)
+        p .is ∙ (λ i. readingOf (same-format i) (same-header i) (received packet) (accepts-one-text i) (same-carried .1 i)) ∙ sym (q .is)
 
 -- ---- where more bits are named than may be
 
@@ -84,7 +92,7 @@ module _ (terms : Terms) (packet : List ℕ) (many : MayMend (terms .mend) → �
   unfolding examineFrom turnIn
   only-too-many r p =
       let number = examine-at-turn r 0 (first-of-all examineKnown (Fault terms packet) readerTurn r TooManyBits refl many p) in
-      sym (examineKnown .back r) ∙ ap (λ (n : ℕ). examineFrom n (valueIn (examineTold r))) number
+      sym (examineKnown .back r) ∙ ap (λ (n : ℕ). examineFrom (n, examineTold r .1, examineTold r .2)) number
 
   -- and not accepted
   pub never-accepted : (reading : Reading) (text : List ℕ) → Accepts terms packet reading text → ⊥

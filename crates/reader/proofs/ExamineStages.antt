@@ -13,7 +13,7 @@ use Rattle.header.specs.Valid.{lengthIn}
 use Rattle.header.proofs.Formats.{one-format}
 use Rattle.distance.specs.Distance.{ValidWithin}
 use Rattle.checksum.specs.Checksum.{checksumBytes}
-use Rattle.formats.specs.Data.{Carries, Unreadable}
+use Rattle.formats.specs.Data.{Carries, Unreadable, UnreadableAfter}
 use Rattle.formats.proofs.Formats.{never-unreadable}
 use Rattle.refusals.specs.Match.{turnIn, readerOrder, readerTurn}
 use Rattle.refusals.proofs.Known.{examineFrom, examineKnown, examine-at-turn}
@@ -30,7 +30,7 @@ module _ (terms : Terms) (packet : List ℕ) where
   Clear = refused.Clear examineKnown (Fault terms packet) readerTurn
 
   next : (k l : ℕ) → getD readerOrder (readerTurn k) 0 ≡ k → readerTurn l ≡ suc (readerTurn k) → Clear k
-      → ((v : ℕ) → Fault terms packet (examineFrom k v) → ⊥) → Clear l
+      → ((v c : ℕ) → Fault terms packet (examineFrom (k, v, c)) → ⊥) → Clear l
   next k l there =
       refused.clear-next examineKnown (Fault terms packet) readerTurn k l (λ r e. examine-at-turn r (readerTurn k) e ∙ there)
 
@@ -40,15 +40,15 @@ module _ (terms : Terms) (packet : List ℕ) where
 
   pub clear-one : MayMend (terms .mend) → Clear 1
   unfolding examineFrom turnIn
-  clear-one bits = next 17 1 refl refl clear-seventeen (λ v f. f bits)
+  clear-one bits = next 17 1 refl refl clear-seventeen (λ v c f. f bits)
 
   pub clear-two : MayMend (terms .mend) → 4 ≤ length packet → Clear 2
   unfolding examineFrom turnIn
-  clear-two bits four = next 1 2 refl refl (clear-one bits) (λ v f. omega arith)
+  clear-two bits four = next 1 2 refl refl (clear-one bits) (λ v c f. omega arith)
 
   pub clear-three : MayMend (terms .mend) → 4 ≤ length packet → (header : ℕ) → ValidWithin (terms .mend) (received packet) header → Clear 3
   unfolding examineFrom turnIn
-  clear-three bits four header near = next 2 3 refl refl (clear-two bits four) (λ v f. f header near)
+  clear-three bits four header near = next 2 3 refl refl (clear-two bits four) (λ v c f. f header near)
 
   module _ (named : MayBeNamed terms) where
     -- under the header that the packet is read as
@@ -58,13 +58,13 @@ module _ (terms : Terms) (packet : List ℕ) where
       unfolding examineFrom turnIn
       clear-four =
           next 3 4 refl refl (clear-three (named .bits) four header near)
-          (λ v f. under terms named packet (λ (h : ℕ). (k : Format) → HasFormat (fieldsIn h) k → ⊥) header near f format typed)
+          (λ v c f. under terms named packet (λ (h : ℕ). (k : Format) → HasFormat (fieldsIn h) k → ⊥) header near f format typed)
 
       pub clear-five : 1 ≤ lengthIn header → lengthIn header ≤ terms .most → Clear 5
       unfolding examineFrom turnIn
       clear-five some few =
           next 4 5 refl refl clear-four
-          (λ v f.
+          (λ v c f.
           ⊎-elim (λ none. omega arith) (λ many. omega arith)
           (under terms named packet (λ (h : ℕ). (lengthIn h ≡ 0) ⊎ (terms .most < lengthIn h)) header near f))
 
@@ -74,22 +74,22 @@ module _ (terms : Terms) (packet : List ℕ) where
       unfolding examineFrom turnIn
       clear-six =
           next 5 6 refl refl (clear-five header (framed .near) (omega (arith, framed .whole)) format (framed .typed) (framed .some) (framed .few))
-          (λ v f.
+          (λ v c f.
           let short = under terms named packet (λ (h : ℕ). length packet < lengthIn h + 6) header (framed .near) f in omega (arith, framed .whole))
 
       pub clear-seven : sumIn header packet ≡ checksumBytes (dataIn header packet) → Clear 7
       unfolding examineFrom turnIn
       clear-seven summed =
           next 6 7 refl refl clear-six
-          (λ v f.
+          (λ v c f.
           under terms named packet (λ (h : ℕ). sumIn h packet ≡ checksumBytes (dataIn h packet) → ⊥) header (framed .near) f summed)
 
       pub clear-eight : sumIn header packet ≡ checksumBytes (dataIn header packet) → (text : List ℕ) → Carries format text (dataIn header packet) → Clear 8
       unfolding examineFrom turnIn
       clear-eight summed text carries =
           next 7 8 refl refl (clear-seven summed)
-          (λ v f.
+          (λ v c f.
           let other =
-          under terms named packet (λ (h : ℕ). (k : Format) × HasFormat (fieldsIn h) k × Unreadable k (dataIn h packet) v) header (framed .near) f in
+          under terms named packet (λ (h : ℕ). (k : Format) × HasFormat (fieldsIn h) k × UnreadableAfter k (dataIn h packet) v c) header (framed .near) f in
           never-unreadable format text (dataIn header packet) v carries
-          (subst (λ (k : Format). Unreadable k (dataIn header packet) v) (one-format (other .1) (framed .typed)) (other .2)))
+          (subst (λ (k : Format). Unreadable k (dataIn header packet) v) (one-format (other .1) (framed .typed)) (other .2 .0)))

@@ -11,8 +11,9 @@ use Rattle.header.specs.declared.Format.{Format}
 use Rattle.header.specs.Valid.{lengthIn}
 use Rattle.distance.specs.Distance.{ValidWithin, distance}
 use Rattle.checksum.specs.Checksum.{checksumBytes}
-use Rattle.formats.specs.Data.{Carries}
-use Rattle.packet.specs.Packet.{received, headerFor}
+use Rattle.formats.specs.Data.{Carries, codesIn}
+use Rattle.formats.proofs.Codes.{codes-same}
+use Rattle.packet.specs.Packet.{received, dataIn, headerFor}
 use Rattle.packet.proofs.Sent.{header-valid, header-typed, header-length, header-sync, arrived, received-is, long-enough, data-is, sum-is}
 use Rattle.refusals.specs.declared.ExamineRefusal.the-variants.{Checksum}
 use Rattle.terms.specs.declared.Terms.{Terms}
@@ -59,24 +60,33 @@ module _ (terms : Terms) (named : MayBeNamed terms) (format : Format) (sync : Bo
         carries = subst (Carries format text) (sym (data-is word carried low high after header long)) carries;
       }
 
+  -- in as many codes as were sent
+  pub sent-codes : (summed : low ∷ high ∷ [] ≡ checksumBytes carried) (text : List ℕ) (carries : Carries format text carried)
+      → codesIn format text (dataIn header packet) (sent-allowed summed text carries .carries) ≡ codesIn format text carried carries
+  sent-codes summed text carries =
+      codes-same format text text (dataIn header packet) carried (data-is word carried low high after header long)
+      (sent-allowed summed text carries .carries) carries
+
   -- the reading of it, by what was sent
-  pub sent-reading : (text : List ℕ)
-      → readingOf format header (received packet) text
+  pub sent-reading : (text : List ℕ) (codes : ℕ)
+      → readingOf format header (received packet) text codes
       ≡ record {
         format = format;
         sync = sync;
         mended = distance word header;
         mask = bitXor word header;
+        codes = codes;
         «data_length» = length carried;
         «text_length» = length text;
         used = length carried + 6;
       }
-  sent-reading text = λ i.
+  sent-reading text codes = λ i.
       record {
         format = format;
         sync = header-sync format sync (length carried) small i;
         mended = distance (received-is word carried low high after bits i) header;
         mask = bitXor (received-is word carried low high after bits i) header;
+        codes = codes;
         «data_length» = long i;
         «text_length» = length text;
         used = long i + 6;

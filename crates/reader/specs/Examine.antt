@@ -13,7 +13,7 @@ use Rattle.header.specs.Formats.{HasFormat}
 use Rattle.header.specs.Valid.{lengthIn}
 use Rattle.distance.specs.Distance.{ValidWithin, distance}
 use Rattle.checksum.specs.Checksum.{checksumBytes}
-use Rattle.formats.specs.Data.{Carries, Unreadable}
+use Rattle.formats.specs.Data.{Carries, codesIn, UnreadableAfter}
 use Rattle.refusals.specs.declared.ExamineRefusal.{ExamineRefusal}
 use Rattle.refusals.specs.declared.ExamineRefusal.the-variants.{TooManyBits, Short, NoHeader, OtherType, OtherLength, CutOff, Checksum, Malformed}
 use Rattle.refusals.specs.Match.{FirstMatch, readerTurn}
@@ -38,8 +38,8 @@ Fault terms packet OtherType = UnderHeader terms packet (λ header. (format : Fo
 Fault terms packet OtherLength = UnderHeader terms packet (λ header. (lengthIn header ≡ 0) ⊎ (terms .most < lengthIn header))
 Fault terms packet CutOff = UnderHeader terms packet (λ header. length packet < lengthIn header + 6)
 Fault terms packet Checksum = UnderHeader terms packet (λ header. sumIn header packet ≡ checksumBytes (dataIn header packet) → ⊥)
-Fault terms packet (Malformed bit) =
-    UnderHeader terms packet (λ header. (format : Format) × HasFormat (fieldsIn header) format × Unreadable format (dataIn header packet) bit)
+Fault terms packet (Malformed bit codes) =
+    UnderHeader terms packet (λ header. (format : Format) × HasFormat (fieldsIn header) format × UnreadableAfter format (dataIn header packet) bit codes)
 
 -- tested in the order 17, 1 to 7
 abbrev pub Refuses : Terms → List ℕ → ExamineRefusal → Type 0
@@ -61,14 +61,15 @@ pub record Allowed (terms : Terms) (packet : List ℕ) (format : Format) (header
   pub summed : sumIn header packet ≡ checksumBytes (dataIn header packet)
   pub carries : Carries format text (dataIn header packet)
 
--- the answer: out of the format, the header that the packet is read as, the header as it was received, and the text
-abbrev pub readingOf : Format → (header word : ℕ) → List ℕ → Reading
-readingOf format header word text =
+-- the answer: out of the format, the header that the packet is read as, the header as it was received, the text, and how many codes the data has
+abbrev pub readingOf : Format → (header word : ℕ) → List ℕ → (codes : ℕ) → Reading
+readingOf format header word text codes =
     record {
       format = format;
       sync = fieldsIn header .sync;
       mended = distance word header;
       mask = bitXor word header;
+      codes = codes;
       «data_length» = lengthIn header;
       «text_length» = length text;
       used = lengthIn header + 6;
@@ -79,7 +80,7 @@ pub record Accepts (terms : Terms) (packet : List ℕ) (reading : Reading) (text
   pub format : Format
   pub header : ℕ
   pub allowed : Allowed terms packet format header text
-  pub is : reading ≡ readingOf format header (received packet) text
+  pub is : reading ≡ readingOf format header (received packet) text (codesIn format text (dataIn header packet) (allowed .carries))
 
 -- the answer
 abbrev pub Examines : Terms → List ℕ → ExamineAnswer → Type 0

@@ -13,14 +13,15 @@ ghost use Rattle.reader.specs.Examine.{Examines};
 ghost use Rattle.reader.specs.Reader.{Reads};
 ghost use Rattle.reader.specs.Steps.Reading.{HeaderFound, FindsHeader};
 
-// An accepted packet: its format and sync bit, how many header bits were mended and which, the lengths of data and text, and the bytes used. Why the
-// mask does not stand beside the count: docs/DECISIONS.md.
+// An accepted packet: its format and sync bit, how many header bits were mended and which, how many codes were read, the lengths of data and text, and the
+// bytes used. Why the mask does not stand beside the count: docs/DECISIONS.md.
 pub struct Reading {
     pub format: Format,
     pub sync: bool,
     pub mended: u32,
     pub data_length: usize,
     pub mask: u32,
+    pub codes: usize,
     pub text_length: usize,
     pub used: usize,
 }
@@ -42,7 +43,7 @@ enum HeaderAnswer {
 }
 
 // Tests 17 and 1 to 5: a number that may be named, the header that the packet is read as, its type and length, and bytes enough. The members of the answer
-// are put together here, all but the text's length.
+// are put together here, all but the text's length and the codes.
 fn find_header(terms: Terms, packet: &[u8]) -> HeaderAnswer
     requires { ⌜ OnePacket (terms .most) ⌝ }
     ensures { λ r. ⌜ FindsHeader terms (now (packet .entry)) r ⌝ }
@@ -81,6 +82,7 @@ fn find_header(terms: Terms, packet: &[u8]) -> HeaderAnswer
         sync,
         mended,
         mask: received ^ bits,
+        codes: 0,
         data_length: length,
         text_length: 0,
         used,
@@ -99,12 +101,15 @@ fn examine_data(terms: Terms, found: Reading, packet: &[u8]) -> ExamineAnswer
     }
     let outcome = formats::take_apart(format, &packet[4..end]);
     match outcome {
-        Outcome::Text(n) => {
+        Outcome::Text(n, codes) => {
             let mut reading = found;
+            reading.codes = codes;
             reading.text_length = n;
             ExamineAnswer::Readable(reading)
         }
-        Outcome::Malformed(bit) => ExamineAnswer::Refused(ExamineRefusal::Malformed(bit)),
+        Outcome::Malformed(bit, codes) => {
+            ExamineAnswer::Refused(ExamineRefusal::Malformed(bit, codes))
+        }
         Outcome::TooLong => ExamineAnswer::Refused(ExamineRefusal::OtherLength), // never: a packet's data is short
     }
 }

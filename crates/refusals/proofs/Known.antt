@@ -1,4 +1,4 @@
--- Each refusal of the entry points is known by its number and its value; and no two numbers have one turn.
+-- Each refusal of the entry points is known by what it is told as; and no two numbers have one turn.
 -- Assumes nothing.
 use mathlib.Core.Bool.{cond}
 use mathlib.Core.Path.{_≡_, refl}
@@ -11,20 +11,20 @@ use Rattle.refusals.specs.declared.ExamineRefusal.the-variants.{TooManyB
 use Rattle.refusals.specs.declared.WriteRefusal.{WriteRefusal}
 use Rattle.refusals.specs.declared.WriteRefusal.the-variants.{OtherFormat, Empty, NoCode, TooLong, NoRoom as NoPacketRoom}
 use Rattle.refusals.specs.Match.{turnIn, readerOrder, readerTurn, writerOrder, writerTurn}
-use Rattle.refusals.specs.Refusals.{numberIn, examineTold, writeTold}
+use Rattle.refusals.specs.Refusals.{Told, numberIn, examineTold, writeTold}
 use Rattle.refusals.proofs.Refused.{Known, Ordered, at-turn, one-number}
 
 -- ---- of `examine`
 
-unfoldable pub examineFrom : ℕ → ℕ → ExamineRefusal
-examineFrom number value =
+unfoldable pub examineFrom : Told → ExamineRefusal
+examineFrom (number, value, codes) =
     cond (eqb number 17) TooManyBits
     (cond (eqb number 1) Short
     (cond (eqb number 2) NoHeader
     (cond (eqb number 3) OtherType
-    (cond (eqb number 4) OtherLength (cond (eqb number 5) CutOff (cond (eqb number 6) Checksum (Malformed value)))))))
+    (cond (eqb number 4) OtherLength (cond (eqb number 5) CutOff (cond (eqb number 6) Checksum (Malformed value codes)))))))
 
-pub examine-back : (r : ExamineRefusal) → examineFrom (numberIn (examineTold r)) (examineTold r .1) ≡ r
+pub examine-back : (r : ExamineRefusal) → examineFrom (examineTold r) ≡ r
 unfolding examineFrom
 examine-back TooManyBits = refl
 examine-back Short = refl
@@ -33,7 +33,7 @@ examine-back OtherType = refl
 examine-back OtherLength = refl
 examine-back CutOff = refl
 examine-back Checksum = refl
-examine-back (Malformed bit) = refl
+examine-back (Malformed bit codes) = refl
 
 abbrev pub examineKnown : Known ExamineRefusal examineTold
 examineKnown = record { from = examineFrom; back = examine-back }
@@ -51,7 +51,7 @@ examineOrdered = record { stands = stands }
     stands OtherLength = refl
     stands CutOff = refl
     stands Checksum = refl
-    stands (Malformed bit) = refl
+    stands (Malformed bit codes) = refl
 
 pub examine-at-turn : (r : ExamineRefusal) (turn : ℕ) → readerTurn (numberIn (examineTold r)) ≡ turn → numberIn (examineTold r) ≡ getD readerOrder turn 0
 examine-at-turn = at-turn examineOrdered
@@ -70,16 +70,16 @@ before-room OtherType = omega arith
 before-room OtherLength = omega arith
 before-room CutOff = omega arith
 before-room Checksum = omega arith
-before-room (Malformed bit) = omega arith
+before-room (Malformed bit codes) = omega arith
 
 -- ---- of the writer
 
-unfoldable pub writeFrom : ℕ → ℕ → WriteRefusal
-writeFrom number value =
+unfoldable pub writeFrom : Told → WriteRefusal
+writeFrom (number, value, codes) =
     cond (eqb number 12) OtherFormat
     (cond (eqb number 10) Empty (cond (eqb number 9) (NoCode value) (cond (eqb number 11) TooLong (NoPacketRoom value))))
 
-pub write-back : (r : WriteRefusal) → writeFrom (numberIn (writeTold r)) (writeTold r .1) ≡ r
+pub write-back : (r : WriteRefusal) → writeFrom (writeTold r) ≡ r
 unfolding writeFrom
 write-back OtherFormat = refl
 write-back Empty = refl

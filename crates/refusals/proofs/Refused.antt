@@ -1,4 +1,4 @@
--- A refusal is its number and its value, and the first match is one; over the refusals of any entry point.
+-- A refusal is its number, its value and its codes, and the first match is one; over the refusals of any entry point.
 -- Assumes nothing.
 use mathlib.Core.List.{List}
 use mathlib.Core.Logic.{⊎-elim, _↔_}
@@ -9,12 +9,12 @@ use native.Mathlib.Nat.{eq-or-lt-of-le, le-of-suc-le-suc}
 use native.Mathlib.Omega.{arith}
 use lib.ListN.{getD}
 use Rattle.refusals.specs.Match.{ToldAs, FirstMatch, turnIn}
-use Rattle.refusals.specs.Refusals.{Told, numberIn, valueIn}
+use Rattle.refusals.specs.Refusals.{Told, numberIn}
 
 -- a refusal is known by what it is told as
 pub record Known (Refusal : Type 0) (told : Refusal → Told) : Type 0 where
-  pub from : ℕ → ℕ → Refusal
-  pub back : (r : Refusal) → from (numberIn (told r)) (valueIn (told r)) ≡ r
+  pub from : Told → Refusal
+  pub back : (r : Refusal) → from (told r) ≡ r
 
 -- each refusal's number stands in the order of the tests, so the turn tells the number
 pub record Ordered (Refusal : Type 0) (told : Refusal → Told) (order : List ℕ) : Type 0 where
@@ -32,15 +32,15 @@ module _ {Refusal : Type 0} {told : Refusal → Told} (known : Known Refusal tol
   abbrev pub Clear : ℕ → Type 0
   Clear number = (other : Refusal) → turn (numberIn (told other)) < turn number → Fault other → ⊥
 
-  -- a refusal of this number, by its value
-  by-value : (k : ℕ) (r : Refusal) → numberIn (told r) ≡ k → Fault r → Fault (known .from k (valueIn (told r)))
-  by-value k r e f = subst Fault (sym (known .back r) ∙ ap (λ (n : ℕ). known .from n (valueIn (told r))) e) f
+  -- a refusal of this number, by what else is told
+  by-told : (k : ℕ) (r : Refusal) → numberIn (told r) ≡ k → Fault r → Fault (known .from (k, told r .1, told r .2))
+  by-told k r e f = subst Fault (sym (known .back r) ∙ ap (λ (n : ℕ). known .from (n, told r .1, told r .2)) e) f
 
   -- one test more that is passed, that of number k, and the next one's number is l
   pub clear-next : (k l : ℕ) → ((r : Refusal) → turn (numberIn (told r)) ≡ turn k → numberIn (told r) ≡ k) → turn l ≡ suc (turn k)
-      → Clear k → ((v : ℕ) → Fault (known .from k v) → ⊥) → Clear l
+      → Clear k → ((v c : ℕ) → Fault (known .from (k, v, c)) → ⊥) → Clear l
   clear-next k l alone next clear none other lt f =
-      ⊎-elim (λ e. none (valueIn (told other)) (by-value k other (alone other e) f)) (λ less. clear other less f)
+      ⊎-elim (λ e. none (told other .1) (told other .2) (by-told k other (alone other e) f)) (λ less. clear other less f)
       (eq-or-lt-of-le (le-of-suc-le-suc (subst (λ (n : ℕ). turn (numberIn (told other)) < n) next lt)))
 
   -- where the condition that is tested first of all holds, the first match is of that turn
@@ -51,16 +51,15 @@ module _ {Refusal : Type 0} {told : Refusal → Told} (known : Known Refusal tol
       pick (yes lt) = absurd (p .first s lt f)
       pick (no ge) = omega (arith, e)
 
-  -- two first matches are of one turn; they are the same where one turn has one number, and one number one value
+  -- two first matches are of one turn; they are the same where one turn has one number, and of one number all else that is told is the same
   pub match-one : ((r s : Refusal) → turn (numberIn (told r)) ≡ turn (numberIn (told s)) → numberIn (told r) ≡ numberIn (told s))
-      → ((r : Refusal) (v : ℕ) → Fault r → Fault (known .from (numberIn (told r)) v) → valueIn (told r) ≡ valueIn (told (known .from (numberIn (told r)) v)))
+      → ((r : Refusal) (v c : ℕ) → Fault r → Fault (known .from (numberIn (told r), v, c)) → r ≡ known .from (numberIn (told r), v, c))
       → (r s : Refusal) → FirstMatch Refusal told Fault turn r → FirstMatch Refusal told Fault turn s → r ≡ s
-  match-one one-number one-value r s p q =
+  match-one one-number one-told r s p q =
       let same = one-number r s (pick (decLt (turn (numberIn (told r))) (turn (numberIn (told s)))) (decLt (turn (numberIn (told s))) (turn (numberIn (told r))))) in
-      let other = valueIn (told s) in
-      let is : s ≡ known .from (numberIn (told r)) other = sym (known .back s) ∙ ap (λ (n : ℕ). known .from n other) (sym same) in
-      let value = one-value r other (p .fault) (subst Fault is (q .fault)) ∙ ap (λ (x : Refusal). valueIn (told x)) (sym is) in
-      sym (known .back r) ∙ ap (known .from (numberIn (told r))) value ∙ sym is
+      let is : s ≡ known .from (numberIn (told r), told s .1, told s .2) =
+      sym (known .back s) ∙ ap (λ (n : ℕ). known .from (n, told s .1, told s .2)) (sym same) in
+      one-told r (told s .1) (told s .2) (p .fault) (subst Fault is (q .fault)) ∙ sym is
     where
       pick : Dec (turn (numberIn (told r)) < turn (numberIn (told s))) → Dec (turn (numberIn (told s)) < turn (numberIn (told r)))
           → turn (numberIn (told r)) ≡ turn (numberIn (told s))
@@ -68,26 +67,25 @@ module _ {Refusal : Type 0} {told : Refusal → Told} (known : Known Refusal tol
       pick (no ge) (yes lt) = absurd (p .first s lt (q .fault))
       pick (no ge) (no le) = omega arith
 
--- the first match, said of numbers
-pub numbered : (Refusal : Type 0) (told : Refusal → Told) (Fault : Refusal → Type 0) (turn : ℕ → ℕ) (number value : ℕ)
-    → ToldAs Refusal told (FirstMatch Refusal told Fault turn) number value
-    ↔ (ToldAs Refusal told Fault number value
-    × ((earlier other : ℕ) → turn earlier < turn number → ToldAs Refusal told Fault earlier other → ⊥))
-numbered Refusal told Fault turn number value = (
+-- the first match, said of what is told
+pub numbered : (Refusal : Type 0) (told : Refusal → Told) (Fault : Refusal → Type 0) (turn : ℕ → ℕ) (as-told : Told)
+    → ToldAs Refusal told (FirstMatch Refusal told Fault turn) as-told
+    ↔ (ToldAs Refusal told Fault as-told
+    × ((earlier : Told) → turn (numberIn earlier) < turn (numberIn as-told) → ToldAs Refusal told Fault earlier → ⊥))
+numbered Refusal told Fault turn as-told = (
   λ f. (
     (f .0, f .1, f .2 .fault),
-    λ earlier other lt g.
+    λ earlier lt g.
         f .2 .first (g .0) (subst₂ (λ (m n : ℕ). turn m < turn n) (sym (ap numberIn (g .1))) (sym (ap numberIn (f .1))) lt) (g .2),
   ),
   λ f.
-      let r = f .0 .0 in
-      let e : numberIn (told r) ≡ number = ap numberIn (f .0 .1) in (
+      let r = f .0 .0 in (
         r,
         f .0 .1,
         record {
           fault = f .0 .2;
           first = λ other lt g.
-              f .1 (numberIn (told other)) (valueIn (told other)) (subst (λ (n : ℕ). turn (numberIn (told other)) < turn n) e lt) (other, refl, g);
+              f .1 (told other) (subst (λ (n : ℕ). turn (numberIn (told other)) < turn n) (ap numberIn (f .0 .1)) lt) (other, refl, g);
         },
       ),
 )

@@ -7,9 +7,9 @@ use Prim.Native.Nat.{ℕ, suc, _<_}
 use lib.Dec.{eqb}
 use Rattle.refusals.specs.Refusals.{Told, numberIn}
 
--- what is said of the refusal of this number and value
-abbrev pub ToldAs : (Refusal : Type 0) → (Refusal → Told) → (Refusal → Type 0) → ℕ → ℕ → Type 0
-ToldAs Refusal told Said number value = (refusal : Refusal) × (told refusal ≡ (number, value)) × Said refusal
+-- what is said of the refusal that is told so
+abbrev pub ToldAs : (Refusal : Type 0) → (Refusal → Told) → (Refusal → Type 0) → Told → Type 0
+ToldAs Refusal told Said as-told = (refusal : Refusal) × (told refusal ≡ as-told) × Said refusal
 
 -- the refusal whose condition holds, where no condition of an earlier turn does
 pub record FirstMatch (Refusal : Type 0) (told : Refusal → Told) (Fault : Refusal → Type 0) (turn : ℕ → ℕ) (refusal : Refusal) : Type 0 where

@@ -1,5 +1,5 @@
 ghost use mathlib.Core.Path.{_≡_};
-ghost use Rattle.refusals.specs.Refusals.{numberIn, valueIn, examineTold, readTold, writeTold};
+ghost use Rattle.refusals.specs.Refusals.{numberIn, valueIn, codesTold, examineTold, readTold, writeTold};
 
 // Why a packet cannot be read, whatever the room for its text. The numbers are in specs/Refusals.antt.
 pub enum ExamineRefusal {
@@ -10,7 +10,7 @@ pub enum ExamineRefusal {
     OtherLength,
     CutOff,
     Checksum,
-    Malformed(usize),
+    Malformed(usize, usize),
 }
 
 // Why it is not read into a buffer: the packet's own reason, or the buffer's.
@@ -40,7 +40,7 @@ impl ExamineRefusal {
             ExamineRefusal::OtherLength => 4,
             ExamineRefusal::CutOff => 5,
             ExamineRefusal::Checksum => 6,
-            ExamineRefusal::Malformed(_) => 7,
+            ExamineRefusal::Malformed(_, _) => 7,
         }
     }
 
@@ -49,7 +49,23 @@ impl ExamineRefusal {
         ensures { λ r. ⌜ r ≡ valueIn (examineTold self) ⌝ }
     {
         match self {
-            ExamineRefusal::Malformed(bit) => bit,
+            ExamineRefusal::Malformed(bit, _) => bit,
+            ExamineRefusal::TooManyBits => 0,
+            ExamineRefusal::Short => 0,
+            ExamineRefusal::NoHeader => 0,
+            ExamineRefusal::OtherType => 0,
+            ExamineRefusal::OtherLength => 0,
+            ExamineRefusal::CutOff => 0,
+            ExamineRefusal::Checksum => 0,
+        }
+    }
+
+    // How many codes were read.
+    pub fn codes(self) -> usize
+        ensures { λ r. ⌜ r ≡ codesTold (examineTold self) ⌝ }
+    {
+        match self {
+            ExamineRefusal::Malformed(_, codes) => codes,
             ExamineRefusal::TooManyBits => 0,
             ExamineRefusal::Short => 0,
             ExamineRefusal::NoHeader => 0,
@@ -78,6 +94,16 @@ impl ReadRefusal {
         match self {
             ReadRefusal::Packet(refusal) => refusal.value(),
             ReadRefusal::NoRoom(needed) => needed,
+        }
+    }
+
+    // How many codes were read, where the packet is refused for that.
+    pub fn codes(self) -> usize
+        ensures { λ r. ⌜ r ≡ codesTold (readTold self) ⌝ }
+    {
+        match self {
+            ReadRefusal::Packet(refusal) => refusal.codes(),
+            ReadRefusal::NoRoom(_) => 0,
         }
     }
 }

@@ -1,5 +1,5 @@
--- The reader's answer as a plain struct: `refusal` is its number (RULES, Refusals), 0 where the call is accepted; `number` comes with it; and every
--- member that a refusal does not name is 0.
+-- The reader's answer as a plain struct: `refusal` is its number (RULES, Refusals), 0 where the call is accepted; `number` and `codes` come with it; and
+-- every member that a refusal does not name is 0.
 -- Assumes nothing.
 use mathlib.Core.List.{List}
 use mathlib.Core.Path.{_≡_}
@@ -8,7 +8,7 @@ use Rattle.header.specs.Fields.{oneIf}
 use Rattle.header.specs.Formats.{formatNumber}
 use Rattle.reader.specs.declared.ReadAnswer.{ReadAnswer}
 use Rattle.reader.specs.declared.ReadAnswer.the-variants.{Accepted, Refused}
-use Rattle.refusals.specs.Refusals.{numberIn, valueIn, readTold}
+use Rattle.refusals.specs.Refusals.{numberIn, valueIn, codesTold, readTold}
 use Rattle.reader.specs.Reader.{Reads}
 use Rattle.terms.specs.declared.Terms.{Terms}
 use Rattle.rosopyat_c.specs.declared.ReadReply.{ReadReply}
@@ -22,6 +22,7 @@ readReply (Accepted reading) =
       sync = oneIf (reading .sync);
       mended = reading .mended;
       mask = reading .mask;
+      codes = reading .codes;
       «data_length» = reading .«data_length»;
       «text_length» = reading .«text_length»;
       used = reading .used;
@@ -34,6 +35,7 @@ readReply (Refused refusal) =
       sync = 0;
       mended = 0;
       mask = 0;
+      codes = codesTold (readTold refusal);
       «data_length» = 0;
       «text_length» = 0;
       used = 0;

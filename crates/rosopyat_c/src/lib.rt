@@ -7,7 +7,7 @@ ghost use Rattle.terms.specs.Terms.{naming, usual};
 ghost use Rattle.rosopyat_logger.specs.Replies.{RepliesToWrite};
 ghost use Rattle.rosopyat_c.specs.Replies.{readReply, RepliesToRead};
 
-// A packet that was read (`refusal` 0), or why not: then every member but `refusal` and `number` is 0.
+// A packet that was read (`refusal` 0), or why not: then every member but `refusal`, `number` and `codes` is 0.
 #[repr(C)]
 pub struct ReadReply {
     pub refusal: u32,
@@ -16,6 +16,7 @@ pub struct ReadReply {
     pub sync: u32,
     pub mended: u32,
     pub mask: u32,
+    pub codes: usize,
     pub data_length: usize,
     pub text_length: usize,
     pub used: usize,
@@ -35,6 +36,7 @@ fn reply(answer: ReadAnswer) -> ReadReply
                 sync: header::one_if(reading.sync),
                 mended: reading.mended,
                 mask: reading.mask,
+                codes: reading.codes,
                 data_length: reading.data_length,
                 text_length: reading.text_length,
                 used: reading.used,
@@ -47,6 +49,7 @@ fn reply(answer: ReadAnswer) -> ReadReply
             sync: 0,
             mended: 0,
             mask: 0,
+            codes: refusal.codes(),
             data_length: 0,
             text_length: 0,
             used: 0,

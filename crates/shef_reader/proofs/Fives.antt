@@ -61,20 +61,20 @@ module _ (held have : ℕ) (h : 57 ≤ have) (h′ : have ≤ 64) (f : Fives (he
       let high : top / 2 ^ 63 ≡ held / 2 ^ (left - 1) % 2 = top-bits held left top 1 (omega arith) (omega arith) e in
       omega (arith, high ∙ first-bit)
 
-  pub five-on : CountedSoFar scheme (low have held) (low left held) k → CountedSoFar scheme (low have held) (low (have - 5 * suc k) held) (suc k)
+  pub five-on : CountedSoFar scheme (low have held) (low left held) k k → CountedSoFar scheme (low have held) (low (have - 5 * suc k) held) (suc k) (suc k)
   five-on c =
       let top : ℕ = held * 2 ^ (64 - left) % 2 ^ 64 in
       let six : ℕ = top / 2 ^ 58 in
       let small : six < 32 = five-six top refl in
       let v = six-window held left top (omega arith) (omega arith) refl in
-      subst (λ (n : ℕ). CountedSoFar scheme (low have held) (low n held) (suc k)) (let e : left - 5 ≡ have - 5 * suc k = omega arith in e)
-      (counted-code mutes (low have held) held left (v .0) k _ c (v .1)
+      subst (λ (n : ℕ). CountedSoFar scheme (low have held) (low n held) (suc k) (suc k)) (let e : left - 5 ≡ have - 5 * suc k = omega arith in e)
+      (counted-code mutes (low have held) held left (v .0) k k _ c (v .1)
       (any-code (v .0) (v .2) (omega (arith, small)) (let e : 5 ≡ 5 + six / 32 = omega (arith, small) in e)
       (sym (no-line-end six (λ x. omega (arith, small, x)))))
-      (omega arith) (omega arith))
+      (omega arith) (omega arith) (omega arith))
 
 pub fives-counted : (held have : ℕ) → 57 ≤ have → have ≤ 64 → Fives (held * 2 ^ (64 - have) % 2 ^ 64) → (k : ℕ) → k ≤ 10
-    → CountedSoFar scheme (low have held) (low (have - 5 * k) held) k
+    → CountedSoFar scheme (low have held) (low (have - 5 * k) held) k k
 fives-counted held have h h′ f zero few =
-    subst (λ (n : ℕ). CountedSoFar scheme (low have held) (low n held) 0) (let e : have ≡ have - 5 * 0 = omega arith in e) (counting-none scheme (low have held))
+    subst (λ (n : ℕ). CountedSoFar scheme (low have held) (low n held) 0 0) (let e : have ≡ have - 5 * 0 = omega arith in e) (counting-none scheme (low have held))
 fives-counted held have h h′ f (suc k) few = five-on held have h h′ f k (omega arith) (fives-counted held have h h′ f k (omega arith))

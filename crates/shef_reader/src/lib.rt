@@ -1,6 +1,8 @@
 // Compact SHEF Alphanumeric ASCII (001, 4.4), read: how long the text of its data is, or where the data is malformed; and the text. The table is in shef.
 
 use codes::Code;
+use codes::Counted;
+use codes::Laid;
 use codes::Measured;
 use codes::Place;
 use codes::Skimmed;
@@ -70,16 +72,18 @@ fn skim_each(held: u64, have: u64) -> Skimmed
     ensures { λ r. ⌜ Skims held have r ⌝ }
 {
     let mut left = have;
+    let mut codes: usize = 0;
     let mut count: usize = 0;
     while 9 <= left {
         let six = bit_buffer::window(held, left) / 8;
         if six == SIX_ONES {
-            return Skimmed { left, count };
+            return Skimmed { left, codes, count };
         }
         left -= width_of(six);
+        codes += 1;
         count += count_of(six);
     }
-    Skimmed { left, count }
+    Skimmed { left, codes, count }
 }
 
 // Whether each of ten codes from the top of a word on has five bits, as those of digits have: none of their first bits is 1.
@@ -96,17 +100,17 @@ fn skim_nine(held: u64, have: u64, counts: &[u8; 64]) -> Skimmed
 {
     let mut top = held << (64 - have);
     let mut left = have;
+    let mut codes: usize = 0;
     let mut count: usize = 0;
-    let mut turn: u64 = 0;
-    while turn < 9 {
+    while codes < 9 {
         let six = top >> 58;
         top = shifted(top, six);
         left -= width_of(six);
+        codes += 1;
         count += counts[six as usize] as usize;
-        turn += 1;
     }
     if count <= 18 {
-        return Skimmed { left, count };
+        return Skimmed { left, codes, count };
     }
     skim_each(held, have)
 }
@@ -119,6 +123,7 @@ fn skim(held: u64, have: u64, counts: &[u8; 64]) -> Skimmed
     if ten_fives(held << (64 - have)) {
         return Skimmed {
             left: have - 50,
+            codes: 10,
             count: 10,
         };
     }
@@ -131,32 +136,35 @@ fn measure_last(held: u64, have: u64) -> Measured
     ensures { λ r. ⌜ Measures scheme (low have held) r ⌝ }
 {
     let mut left = have;
+    let mut codes: usize = 0;
     let mut n: usize = 0;
     loop {
         if bit_buffer::at_end(held, left) {
-            return Measured::Text(n);
+            return Measured::Text(n, codes);
         }
         let six = bit_buffer::window(held, left) / 8;
         if six == SIX_ONES {
-            return Measured::Malformed((have - left) as usize);
+            return Measured::Malformed((have - left) as usize, codes);
         }
         let width = width_of(six);
         if left < width {
-            return Measured::Malformed((have - left) as usize);
+            return Measured::Malformed((have - left) as usize, codes);
         }
         left -= width;
+        codes += 1;
         n += count_of(six);
     }
 }
 
 // What the whole comes to, where the codes up to the place are passed.
-fn measure_rest(s: &[u8], place: Place) -> Measured
-    requires { ⌜ (length (now s) < countable) × CountedTo scheme (now s) place ⌝ }
+fn measure_rest(s: &[u8], counted: Counted) -> Measured
+    requires { ⌜ (length (now s) < countable) × CountedTo scheme (now s) counted ⌝ }
     ensures { λ r. ⌜ Measures scheme (bits (now (s .entry))) r ⌝ }
 {
+    let place = counted.place;
     let b = bit_buffer::last_bits(s, place);
     let last = measure_last(b.held, b.have);
-    bit_buffer::with_front(last, place.n, s.len() * 8 - b.have as usize)
+    bit_buffer::with_front(last, place.n, counted.codes, s.len() * 8 - b.have as usize)
 }
 
 // The length of the text, or where the data is malformed.
@@ -170,22 +178,25 @@ pub fn measure(s: &[u8]) -> Measured
     counts[63] = 19;
     let mut next: usize = 0;
     let mut skip: u64 = 0;
+    let mut codes: usize = 0;
     let mut n: usize = 0;
     while 8 <= s.len() - next {
         let w = skim(bit_buffer::eight(s, next), 64 - skip, &counts);
         let passed = 64 - w.left;
         if 24 < w.left {
-            return Measured::Malformed(next * 8 + passed as usize);
+            return Measured::Malformed(next * 8 + passed as usize, codes + w.codes);
         }
         next += (passed / 8) as usize;
         skip = passed % 8;
+        codes += w.codes;
         n += w.count;
     }
-    measure_rest(s, Place { next, skip, n })
+    let place = Place { next, skip, n };
+    measure_rest(s, Counted { place, codes })
 }
 
 // The characters of ten codes of five bits, from place n on.
-fn put_fives(held: u64, have: u64, out: &mut [u8], n: usize, characters: &[u8; 63]) -> Skimmed
+fn put_fives(held: u64, have: u64, out: &mut [u8], n: usize, characters: &[u8; 63]) -> Laid
     requires { ⌜ (57 ≤ have) × (have ≤ 64) × (n ≤ length (now out)) × Begun scheme held have (length (now out) - n) × Characters (now characters) × Fives (held * 2 ^ (64 - have) % 2 ^ 64) ⌝ }
     ensures { λ r. ⌜ SkimsInto scheme held have (now (out .entry)) (now (out .exit)) n r ⌝ }
 {
@@ -196,14 +207,14 @@ fn put_fives(held: u64, have: u64, out: &mut [u8], n: usize, characters: &[u8; 6
         top = top << 5;
         count += 1;
     }
-    Skimmed {
+    Laid {
         left: have - 50,
         count,
     }
 }
 
 // The characters of nine codes, from place n on.
-fn put_nine(held: u64, have: u64, out: &mut [u8], n: usize, characters: &[u8; 63]) -> Skimmed
+fn put_nine(held: u64, have: u64, out: &mut [u8], n: usize, characters: &[u8; 63]) -> Laid
     requires { ⌜ (57 ≤ have) × (have ≤ 64) × (n ≤ length (now out)) × Begun scheme held have (length (now out) - n) × Characters (now characters) ⌝ }
     ensures { λ r. ⌜ SkimsInto scheme held have (now (out .entry)) (now (out .exit)) n r ⌝ }
 {
@@ -220,11 +231,11 @@ fn put_nine(held: u64, have: u64, out: &mut [u8], n: usize, characters: &[u8; 63
         count += c.count;
         turn += 1;
     }
-    Skimmed { left, count }
+    Laid { left, count }
 }
 
 // The characters of ten codes of five bits, or of nine codes, from place n on.
-fn put_word(held: u64, have: u64, out: &mut [u8], n: usize, characters: &[u8; 63]) -> Skimmed
+fn put_word(held: u64, have: u64, out: &mut [u8], n: usize, characters: &[u8; 63]) -> Laid
     requires { ⌜ (57 ≤ have) × (have ≤ 64) × (n ≤ length (now out)) × Begun scheme held have (length (now out) - n) × Characters (now characters) ⌝ }
     ensures { λ r. ⌜ SkimsInto scheme held have (now (out .entry)) (now (out .exit)) n r ⌝ }
 {

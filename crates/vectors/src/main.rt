@@ -1,9 +1,9 @@
 // Runs packets through the reader and texts through the writer. Standard input is a row of cases: `r`, `d` or `w`; the writer's sync bit; the number that is
 // named, the length of the lent buffer and that of the packet or text (three bytes each, high byte first); and the packet or text. In a case `r` the number is
 // that of the header bits to mend, in a case `w` that of the writer's format, and in a case `d` the reader is called without one. For each packet it prints
-// what is found out without a buffer: `readable` and the seven numbers of the answer, or `refused` with the refusal's number and the one that comes with it.
-// Then for each packet or text two lines: the answer's line; and the number that comes with a refusal, or the bytes used, then the lent buffer's Adler-32,
-// and its first 512 bytes.
+// what is found out without a buffer: `readable` and the eight numbers of the answer, or `refused` with the refusal's number, the one that comes with it and
+// the codes. Then for each packet or text the answer's line; for a packet `codes` and how many were read; and the number that comes with a refusal, or the
+// bytes used, then the lent buffer's Adler-32, and its first 512 bytes.
 use header::Header;
 use libc::STDIN_FILENO;
 use libc::STDOUT_FILENO;
@@ -83,6 +83,7 @@ fn print_examined(answer: ExamineAnswer) {
                 header::one_if(reading.sync) as usize,
                 reading.mended as usize,
                 reading.mask as usize,
+                reading.codes,
                 reading.data_length,
                 reading.text_length,
                 reading.used,
@@ -90,7 +91,8 @@ fn print_examined(answer: ExamineAnswer) {
             print_line(b"readable", &numbers);
         }
         ExamineAnswer::Refused(refusal) => {
-            print_line(b"refused", &[refusal.number() as usize, refusal.value()]);
+            let numbers = [refusal.number() as usize, refusal.value(), refusal.codes()];
+            print_line(b"refused", &numbers);
         }
     }
 }
@@ -103,10 +105,19 @@ fn read_with(answer: ReadAnswer) -> usize {
     }
 }
 
+// The codes that were read.
+fn read_codes(answer: ReadAnswer) -> usize {
+    match answer {
+        ReadAnswer::Accepted(reading) => reading.codes,
+        ReadAnswer::Refused(refusal) => refusal.codes(),
+    }
+}
+
 fn print_read(answer: ReadAnswer, text: &[u8]) {
     let mut line = [0u8; 128];
     let n = report::line(answer, &mut line);
     io::write_all(STDOUT_FILENO, &line[..n]);
+    print_line(b"codes", &[read_codes(answer)]);
     print_buffer(read_with(answer), text);
 }
 

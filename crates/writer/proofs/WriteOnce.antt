@@ -13,7 +13,7 @@ use Rattle.formats.specs.Data.{coded, Uncoded, dataOf}
 use Rattle.refusals.specs.declared.WriteRefusal.{WriteRefusal}
 use Rattle.refusals.specs.declared.WriteRefusal.the-variants.{OtherFormat, Empty, NoCode, TooLong, NoRoom}
 use Rattle.refusals.specs.Match.{writerTurn}
-use Rattle.refusals.specs.Refusals.{numberIn, valueIn, writeTold}
+use Rattle.refusals.specs.Refusals.{numberIn, writeTold}
 use Rattle.refusals.proofs.Known.{writeFrom, writeKnown, write-one-number}
 use Rattle.refusals.proofs.Refused.{match-one}
 use Rattle.terms.specs.declared.Terms.{Terms}
@@ -23,19 +23,21 @@ use Rattle.writer.specs.Writer.{WriteFault, WriteRefuses, WriteAccepts, 
 use Rattle.writer.proofs.WriteStages.{in-format}
 
 module _ (terms : Terms) (number : ℕ) (text : List ℕ) (room : ℕ) where
-  -- a refusal of one number has one value: 9 the index, 8 the packet's length, the others none
-  one-value : (r : WriteRefusal) (v : ℕ) → WriteFault terms number text room r → WriteFault terms number text room (writeFrom (numberIn (writeTold r)) v)
-      → valueIn (writeTold r) ≡ valueIn (writeTold (writeFrom (numberIn (writeTold r)) v))
+  -- a refusal of one number is told one way: 9 with the index, 8 with the packet's length, the others with none
+  one-told : (r : WriteRefusal) (v c : ℕ) → WriteFault terms number text room r → WriteFault terms number text room (writeFrom (numberIn (writeTold r), v, c))
+      → r ≡ writeFrom (numberIn (writeTold r), v, c)
   unfolding writeFrom
-  one-value OtherFormat v f g = refl
-  one-value Empty v f g = refl
-  one-value (NoCode i) v f g = first-one (coded (f .0)) text i v (f .2) (in-format number (λ (k : Format). Uncoded k text v) (f .0) (f .1) g)
-  one-value TooLong v f g = refl
-  one-value (NoRoom n) v f g =
-      f .2 .0 ∙ sym (in-format number (λ (k : Format). (v ≡ length (dataOf k text) + 6) × (room < v)) (f .0) (f .1) g .0)
+  one-told OtherFormat v c f g = refl
+  one-told Empty v c f g = refl
+  one-told (NoCode i) v c f g =
+      ap {B = WriteRefusal} NoCode (first-one (coded (f .0)) text i v (f .2) (in-format number (λ (k : Format). Uncoded k text v) (f .0) (f .1) g))
+  one-told TooLong v c f g = refl
+  one-told (NoRoom n) v c f g =
+      ap {B = WriteRefusal} NoRoom
+      (f .2 .0 ∙ sym (in-format number (λ (k : Format). (v ≡ length (dataOf k text) + 6) × (room < v)) (f .0) (f .1) g .0))
 
   pub write-refuses-one : (r s : WriteRefusal) → WriteRefuses terms number text room r → WriteRefuses terms number text room s → r ≡ s
-  write-refuses-one = match-one writeKnown (WriteFault terms number text room) writerTurn write-one-number one-value
+  write-refuses-one = match-one writeKnown (WriteFault terms number text room) writerTurn write-one-number one-told
 
   -- what is written meets no refusal's condition
   pub writes-no-fault : (format : Format) (n : ℕ) → WriteAccepts terms number text room format n → (r : WriteRefusal) → WriteFault terms number text room r → ⊥

@@ -25,7 +25,7 @@ module _ (terms : Terms) (number : ℕ) (text : List ℕ) (room : ℕ) where
   Clear = refused.Clear writeKnown (WriteFault terms number text room) writerTurn
 
   next : (k l : ℕ) → getD writerOrder (writerTurn k) 0 ≡ k → writerTurn l ≡ suc (writerTurn k) → Clear k
-      → ((v : ℕ) → WriteFault terms number text room (writeFrom k v) → ⊥) → Clear l
+      → ((v c : ℕ) → WriteFault terms number text room (writeFrom (k, v, c)) → ⊥) → Clear l
   next k l there =
       refused.clear-next writeKnown (WriteFault terms number text room) writerTurn k l (λ r e. write-at-turn r (writerTurn k) e ∙ there)
 
@@ -37,20 +37,20 @@ module _ (terms : Terms) (number : ℕ) (text : List ℕ) (room : ℕ) where
   module _ (format : Format) (is : formatNumber format ≡ number) where
     pub clear-ten : Clear 10
     unfolding writeFrom turnIn
-    clear-ten = next 12 10 refl refl clear-twelve (λ v f. f format is)
+    clear-ten = next 12 10 refl refl clear-twelve (λ v c f. f format is)
 
     pub clear-nine : 0 < length text → Clear 9
     unfolding writeFrom turnIn
-    clear-nine some = next 10 9 refl refl clear-ten (λ v f. omega (arith, ap length f))
+    clear-nine some = next 10 9 refl refl clear-ten (λ v c f. omega (arith, ap length f))
 
     pub clear-eleven : 0 < length text → AllCoded format text → Clear 11
     unfolding writeFrom turnIn
     clear-eleven some coded =
         next 9 11 refl refl (clear-nine some)
-        (λ v f. let uncoded = in-format number (λ (k : Format). Uncoded k text v) format is f in uncoded .none (coded v (uncoded .there)))
+        (λ v c f. let uncoded = in-format number (λ (k : Format). Uncoded k text v) format is f in uncoded .none (coded v (uncoded .there)))
 
     pub clear-eight : 0 < length text → AllCoded format text → length (dataOf format text) ≤ terms .most → Clear 8
     unfolding writeFrom turnIn
     clear-eight some coded few =
         next 11 8 refl refl (clear-eleven some coded)
-        (λ v f. let long = in-format number (λ (k : Format). terms .most < length (dataOf k text)) format is f in omega arith)
+        (λ v c f. let long = in-format number (λ (k : Format). terms .most < length (dataOf k text)) format is f in omega arith)

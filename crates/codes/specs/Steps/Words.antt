@@ -9,17 +9,18 @@ use Rattle.codes.specs.Chain.{Scheme}
 use Rattle.codes.specs.Pack.{low, value}
 use Rattle.codes.specs.Steps.Laid.{Readable}
 use Rattle.codes.specs.Steps.Passed.{CountedSoFar, LaidSoFar}
+use Rattle.codes.specs.declared.Counted.{Counted}
+use Rattle.codes.specs.declared.Laid.{Laid}
 use Rattle.codes.specs.declared.Place.{Place}
-use Rattle.codes.specs.declared.Skimmed.{Skimmed}
 
 -- few of the lowest `have` bits of a number are left, and no code said more characters than it has bits
-pub record Few (have : ℕ) (r : Skimmed) : Type 0 where
-  pub last : r .left ≤ 24
-  pub brief : r .count + r .left ≤ have
+pub record Few (have left count : ℕ) : Type 0 where
+  pub last : left ≤ 24
+  pub brief : count + left ≤ have
 
 -- codes of the lowest `have` bits of `held` were passed, and what they said stands in the buffer from place n on
-abbrev pub SkimsInto : Scheme → ℕ → ℕ → List ℕ → List ℕ → ℕ → Skimmed → Type 0
-SkimsInto scheme held have entry exit n r = Few have r × LaidSoFar scheme (low have held) (low (r .left) held) entry exit n (n + r .count)
+abbrev pub SkimsInto : Scheme → ℕ → ℕ → List ℕ → List ℕ → ℕ → Laid → Type 0
+SkimsInto scheme held have entry exit n r = Few have (r .left) (r .count) × LaidSoFar scheme (low have held) (low (r .left) held) entry exit n (n + r .count)
 
 -- the lowest `have` bits of `held` begin a building of a text that there is room for
 abbrev pub Begun : Scheme → ℕ → ℕ → ℕ → Type 0
@@ -42,11 +43,12 @@ pub record NearEnd (s : List ℕ) (place : Place) : Type 0 where
   pub few : length s < place .next + 8
   pub skips : place .skip ≤ (length s - place .next) * 8
 
--- the codes up to the place are passed, and said so many characters
-abbrev pub CountedTo : Scheme → List ℕ → Place → Type 0
-CountedTo scheme s place =
+-- the codes up to the place are passed: so many, which said so many characters
+abbrev pub CountedTo : Scheme → List ℕ → Counted → Type 0
+CountedTo scheme s r =
+    let place = r .place in
     NearEnd s place × (place .n ≤ place .next * 8 + place .skip)
-    × CountedSoFar scheme (bits s) (beyond s (place .next) (place .skip)) (place .n)
+    × CountedSoFar scheme (bits s) (beyond s (place .next) (place .skip)) (place .n) (r .codes)
 
 -- and what they said stands at the front of the buffer
 abbrev pub LaidTo : Scheme → List ℕ → List ℕ → List ℕ → Place → Type 0

@@ -38,7 +38,7 @@ measure-requires-4 c κs = search needs
 returns : tie.Need-returns
 returns c =
     let a = c .before .before .before .args in
-    open-measures (a .format) (c .enum-told .given .1) (a .«data» .now) _ (omega arith)
+    open-measures (a .format) (c .enum-told .given .1) (a .«data» .now) _ _ (omega arith) (omega arith)
 
 returns-2 : tie.Need-returns-2
 returns-2 c =
@@ -48,7 +48,7 @@ returns-2 c =
 returns-3 : tie.Need-returns-3
 returns-3 c =
     let a = c .before .before .before .before .args in
-    numeric-measures (a .format) (c .before .enum-told3 .given .1) (a .«data» .now) _ (c .measure2 .result) (omega arith) (c .measure2 .ensures)
+    numeric-measures (a .format) (c .before .enum-told3 .given .1) (a .«data» .now) (c .measure2 .result) (c .measure2 .ensures)
 
 returns-4 : tie.Need-returns-4
 returns-4 c =

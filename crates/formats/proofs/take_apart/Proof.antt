@@ -25,14 +25,16 @@ returns-2 c =
     let m = c .before .before .before in
     let a = m .before .before .before .args in
     let k = c .before .measured .given in
-    apart-text (a .format) (a .«data» .now) (omega arith) _ (k .0 .0) (omega arith) (subst (MeasuresData (a .format) (a .«data» .now)) (k .1) (m .measure .ensures))
+    apart-text (a .format) (a .«data» .now) (omega arith) _ _ (k .0 .0) (k .0 .1 .0) (omega arith) (omega arith)
+    (subst (MeasuresData (a .format) (a .«data» .now)) (k .1) (m .measure .ensures))
 
 returns-3 : tie.Need-returns-3
 returns-3 c =
     let m = c .before .before .before in
     let a = m .before .before .before .args in
     let k = c .before .measured2 .given in
-    apart-place (a .format) (a .«data» .now) (omega arith) _ (k .0 .0) (omega arith) (subst (MeasuresData (a .format) (a .«data» .now)) (k .1) (m .measure .ensures))
+    apart-place (a .format) (a .«data» .now) (omega arith) _ _ (k .0 .0) (k .0 .1 .0) (omega arith) (omega arith)
+    (subst (MeasuresData (a .format) (a .«data» .now)) (k .1) (m .measure .ensures))
 
 pub take-apart-spec : {M : Type 1} → statement M
 take-apart-spec =

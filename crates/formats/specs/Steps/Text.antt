@@ -8,12 +8,12 @@ use Rattle.header.specs.declared.Format.{Format}
 use Rattle.codes.specs.Steps.Laid.{Fronted}
 use Rattle.codes.specs.declared.Measured.{Measured}
 use Rattle.codes.specs.declared.Measured.the-variants.{Text, Malformed}
-use Rattle.formats.specs.Data.{Carries, Unreadable}
+use Rattle.formats.specs.Data.{Carries, CarriesIn, UnreadableAfter}
 
--- the data carries a text of this length, or is malformed at this bit
+-- the data carries a text of this length in so many codes, or is malformed at this bit behind so many
 abbrev pub MeasuresData : Format → List ℕ → Measured → Type 0
-MeasuresData format carried (Text n) = (text : List ℕ) × (length text ≡ n) × Carries format text carried
-MeasuresData format carried (Malformed i) = Unreadable format carried i
+MeasuresData format carried (Text n codes) = (text : List ℕ) × (length text ≡ n) × CarriesIn format carried text codes
+MeasuresData format carried (Malformed i codes) = UnreadableAfter format carried i codes
 
 -- the data carries a text that there is room for
 pub record HasRoom (format : Format) (carried : List ℕ) (room : ℕ) : Type 0 where

@@ -17,12 +17,12 @@ use Rattle.full_ascii_reader.proofs.skim_plain.Statement.{statement}
 use Rattle.full_ascii_reader.proofs.skim_plain.Tie as tie
 
 abbrev Inv-loop : tie.InvT-loop
-Inv-loop held have top₀ left₀ count₀ top left count =
-    (left + 6 * count ≤ have) × (have ≤ left + 7 * count) × (count ≤ 8) × (top ≡ held * 2 ^ (64 - left) % 2 ^ 64)
-    × CountedSoFar scheme (low have held) (low left held) count
+Inv-loop held have top₀ left₀ codes₀ count₀ top left codes count =
+    (left + 6 * codes ≤ have) × (have ≤ left + 7 * codes) × (codes ≤ 8) × (top ≡ held * 2 ^ (64 - left) % 2 ^ 64) × (count ≡ codes)
+    × CountedSoFar scheme (low have held) (low left held) count codes
 
 abbrev μ-loop : tie.MeasureT-loop
-μ-loop held have top₀ left₀ count₀ top left count = 8 - count
+μ-loop held have top₀ left₀ codes₀ count₀ top left codes count = 8 - codes
 
 sub-top : tie.Need-sub-top Inv-loop μ-loop
 sub-top c = omega arith
@@ -31,7 +31,7 @@ shl-top : tie.Need-shl-top Inv-loop μ-loop
 shl-top c = omega arith
 
 loop-holds : tie.Need-loop-holds Inv-loop μ-loop
-loop-holds c = (omega arith, omega arith, omega arith, refl, counting-none scheme (low (c .args .have) (c .args .held)))
+loop-holds c = (omega arith, omega arith, omega arith, refl, refl, counting-none scheme (low (c .args .have) (c .args .held)))
 
 first-plain-requires : tie.Need-first-plain-requires Inv-loop μ-loop
 first-plain-requires c κs =
@@ -53,11 +53,14 @@ shl-top-2 c = omega (arith, c .before .first-plain .ensures .1)
 sub-left : tie.Need-sub-left Inv-loop μ-loop
 sub-left c = omega (arith, c .before .before .first-plain .ensures .1)
 
+add-codes : tie.Need-add-codes Inv-loop μ-loop
+add-codes c = omega arith
+
 add-count : tie.Need-add-count Inv-loop μ-loop
 add-count c = omega (arith, c .before .before .before .first-plain .ensures .2)
 
 loop-less : tie.Need-loop-less Inv-loop μ-loop
-loop-less c = omega (arith, c .before .before .before .first-plain .ensures .2)
+loop-less c = omega arith
 
 loop-again : tie.Need-loop-again Inv-loop μ-loop
 loop-again c =
@@ -66,16 +69,17 @@ loop-again c =
     let held = a .before .args .held in
     let r = f .first-plain .result in
     let t = taken f in (
-      omega (arith, f .first-plain .ensures .1, f .first-plain .ensures .2, f .first-plain .ensures .0),
-      omega (arith, f .first-plain .ensures .1, f .first-plain .ensures .2),
-      omega (arith, f .first-plain .ensures .2),
+      omega (arith, f .first-plain .ensures .1, f .first-plain .ensures .0),
+      omega (arith, f .first-plain .ensures .1),
+      omega arith,
       top-on held (a .loop .left) (a .loop .top) (r .width) (omega (arith, f .first-plain .ensures .1)) (omega arith) (a .loop .inv .3),
-      counted-code mutes (low (a .before .args .have) held) held (a .loop .left) (t .0) (a .loop .count) r (a .loop .inv .4) (t .1) (t .2)
-          (omega (arith, f .first-plain .ensures .1)) (omega arith),
+      omega (arith, f .first-plain .ensures .2),
+      counted-code mutes (low (a .before .args .have) held) held (a .loop .left) (t .0) (a .loop .count) (a .loop .codes) r (a .loop .inv .5) (t .1) (t .2)
+          (omega (arith, f .first-plain .ensures .1)) (omega arith) (omega arith),
     )
 
 returns : tie.Need-returns Inv-loop μ-loop
-returns c = (record { last = omega arith; brief = omega arith }, c .before .loop .inv .4)
+returns c = (record { last = omega arith; brief = omega arith }, c .before .loop .inv .5)
 
 pub skim-plain-spec : {M : Type 1} → statement M
 skim-plain-spec =
@@ -89,6 +93,7 @@ skim-plain-spec =
     first-plain-requires
     shl-top-2
     sub-left
+    add-codes
     add-count
     loop-less
     loop-again

@@ -13,4 +13,4 @@ Plain held = (k : ℕ) → held / 2 ^ k % 128 < 127
 
 -- codes of the lowest `have` bits of `held` were passed
 abbrev pub Skims : ℕ → ℕ → Skimmed → Type 0
-Skims held have r = Few have r × CountedSoFar scheme (low have held) (low (r .left) held) (r .count)
+Skims held have r = Few have (r .left) (r .count) × CountedSoFar scheme (low have held) (low (r .left) held) (r .count) (r .codes)

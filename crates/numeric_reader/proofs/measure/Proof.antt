@@ -1,7 +1,7 @@
 -- `numeric_reader::measure` meets its contract. The loop's invariant: the codes of the bytes before i are passed, and `saved` is what their text is shorter
 -- by than two characters a byte. Assumes nothing.
 use mathlib.Core.List.{List}
-use mathlib.Core.Path.{ap, subst}
+use mathlib.Core.Path.{_≡_, ap, subst}
 use Prim.Native.Nat.{ℕ, _-_, _*_, _≤_}
 use native.Mathlib.Omega.{arith}
 use lib.ListN.{length, getD, drop, drop-of-length-le}
@@ -11,23 +11,25 @@ use Rattle.numeric_reader.specs.Steps.Reached.{Reached}
 use Rattle.numeric_reader.specs.Steps.Signs.{saves, signAfter}
 use Rattle.numeric_reader.proofs.Counting.{counts-first}
 use Rattle.numeric_reader.proofs.Pairs.{one-small}
-use Rattle.numeric_reader.proofs.Reading.{reached-none, reached-end}
+use Rattle.numeric_reader.proofs.Reading.{reached-none, reached-end, measured}
 use Rattle.numeric_reader.proofs.measure.Statement.{statement}
 use Rattle.numeric_reader.proofs.measure.Tie as tie
 
 abbrev Inv-loop : tie.InvT-loop
-Inv-loop s saved₀ i₀ saved i =
-    (1 ≤ i) × (i ≤ length s) × (saved ≤ i * 2) × Reached (textOf s) (spelled (drop i s)) (signAfter (getD s (i - 1) 0)) (i * 2 - saved)
+Inv-loop s codes₀ saved₀ i₀ codes saved i =
+    (1 ≤ i) × (i ≤ length s) × (codes ≡ i * 2) × (saved ≤ i * 2) × Reached (textOf s) (spelled (drop i s)) (signAfter (getD s (i - 1) 0)) (i * 2 - saved)
 
 abbrev μ-loop : tie.MeasureT-loop
-μ-loop s saved₀ i₀ saved i = length s - i
+μ-loop s codes₀ saved₀ i₀ codes saved i = length s - i
 
 returns : tie.Need-returns Inv-loop μ-loop
 unfolding spelled textOf
 returns c =
     let s = c .before .before .args .s .now in
+    let end =
     reached-end
-    (subst (λ (l : List ℕ). Reached (textOf s) l 0 0) (ap spelled (drop-of-length-le s {i = 0} (omega arith))) (reached-none (spelled s)))
+    (subst (λ (l : List ℕ). Reached (textOf s) l 0 0) (ap spelled (drop-of-length-le s {i = 0} (omega arith))) (reached-none (spelled s))) in
+    measured s _ _ (omega (arith, end)) (omega arith)
 
 shared-slice-read-saved-by : tie.Need-shared-slice-read-saved-by Inv-loop μ-loop
 shared-slice-read-saved-by c = omega arith
@@ -45,6 +47,7 @@ loop-holds c =
     let small = one-small (saves (getD s 0 0)) in (
       omega arith,
       omega arith,
+      omega arith,
       omega (arith, c .saved-by .ensures),
       counts-first s (omega arith) (omega (arith, k .shared-slice-known2 .given 0)) (c .saved-by .ensures) (omega (arith, c .saved-by .ensures)),
     )
@@ -60,6 +63,15 @@ measure-each-requires c κs = omega arith
 
 returns-2 : tie.Need-returns-2 Inv-loop μ-loop
 returns-2 c = c .measure-each .ensures
+
+sub-codes : tie.Need-sub-codes Inv-loop μ-loop
+sub-codes c = omega arith
+
+mul-codes : tie.Need-mul-codes Inv-loop μ-loop
+mul-codes c = omega arith
+
+add-codes : tie.Need-add-codes Inv-loop μ-loop
+add-codes c = omega arith
 
 cast-saved-2 : tie.Need-cast-saved-2 Inv-loop μ-loop
 cast-saved-2 c = omega arith
@@ -79,26 +91,23 @@ loop-again c =
       omega arith,
       omega arith,
       omega arith,
-      b .count-block .ensures .1 (not-false _ (c .before .if2 .left)) (textOf s) (a .loop .i * 2 - a .loop .saved) _ (omega arith) (a .loop .inv .3),
+      omega arith,
+      b .count-block .ensures .1 (not-false _ (c .before .if2 .left)) (textOf s) (a .loop .i * 2 - a .loop .saved) _ (omega arith) (a .loop .inv .4),
     )
 
-mul-result : tie.Need-mul-result Inv-loop μ-loop
-mul-result c = omega arith
-
-sub-result : tie.Need-sub-result Inv-loop μ-loop
-sub-result c = omega arith
+sub-characters : tie.Need-sub-characters Inv-loop μ-loop
+sub-characters c = omega arith
 
 returns-3 : tie.Need-returns-3 Inv-loop μ-loop
 unfolding spelled
 returns-3 c =
     let a = c .before in
     let s = a .before .before .before .before .before .args .s .now in
-    omega (
-      arith,
-      reached-end
-          (subst (λ (l : List ℕ). Reached (textOf s) l (signAfter (getD s (a .loop .i - 1) 0)) (a .loop .i * 2 - a .loop .saved))
-          (ap spelled (drop-of-length-le s {i = a .loop .i} (omega arith))) (a .loop .inv .3)),
-    )
+    let end =
+    reached-end
+    (subst (λ (l : List ℕ). Reached (textOf s) l (signAfter (getD s (a .loop .i - 1) 0)) (a .loop .i * 2 - a .loop .saved))
+    (ap spelled (drop-of-length-le s {i = a .loop .i} (omega arith))) (a .loop .inv .4)) in
+    measured s _ _ (omega (arith, end)) (omega arith)
 
 pub measure-spec : {M : Type 1} → statement M
 measure-spec =
@@ -115,10 +124,12 @@ measure-spec =
     count-block-requires
     measure-each-requires
     returns-2
+    sub-codes
+    mul-codes
+    add-codes
     cast-saved-2
     add-saved
     loop-less
     loop-again
-    mul-result
-    sub-result
+    sub-characters
     returns-3)

@@ -12,20 +12,20 @@ use Rattle.numeric_reader.specs.declared.Passed.{Passed}
 use Rattle.numeric_reader.specs.Steps.Signs.{Entry}
 use Rattle.numeric_reader.proofs.EntryLaws.{looked-entry}
 use Rattle.numeric_reader.proofs.Passing.{passes-none, passed-byte}
-use Rattle.numeric_reader.proofs.Reading.{reached-none, reached-end}
+use Rattle.numeric_reader.proofs.Reading.{reached-none, reached-end, measured}
 use Rattle.numeric_reader.proofs.measure_by.Statement.{statement}
 use Rattle.numeric_reader.proofs.measure_by.Tie as tie
 
 abbrev Inv-loop : tie.InvT-loop
-Inv-loop s table saved₀ before₀ i₀ saved before i =
-    (i ≤ length s) × (saved ≤ i) × (before / 8 ≡ 1) × Reached (textOf s) (spelled (drop i s)) (before % 8) (i * 2 - saved)
+Inv-loop s table codes₀ saved₀ before₀ i₀ codes saved before i =
+    (i ≤ length s) × (codes ≡ i * 2) × (saved ≤ i) × (before / 8 ≡ 1) × Reached (textOf s) (spelled (drop i s)) (before % 8) (i * 2 - saved)
 
 abbrev μ-loop : tie.MeasureT-loop
-μ-loop s table saved₀ before₀ i₀ saved before i = length s - i
+μ-loop s table codes₀ saved₀ before₀ i₀ codes saved before i = length s - i
 
 loop-holds : tie.Need-loop-holds Inv-loop μ-loop
 unfolding textOf
-loop-holds c = (omega arith, omega arith, omega arith, reached-none (spelled (c .before .args .s .now)))
+loop-holds c = (omega arith, omega arith, omega arith, omega arith, reached-none (spelled (c .before .args .s .now)))
 
 shared-slice-read-entry : tie.Need-shared-slice-read-entry Inv-loop μ-loop
 shared-slice-read-entry c = omega arith
@@ -57,10 +57,13 @@ is-entry d =
 
 pass-pair-requires : tie.Need-pass-pair-requires Inv-loop μ-loop
 unfolding entry
-pass-pair-requires c κs = let d = c .before in (d .before .before .before .loop .inv .2, is-entry d, c .if1 .left)
+pass-pair-requires c κs = let d = c .before in (d .before .before .before .loop .inv .3, is-entry d, c .if1 .left)
 
 add-saved : tie.Need-add-saved Inv-loop μ-loop
 add-saved c = omega (arith, c .before .pass-pair .ensures .few)
+
+add-codes : tie.Need-add-codes Inv-loop μ-loop
+add-codes c = omega arith
 
 add-i : tie.Need-add-i Inv-loop μ-loop
 add-i c = omega arith
@@ -70,14 +73,14 @@ loop-less c = omega arith
 
 -- its codes are passed
 step : (d : tie.After-entry Inv-loop μ-loop) (r : Passed) → Passes (d .before .before .before .loop .before) (entry d) r
-    → {saved before : ℕ} → saved ≡ d .before .before .before .loop .saved + r .fewer → before ≡ r .before
+    → {codes saved before : ℕ} → codes ≡ d .before .before .before .loop .codes + 2 → saved ≡ d .before .before .before .loop .saved + r .fewer → before ≡ r .before
     → (d .before .before .before .loop .i + 1 ≤ length (d .before .before .before .before .before .args .s .now))
-    × (saved ≤ d .before .before .before .loop .i + 1) × (before / 8 ≡ 1)
+    × (codes ≡ (d .before .before .before .loop .i + 1) * 2) × (saved ≤ d .before .before .before .loop .i + 1) × (before / 8 ≡ 1)
     × Reached (textOf (d .before .before .before .before .before .args .s .now))
     (spelled (drop (d .before .before .before .loop .i + 1) (d .before .before .before .before .before .args .s .now))) (before % 8)
     ((d .before .before .before .loop .i + 1) * 2 - saved)
 unfolding entry
-step d r passes {saved} {before} x y =
+step d r passes {codes} {saved} {before} z x y =
     let k = d .before in
     let a = k .before .before in
     let e = a .before .before in
@@ -85,12 +88,13 @@ step d r passes {saved} {before} x y =
     let few = passes .few in (
       omega arith,
       omega arith,
+      omega arith,
       ap (λ (n : ℕ). n / 8) y ∙ passes .held,
       subst⁻¹ (λ (n : ℕ). Reached (textOf s) (spelled (drop (a .loop .i + 1) s)) (n % 8) ((a .loop .i + 1) * 2 - saved)) y
           (passed-byte (textOf s) s (a .loop .i) (a .loop .before) (a .loop .i * 2 - a .loop .saved) r (omega arith)
           (omega (arith, k .shared-slice-known2 .given (a .loop .i)))
           (subst (λ (t : List ℕ). Passes (a .loop .before) (getD t (getD s (a .loop .i) 0) 0) r) (e .pre .1) passes)
-          (omega arith) (a .loop .inv .3)),
+          (omega arith) (a .loop .inv .4)),
     )
 
 loop-again : tie.Need-loop-again Inv-loop μ-loop
@@ -99,27 +103,23 @@ loop-again c =
     let d = c .before in
     let a = d .before .before .before in
     ⊎-elim
-    (λ w. step d (record { fewer = 0; before = entry d / 256 % 256 }) (passes-none (a .loop .before) (a .loop .inv .2) (entry d) (is-entry d) (w .0 .taken))
-    (omega (arith, w .1)) (omega (arith, w .2)))
-    (λ w. step d (w .1 .result) (w .1 .ensures) (w .3) (w .4)) (c .if1 .came)
+    (λ w. step d (record { fewer = 0; before = entry d / 256 % 256 }) (passes-none (a .loop .before) (a .loop .inv .3) (entry d) (is-entry d) (w .0 .taken))
+    (omega arith) (omega (arith, w .1)) (omega (arith, w .2)))
+    (λ w. step d (w .1 .result) (w .1 .ensures) (omega arith) (w .3) (w .4)) (c .if1 .came)
 
-mul-result : tie.Need-mul-result Inv-loop μ-loop
-mul-result c = omega arith
-
-sub-result : tie.Need-sub-result Inv-loop μ-loop
-sub-result c = omega arith
+sub-t18 : tie.Need-sub-t18 Inv-loop μ-loop
+sub-t18 c = omega arith
 
 returns : tie.Need-returns Inv-loop μ-loop
 unfolding spelled
 returns c =
     let a = c .before in
     let s = a .before .before .args .s .now in
-    omega (
-      arith,
-      reached-end
-          (subst (λ (l : List ℕ). Reached (textOf s) l (a .loop .before % 8) (a .loop .i * 2 - a .loop .saved))
-          (ap spelled (drop-of-length-le s {i = a .loop .i} (omega arith))) (a .loop .inv .3)),
-    )
+    let end =
+    reached-end
+    (subst (λ (l : List ℕ). Reached (textOf s) l (a .loop .before % 8) (a .loop .i * 2 - a .loop .saved))
+    (ap spelled (drop-of-length-le s {i = a .loop .i} (omega arith))) (a .loop .inv .4)) in
+    measured s _ _ (omega (arith, end)) (omega arith)
 
 pub measure-by-spec : {M : Type 1} → statement M
 measure-by-spec =
@@ -134,9 +134,9 @@ measure-by-spec =
     element-copy-out-entry
     pass-pair-requires
     add-saved
+    add-codes
     add-i
     loop-less
     loop-again
-    mul-result
-    sub-result
+    sub-t18
     returns)

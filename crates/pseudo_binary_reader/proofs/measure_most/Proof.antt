@@ -14,13 +14,13 @@ use Rattle.pseudo_binary_reader.proofs.measure_most.Statement.{statemen
 use Rattle.pseudo_binary_reader.proofs.measure_most.Tie as tie
 
 abbrev Inv-loop : tie.InvT-loop
-Inv-loop s end limit at₀ n₀ at n = (at ≤ length s * 8) × (n ≤ 3 * at) × CountedSoFar scheme (bits s) (drop at (bits s)) n
+Inv-loop s end limit at₀ codes₀ n₀ at codes n = (at ≤ length s * 8) × (n ≤ 3 * at) × (codes ≤ at) × CountedSoFar scheme (bits s) (drop at (bits s)) n codes
 
 abbrev μ-loop : tie.MeasureT-loop
-μ-loop s end limit at₀ n₀ at n = length s * 8 - at
+μ-loop s end limit at₀ codes₀ n₀ at codes n = length s * 8 - at
 
 returns : tie.Need-returns Inv-loop μ-loop
-returns c = ((omega arith, omega arith), counting-none scheme (bits (c .before .before .args .s .now)))
+returns c = ((omega arith, omega arith, omega arith), counting-none scheme (bits (c .before .before .args .s .now)))
 
 mul-end : tie.Need-mul-end Inv-loop μ-loop
 mul-end c = omega (arith, c .before .before .pre)
@@ -29,7 +29,7 @@ sub-limit : tie.Need-sub-limit Inv-loop μ-loop
 sub-limit c = omega (arith, c .if1 .left)
 
 loop-holds : tie.Need-loop-holds Inv-loop μ-loop
-loop-holds c = (omega arith, omega arith, counting-none scheme (bits (c .before .before .args .s .now)))
+loop-holds c = (omega arith, omega arith, omega arith, counting-none scheme (bits (c .before .before .args .s .now)))
 
 top-at-requires : tie.Need-top-at-requires Inv-loop μ-loop
 top-at-requires c κs = omega (arith, c .loop-test .taken)
@@ -51,6 +51,9 @@ add-at c =
     let f = c .before .before .before in
     omega (arith, f .first-indicator .ensures .long, f .before .before .before .before .before .before .pre)
 
+add-codes : tie.Need-add-codes Inv-loop μ-loop
+add-codes c = omega (arith, c .before .before .before .before .before .before .before .before .before .pre)
+
 add-n : tie.Need-add-n Inv-loop μ-loop
 add-n c =
     let f = c .before .before .before .before in
@@ -68,9 +71,10 @@ loop-again c =
     let a = f .before .before .before in (
       omega (arith, t .long, f .before .before .loop-test .taken),
       omega (arith, t .few, t .short),
+      omega (arith, t .short),
       counting-plain (a .before .before .before .args .s .now) (a .loop .at) (a .loop .inv .0) (f .before .top-at .result / 2 ^ 55) (nine f)
-          (f .first-indicator .result) t (a .loop .n) (a .loop .inv .2) (c .before .before .if2 .taken)
-          (omega (arith, t .long, f .before .before .loop-test .taken)),
+          (f .first-indicator .result) t (a .loop .n) (a .loop .codes) (a .loop .inv .3) (c .before .before .if2 .taken)
+          (omega (arith, t .long, f .before .before .loop-test .taken)) (omega arith),
     )
 
 mul-next : tie.Need-mul-next Inv-loop μ-loop
@@ -86,35 +90,44 @@ add-next-2 c =
     omega (arith, t .many, t .long, f .before .before .before .before .before .before .pre)
 
 returns-2 : tie.Need-returns-2 Inv-loop μ-loop
-returns-2 c = let a = c .before .before .before .before .before .before .before .before in ((a .loop .inv .0, a .loop .inv .1), a .loop .inv .2)
+returns-2 c = let a = c .before .before .before .before .before .before .before .before in ((a .loop .inv .0, a .loop .inv .1, a .loop .inv .2), a .loop .inv .3)
+
+add-codes-2 : tie.Need-add-codes-2 Inv-loop μ-loop
+add-codes-2 c = omega (arith, c .before .before .before .before .before .before .first-indicator .ensures .many)
+
+add-codes-3 : tie.Need-add-codes-3 Inv-loop μ-loop
+add-codes-3 c =
+    let f = c .before .before .before .before .before .before in
+    omega (arith, f .first-indicator .ensures .many, f .before .before .before .before .before .before .pre)
 
 add-n-2 : tie.Need-add-n-2 Inv-loop μ-loop
-add-n-2 c = let t = c .before .before .before .before .before .before .first-indicator .ensures in omega (arith, t .few, t .many)
+add-n-2 c = let t = c .before .before .before .before .before .before .before .first-indicator .ensures in omega (arith, t .few, t .many)
 
 add-n-3 : tie.Need-add-n-3 Inv-loop μ-loop
 add-n-3 c =
-    let f = c .before .before .before .before .before .before in
+    let f = c .before .before .before .before .before .before .before in
     let t = f .first-indicator .ensures in
     omega (arith, t .few, t .many, f .before .before .before .before .before .before .pre)
 
 loop-less-2 : tie.Need-loop-less-2 Inv-loop μ-loop
 loop-less-2 c =
-    let t = c .before .before .before .before .before .before .first-indicator .ensures in
-    omega (arith, t .short, c .before .if3 .left)
+    let t = c .before .before .before .before .before .before .before .first-indicator .ensures in
+    omega (arith, t .short, c .before .before .if3 .left)
 
 loop-again-2 : tie.Need-loop-again-2 Inv-loop μ-loop
 loop-again-2 c =
-    let f = c .before .before .before .before .before .before in
+    let f = c .before .before .before .before .before .before .before in
     let t = f .first-indicator .ensures in
     let a = f .before .before .before in (
-      omega (arith, c .before .if3 .left),
+      omega (arith, c .before .before .if3 .left),
       omega (arith, t .few, t .short),
+      omega (arith, t .short),
       counting-run (a .before .before .before .args .s .now) (a .loop .at) (a .loop .inv .0) (f .before .top-at .result / 2 ^ 55) (nine f)
-          (f .first-indicator .result) t (a .loop .n) (a .loop .inv .2) (omega (arith, c .before .if3 .left)),
+          (f .first-indicator .result) t (a .loop .n) (a .loop .codes) (a .loop .inv .3) (omega (arith, c .before .before .if3 .left)) (omega arith),
     )
 
 returns-3 : tie.Need-returns-3 Inv-loop μ-loop
-returns-3 c = let a = c .before in ((a .loop .inv .0, a .loop .inv .1), a .loop .inv .2)
+returns-3 c = let a = c .before in ((a .loop .inv .0, a .loop .inv .1, a .loop .inv .2), a .loop .inv .3)
 
 pub measure-most-spec : {M : Type 1} → statement M
 measure-most-spec =
@@ -129,6 +142,7 @@ measure-most-spec =
     top-at-requires
     first-indicator-requires
     add-at
+    add-codes
     add-n
     loop-less
     loop-again
@@ -136,6 +150,8 @@ measure-most-spec =
     add-next
     add-next-2
     returns-2
+    add-codes-2
+    add-codes-3
     add-n-2
     add-n-3
     loop-less-2

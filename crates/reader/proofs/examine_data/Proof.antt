@@ -1,7 +1,6 @@
 -- `reader::examine_data` meets its contract.
 -- Assumes nothing.
-use mathlib.Core.List.{List}
-use mathlib.Core.Path.{_≡_, sym, subst}
+use mathlib.Core.Path.{_≡_, subst}
 use Prim.Native.Nat.{_+_, _^_, _≤_, _<_}
 use native.Mathlib.Omega.{arith}
 use borrow.Author.Needs.{needs}
@@ -13,7 +12,7 @@ use Rattle.checksum.specs.Checksum.{checksumBytes}
 use Rattle.codes.specs.Steps.Measure.{TakesApart}
 use Rattle.codes.specs.declared.Outcome.{Outcome}
 use Rattle.codes.specs.declared.Outcome.the-variants.{Text, Malformed, TooLong}
-use Rattle.formats.specs.Data.{Carries, Unreadable}
+use Rattle.formats.specs.Data.{CarriesIn, UnreadableAfter}
 use Rattle.packet.specs.Packet.{dataIn, sumIn}
 use Rattle.reader.proofs.ExamineAnswers.{whole, short, tested, apart, counted, refused-sum, refused-place, accepted}
 use Rattle.reader.proofs.examine_data.Statement.{statement}
@@ -43,11 +42,11 @@ summed-at c = said-yes (agreed c .agrees .result) (tested-at (agreed c)) (not-fa
 came : (c : tie.After-take-apart) (outcome : Outcome) → c .take-apart .result ≡ outcome
     → (let s = start (agreed c) in
     let carried = dataIn (s .pre .1 .header) (s .args .packet .now) in
-    TakesApart (λ text. Carries (s .pre .1 .format) text carried) (Unreadable (s .pre .1 .format) carried) (length carried) outcome)
+    TakesApart (CarriesIn (s .pre .1 .format) carried) (UnreadableAfter (s .pre .1 .format) carried) (length carried) outcome)
 came c outcome e =
     let s = start (agreed c) in
     let carried = dataIn (s .pre .1 .header) (s .args .packet .now) in
-    subst (λ (o : Outcome). TakesApart (λ text. Carries (s .pre .1 .format) text carried) (Unreadable (s .pre .1 .format) carried) (length carried) o) e
+    subst (λ (o : Outcome). TakesApart (CarriesIn (s .pre .1 .format) carried) (UnreadableAfter (s .pre .1 .format) carried) (length carried) o) e
     (apart (s .args .terms) (s .pre .0) (s .args .packet .now) (s .args .found) (s .pre .1) (c .take-apart .result) (c .take-apart .ensures))
 
 -- the data lies within the packet
@@ -113,16 +112,18 @@ returns-2 c =
     let t = c .before .before .before in
     let s = start (agreed t) in
     let n = c .before .outcome .given in
-    let a = came t (Text (n .0 .0)) (n .1) .1 in
-    (a .0, accepted (s .args .terms) (s .pre .0) (s .args .packet .now) (s .args .found) (s .pre .1) (summed-at t) (a .0) (a .2) _ (omega (arith, a .1)))
+    let a = came t (Text (n .0 .0) (n .0 .1 .0)) (n .1) .1 in (
+      a .0,
+      accepted (s .args .terms) (s .pre .0) (s .args .packet .now) (s .args .found) (s .pre .1) (summed-at t) (a .0) (n .0 .1 .0) (a .2) _ _ (omega (arith, a .1)) (omega arith),
+    )
 
 returns-3 : tie.Need-returns-3
 returns-3 c =
     let t = c .before .before .before in
     let s = start (agreed t) in
     let i = c .before .outcome2 .given in
-    refused-place (s .args .terms) (s .pre .0) (s .args .packet .now) (s .args .found) (s .pre .1) (summed-at t) (i .0 .0)
-    (came t (Malformed (i .0 .0)) (i .1) .1) _ (omega arith)
+    refused-place (s .args .terms) (s .pre .0) (s .args .packet .now) (s .args .found) (s .pre .1) (summed-at t) (i .0 .0) (i .0 .1 .0)
+    (came t (Malformed (i .0 .0) (i .0 .1 .0)) (i .1) .1) _ _ (omega arith) (omega arith)
 
 returns-4 : tie.Need-returns-4
 returns-4 c =

@@ -55,19 +55,20 @@ length-is bits fields e = ap (λ (f : Header). f .length) e
 
 -- each number of the reading with what it must be, so that a wrong one is refused where it stands
 found : (header word : ℕ) (format : Format) (terms : Terms) (packet : List ℕ) → Framed terms packet format header → word ≡ received packet
-    → (sync : Bool) (mended mask carried text used : ℕ) → sync ≡ fieldsIn header .sync → mended ≡ distance word header → mask ≡ bitXor word header → carried ≡ lengthIn header → text ≡ 0
-    → used ≡ lengthIn header + 6
+    → (sync : Bool) (mended mask codes carried text used : ℕ) → sync ≡ fieldsIn header .sync → mended ≡ distance word header → mask ≡ bitXor word header → codes ≡ 0
+    → carried ≡ lengthIn header → text ≡ 0 → used ≡ lengthIn header + 6
     → HeaderFound terms packet
     (record {
       format = format;
       sync = sync;
       mended = mended;
       mask = mask;
+      codes = codes;
       «data_length» = carried;
       «text_length» = text;
       used = used;
     })
-found header word format terms packet framed w sync mended mask carried text used s m k d t u = record {
+found header word format terms packet framed w sync mended mask codes carried text used s m k c d t u = record {
   format = format;
   header = header;
   framed = framed;
@@ -77,6 +78,7 @@ found header word format terms packet framed w sync mended mask carried text use
         sync = s i;
         mended = (m ∙ ap (λ (x : ℕ). distance x header) w) i;
         mask = (k ∙ ap (λ (x : ℕ). bitXor x header) w) i;
+        codes = c i;
         «data_length» = d i;
         «text_length» = t i;
         used = u i;
@@ -257,8 +259,8 @@ returns-8 c =
       few = omega (arith, long-at k, c .before .if4 .left);
       whole = omega (arith, long-at k, c .if5 .left);
     })
-    refl _ _ _ _ _ _ (ap (λ (f : Header). f .sync) (k .before .before .before .before .from-bits .ensures)) (omega (arith, near-at (told-at k) .1))
-    (omega (arith, ap (λ (w : ℕ). bitXor w h) (word-is (word-at k)))) (omega (arith, long-at k)) (omega arith)
+    refl _ _ _ _ _ _ _ (ap (λ (f : Header). f .sync) (k .before .before .before .before .from-bits .ensures)) (omega (arith, near-at (told-at k) .1))
+    (omega (arith, ap (λ (w : ℕ). bitXor w h) (word-is (word-at k)))) (omega arith) (omega (arith, long-at k)) (omega arith)
     (omega (arith, long-at k))
 
 pub find-header-spec : {M : Type 1} → statement M

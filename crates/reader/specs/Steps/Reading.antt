@@ -11,12 +11,12 @@ use Rattle.reader.specs.declared.HeaderAnswer.the-variants.{Found, Refus
 use Rattle.reader.specs.Examine.{Framed, Refuses, readingOf}
 use Rattle.packet.specs.Packet.{received}
 
--- they are passed: the header that the packet is read as, and its reading, with no text yet
+-- they are passed: the header that the packet is read as, and its reading, with no text and no codes yet
 pub record HeaderFound (terms : Terms) (packet : List ℕ) (reading : Reading) : Type 0 where
   pub format : Format
   pub header : ℕ
   pub framed : Framed terms packet format header
-  pub is : reading ≡ readingOf format header (received packet) []
+  pub is : reading ≡ readingOf format header (received packet) [] 0
 
 abbrev pub FindsHeader : Terms → List ℕ → HeaderAnswer → Type 0
 FindsHeader terms packet (Found reading) = HeaderFound terms packet reading

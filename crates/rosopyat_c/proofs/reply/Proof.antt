@@ -3,7 +3,6 @@
 use mathlib.Core.Path.{_≡_, sym, ap, _∙_}
 use borrow.Author.Needs.{needs}
 use Rattle.reader.specs.declared.ReadAnswer.the-variants.{Accepted, Refused}
-use Rattle.rosopyat_c.specs.declared.ReadReply.{ReadReply}
 use Rattle.rosopyat_c.specs.Replies.{readReply}
 use Rattle.rosopyat_c.proofs.reply.Statement.{statement}
 use Rattle.rosopyat_c.proofs.reply.Tie as tie
@@ -26,6 +25,9 @@ number-requires-2 c κs = search needs
 value-requires : tie.Need-value-requires
 value-requires c κs = search needs
 
+codes-requires : tie.Need-codes-requires
+codes-requires c κs = search needs
+
 returns : tie.Need-returns
 returns c =
     let n = c .before in
@@ -39,6 +41,7 @@ returns c =
       sync = c .one-if .ensures i;
       mended = reading .mended;
       mask = reading .mask;
+      codes = reading .codes;
       «data_length» = reading .«data_length»;
       «text_length» = reading .«text_length»;
       used = reading .used;
@@ -47,16 +50,18 @@ returns c =
 
 returns-2 : tie.Need-returns-2
 returns-2 c =
-    let n = c .before in
+    let v = c .before in
+    let n = v .before in
     let is : _ ≡ readReply (Refused (n .before .before .answer2 .given .0 .0)) =
     λ i.
     record {
       refusal = n .number2 .ensures i;
-      number = c .value .ensures i;
+      number = v .value .ensures i;
       format = 0;
       sync = 0;
       mended = 0;
       mask = 0;
+      codes = c .codes .ensures i;
       «data_length» = 0;
       «text_length» = 0;
       used = 0;
@@ -73,5 +78,6 @@ reply-spec =
     enum-known-answer-2
     number-requires-2
     value-requires
+    codes-requires
     returns
     returns-2)

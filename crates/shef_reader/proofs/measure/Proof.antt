@@ -1,25 +1,28 @@
 -- `shef_reader::measure` meets its contract. The loop's invariant: the codes that were passed leave what is beyond the place.
 -- Assumes nothing.
-use Prim.Native.Nat.{_+_, _-_, _*_, _≤_, _<_}
+use Prim.Native.Nat.{_+_, _-_, _*_, _^_, _≤_, _<_}
 use native.Mathlib.Omega.{arith}
 use lib.ListN.{length}
 use Rattle.bits.specs.Row.{bits}
-use Rattle.codes.proofs.ReadSoFar.{counting-none}
+use Rattle.codes.proofs.BitsInBytes.{length-bits}
+use Rattle.codes.proofs.LowBits.{length-low}
+use Rattle.codes.proofs.ReadSoFar.{counting-none, counting-bits}
 use Rattle.codes.specs.Steps.Passed.{CountedSoFar}
 use Rattle.codes.specs.Steps.Words.{beyond}
 use Rattle.codes.proofs.PassedWords.{counted-word, stuck-word}
 use Rattle.shef.specs.Table.{scheme}
+use Rattle.shef.proofs.Table.{laws}
 use borrow.Author.Needs.{needs}
 use Rattle.shef_reader.proofs.Six.{ones-stuck, made, made-counts}
 use Rattle.shef_reader.proofs.measure.Statement.{statement}
 use Rattle.shef_reader.proofs.measure.Tie as tie
 
 abbrev Inv-loop : tie.InvT-loop
-Inv-loop s counts next₀ skip₀ n₀ next skip n =
-    (skip < 8) × (next * 8 + skip ≤ length s * 8) × (n ≤ next * 8 + skip) × CountedSoFar scheme (bits s) (beyond s next skip) n
+Inv-loop s counts next₀ skip₀ codes₀ n₀ next skip codes n =
+    (skip < 8) × (next * 8 + skip ≤ length s * 8) × (n ≤ next * 8 + skip) × CountedSoFar scheme (bits s) (beyond s next skip) n codes
 
 abbrev μ-loop : tie.MeasureT-loop
-μ-loop s counts next₀ skip₀ n₀ next skip n = length s * 8 - (next * 8 + skip)
+μ-loop s counts next₀ skip₀ codes₀ n₀ next skip codes n = length s * 8 - (next * 8 + skip)
 
 array-write-counts : tie.Need-array-write-counts Inv-loop μ-loop
 array-write-counts c = search needs
@@ -47,31 +50,48 @@ skim-requires c κs = (omega arith, omega arith, made-counts)
 sub-passed : tie.Need-sub-passed Inv-loop μ-loop
 sub-passed c = omega (arith, c .before .skim .ensures .brief)
 
-mul-t18 : tie.Need-mul-t18 Inv-loop μ-loop
-mul-t18 c = omega arith
+mul-t20 : tie.Need-mul-t20 Inv-loop μ-loop
+mul-t20 c = omega arith
 
-add-t20 : tie.Need-add-t20 Inv-loop μ-loop
-add-t20 c = omega arith
+add-t22 : tie.Need-add-t22 Inv-loop μ-loop
+add-t22 c = omega arith
+
+-- no more codes than the data has bits, nor in the word, nor characters
+few-codes : (f : tie.After-skim Inv-loop μ-loop)
+    → (f .before .before .before .before .loop .codes < 2 ^ 63) × (f .skim .result .codes ≤ 64) × (f .skim .result .count ≤ 64)
+few-codes f =
+    let a = f .before .before .before .before in (
+      omega (arith, counting-bits (a .loop .inv .3) laws, length-bits (a .before .before .args .s .now), a .before .before .pre),
+      omega (arith, counting-bits (f .skim .ensures .counted) laws, length-low (64 - a .loop .skip) (f .before .before .eight .result)),
+      omega (arith, f .skim .ensures .brief),
+    )
+
+add-t23 : tie.Need-add-t23 Inv-loop μ-loop
+add-t23 c = omega (arith, few-codes (c .before .before .before .before))
 
 returns : tie.Need-returns Inv-loop μ-loop
 returns c =
-    let f = c .before .before .before in
+    let f = c .before .before .before .before in
     let a = f .before .before .before .before in
     let s = a .before .before .args .s .now in
     let r = f .skim .ensures in
     let left = f .skim .result .left in
     let held = f .before .before .eight .result in
-    let ones = r .stuck (c .if1 .taken) in
+    let ones = r .stuck (c .before .if1 .taken) in
     stuck-word s (a .loop .next) held (omega arith) (f .before .before .eight .ensures .1) (f .before .before .eight .ensures .0) (a .loop .skip) (a .loop .inv .0)
-    (a .loop .n) left (f .skim .result .count) (omega arith) (omega (arith, r .brief)) (omega arith) (a .loop .inv .3) (r .counted)
+    (a .loop .n) (a .loop .codes) left (f .skim .result .count) (f .skim .result .codes) (omega arith) (omega arith) (omega (arith, r .brief)) (omega arith)
+    (a .loop .inv .3) (r .counted)
     (ones-stuck held left (ones .0) (ones .1) (ones .2) (omega arith))
 
 add-next : tie.Need-add-next Inv-loop μ-loop
 add-next c = omega (arith, c .before .before .before .before .before .before .before .before .before .pre)
 
+add-codes : tie.Need-add-codes Inv-loop μ-loop
+add-codes c = omega (arith, few-codes (c .before .before .before .before))
+
 add-n : tie.Need-add-n Inv-loop μ-loop
 add-n c =
-    let f = c .before .before .before .before in
+    let f = c .before .before .before .before .before in
     omega (arith, f .skim .ensures .brief, f .before .before .before .before .before .before .pre)
 
 loop-less : tie.Need-loop-less Inv-loop μ-loop
@@ -79,7 +99,7 @@ loop-less c = omega arith
 
 loop-again : tie.Need-loop-again Inv-loop μ-loop
 loop-again c =
-    let f = c .before .before .before .before in
+    let f = c .before .before .before .before .before in
     let a = f .before .before .before .before in
     let s = a .before .before .args .s .now in
     let r = f .skim .ensures in (
@@ -87,7 +107,7 @@ loop-again c =
       omega arith,
       omega (arith, r .brief),
       counted-word s (a .loop .next) (f .before .before .eight .result) (omega arith) (f .before .before .eight .ensures .1) (f .before .before .eight .ensures .0)
-          (a .loop .skip) (a .loop .inv .0) (bits s) (a .loop .n) (f .skim .result .left) (f .skim .result .count) (omega arith)
+          (a .loop .skip) (a .loop .inv .0) (bits s) (a .loop .n) (a .loop .codes) (f .skim .result .left) (f .skim .result .count) (f .skim .result .codes) (omega arith)
           (a .loop .inv .3) (r .counted),
     )
 
@@ -113,10 +133,12 @@ measure-spec =
     sub-skim
     skim-requires
     sub-passed
-    mul-t18
-    add-t20
+    mul-t20
+    add-t22
+    add-t23
     returns
     add-next
+    add-codes
     add-n
     loop-less
     loop-again

@@ -7,7 +7,7 @@ use native.Mathlib.Omega.{arith}
 use Rattle.bits.specs.Says.{Says}
 use Rattle.codes.specs.Chain.{Fill}
 use Rattle.codes.specs.Pack.{low}
-use Rattle.codes.proofs.ReadSoFar.{counting-none, counting-end, counting-stuck}
+use Rattle.codes.proofs.ReadSoFar.{counting-none, counting-bits, counting-end, counting-stuck}
 use Rattle.codes.proofs.LowBits.{length-low}
 use Rattle.codes.specs.Steps.Passed.{CountedSoFar}
 use Rattle.codes.specs.Steps.Measure.{Measures}
@@ -23,10 +23,10 @@ use Rattle.shef_reader.proofs.measure_last.Statement.{statement}
 use Rattle.shef_reader.proofs.measure_last.Tie as tie
 
 abbrev Inv-loop : tie.InvT-loop
-Inv-loop held have left₀ n₀ left n = (left ≤ have) × (n + left ≤ have) × CountedSoFar scheme (low have held) (low left held) n
+Inv-loop held have left₀ codes₀ n₀ left codes n = (left ≤ have) × (n + left ≤ have) × CountedSoFar scheme (low have held) (low left held) n codes
 
 abbrev μ-loop : tie.MeasureT-loop
-μ-loop held have left₀ n₀ left n = left
+μ-loop held have left₀ codes₀ n₀ left codes n = left
 
 loop-holds : tie.Need-loop-holds Inv-loop μ-loop
 loop-holds c = (omega arith, omega arith, counting-none scheme (low (c .args .have) (c .args .held)))
@@ -38,32 +38,32 @@ returns : tie.Need-returns Inv-loop μ-loop
 returns c =
     let a = c .before .before in
     let rest = low (a .loop .left) (a .before .args .held) in
-    counting-end (a .loop .inv .2)
+    counting-end (a .loop .inv .2) _ _ (omega arith) (omega arith)
     (subst (λ (b : Bool). Says b (Fill 7 rest)) (c .if1 .taken) (c .before .at-end .ensures))
 
 window-requires : tie.Need-window-requires Inv-loop μ-loop
 window-requires c κs = omega arith
 
-sub-t10 : tie.Need-sub-t10 Inv-loop μ-loop
-sub-t10 c = omega arith
+sub-t11 : tie.Need-sub-t11 Inv-loop μ-loop
+sub-t11 c = omega arith
 
 -- where no code is next, the bits are malformed here
 stuck : (v : tie.After-window Inv-loop μ-loop)
-    → Halts scheme 0 (low (v .before .before .before .loop .left) (v .before .before .before .before .args .held)) → {i : ℕ}
-    → i + v .before .before .before .loop .left ≡ v .before .before .before .before .args .have
-    → Measures scheme (low (v .before .before .before .before .args .have) (v .before .before .before .before .args .held)) (Malformed i)
-stuck v h {i} e =
+    → Halts scheme 0 (low (v .before .before .before .loop .left) (v .before .before .before .before .args .held)) → {i before : ℕ}
+    → i + v .before .before .before .loop .left ≡ v .before .before .before .before .args .have → before ≡ v .before .before .before .loop .codes
+    → Measures scheme (low (v .before .before .before .before .args .have) (v .before .before .before .before .args .held)) (Malformed i before)
+stuck v h {i} {before} e d =
     let a = v .before .before .before in
     let held = a .before .args .held in
-    counting-stuck (a .loop .inv .2) i
-    (omega (arith, length-low (a .before .args .have) held, length-low (a .loop .left) held)) h
+    counting-stuck (a .loop .inv .2) i before
+    (omega (arith, length-low (a .before .args .have) held, length-low (a .loop .left) held)) d h
     (subst (λ (b : Bool). Says b (Fill 7 (low (a .loop .left) held))) (v .before .if1 .left) (v .before .before .at-end .ensures))
 
 returns-2 : tie.Need-returns-2 Inv-loop μ-loop
 returns-2 c =
     let v = c .before in
     let a = v .before .before .before in
-    stuck v (ones-last (a .before .args .held) (a .loop .left) (v .window .result) (v .window .ensures) (c .if2 .taken)) (omega arith)
+    stuck v (ones-last (a .before .args .held) (a .loop .left) (v .window .result) (v .window .ensures) (c .if2 .taken)) (omega arith) (omega arith)
 
 width-of-requires : tie.Need-width-of-requires Inv-loop μ-loop
 width-of-requires c κs = tt
@@ -75,8 +75,8 @@ taken f e =
     let v = f .before .before in
     any-code (v .window .result) refl (omega (arith, v .window .ensures .small, f .before .if2 .left)) (f .width-of .ensures) e
 
-sub-t12 : tie.Need-sub-t12 Inv-loop μ-loop
-sub-t12 c = omega arith
+sub-t13 : tie.Need-sub-t13 Inv-loop μ-loop
+sub-t13 c = omega arith
 
 returns-3 : tie.Need-returns-3 Inv-loop μ-loop
 returns-3 c =
@@ -84,7 +84,12 @@ returns-3 c =
     let v = f .before .before in
     let a = v .before .before .before in
     stuck v
-    (no-code laws (a .before .args .held) (a .loop .left) (v .window .result) _ (v .window .ensures) (taken f refl) (c .if3 .taken)) (omega arith)
+    (no-code laws (a .before .args .held) (a .loop .left) (v .window .result) _ (v .window .ensures) (taken f refl) (c .if3 .taken)) (omega arith) (omega arith)
+
+add-codes : tie.Need-add-codes Inv-loop μ-loop
+add-codes c =
+    let a = c .before .before .before .before .before .before in
+    omega (arith, counting-bits (a .loop .inv .2) laws, length-low (a .before .args .have) (a .before .args .held))
 
 count-of-requires : tie.Need-count-of-requires Inv-loop μ-loop
 count-of-requires c κs = tt
@@ -105,8 +110,8 @@ loop-again c =
     let t = taken f (c .count-of .ensures) in (
       omega (arith, t .short),
       omega (arith, t .short, t .few),
-      counted-code mutes (low (a .before .args .have) held) held (a .loop .left) (v .window .result) (a .loop .n) _ (a .loop .inv .2)
-          (v .window .ensures) t (g .if3 .left) refl,
+      counted-code mutes (low (a .before .args .have) held) held (a .loop .left) (v .window .result) (a .loop .n) (a .loop .codes) _ (a .loop .inv .2)
+          (v .window .ensures) t (g .if3 .left) refl (omega arith),
     )
 
 pub measure-last-spec : {M : Type 1} → statement M
@@ -119,11 +124,12 @@ measure-last-spec =
     at-end-requires
     returns
     window-requires
-    sub-t10
+    sub-t11
     returns-2
     width-of-requires
-    sub-t12
+    sub-t13
     returns-3
+    add-codes
     count-of-requires
     add-n
     loop-less

@@ -4,22 +4,23 @@ use mathlib.Core.Path.{_≡_, refl}
 use Prim.Native.Nat.{ℕ, _+_, _/_, _≤_}
 use native.Mathlib.Omega.{arith}
 use Rattle.codes.specs.Pack.{low}
-use Rattle.codes.proofs.ReadSoFar.{counting-none}
+use Rattle.codes.proofs.LowBits.{length-low}
+use Rattle.codes.proofs.ReadSoFar.{counting-none, counting-bits}
 use Rattle.codes.specs.Steps.Passed.{CountedSoFar}
 use Rattle.codes.specs.Steps.Taken.{FirstCode}
 use Rattle.codes.proofs.TakenCodes.{counted-code}
 use Rattle.shef.specs.Table.{table, scheme}
-use Rattle.shef.proofs.Table.{mutes}
+use Rattle.shef.proofs.Table.{laws, mutes}
 use Rattle.shef_reader.specs.Steps.Taken.{charactersIn}
 use Rattle.shef_reader.proofs.Six.{codeOf, any-code}
 use Rattle.shef_reader.proofs.skim_each.Statement.{statement}
 use Rattle.shef_reader.proofs.skim_each.Tie as tie
 
 abbrev Inv-loop : tie.InvT-loop
-Inv-loop held have left₀ count₀ left count = (count + left ≤ have) × CountedSoFar scheme (low have held) (low left held) count
+Inv-loop held have left₀ codes₀ count₀ left codes count = (count + left ≤ have) × CountedSoFar scheme (low have held) (low left held) count codes
 
 abbrev μ-loop : tie.MeasureT-loop
-μ-loop held have left₀ count₀ left count = left
+μ-loop held have left₀ codes₀ count₀ left codes count = left
 
 loop-holds : tie.Need-loop-holds Inv-loop μ-loop
 loop-holds c = (omega arith, counting-none scheme (low (c .args .have) (c .args .held)))
@@ -46,6 +47,11 @@ taken f e =
 sub-left : tie.Need-sub-left Inv-loop μ-loop
 sub-left c = omega (arith, taken c refl .long)
 
+add-codes : tie.Need-add-codes Inv-loop μ-loop
+add-codes c =
+    let a = c .before .before .before .before in
+    omega (arith, counting-bits (a .loop .inv .1) laws, length-low (a .before .args .have) (a .before .args .held))
+
 count-of-requires : tie.Need-count-of-requires Inv-loop μ-loop
 count-of-requires c κs = tt
 
@@ -63,8 +69,8 @@ loop-again c =
     let held = a .before .args .held in
     let t = taken f (c .count-of .ensures) in (
       omega (arith, t .short, t .long, t .few),
-      counted-code mutes (low (a .before .args .have) held) held (a .loop .left) (v .window .result) (a .loop .count) _ (a .loop .inv .1)
-          (v .window .ensures) t (omega (arith, t .long)) refl,
+      counted-code mutes (low (a .before .args .have) held) held (a .loop .left) (v .window .result) (a .loop .count) (a .loop .codes) _ (a .loop .inv .1)
+          (v .window .ensures) t (omega (arith, t .long)) refl (omega arith),
     )
 
 returns-2 : tie.Need-returns-2 Inv-loop μ-loop
@@ -83,6 +89,7 @@ skim-each-spec =
     returns
     width-of-requires
     sub-left
+    add-codes
     count-of-requires
     add-count
     loop-less

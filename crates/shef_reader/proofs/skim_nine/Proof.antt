@@ -15,12 +15,12 @@ use Rattle.shef_reader.proofs.skim_nine.Statement.{statement}
 use Rattle.shef_reader.proofs.skim_nine.Tie as tie
 
 abbrev Inv-loop : tie.InvT-loop
-Inv-loop held have counts top₀ left₀ count₀ turn₀ top left count turn =
-    (left + 5 * turn ≤ have) × (have ≤ left + 6 * turn) × (turn ≤ 9) × (count ≤ 19 * turn) × (top ≡ held * 2 ^ (64 - left) % 2 ^ 64)
-    × (count ≤ 18 → (count ≤ 2 * turn) × CountedSoFar scheme (low have held) (low left held) count)
+Inv-loop held have counts top₀ left₀ codes₀ count₀ top left codes count =
+    (left + 5 * codes ≤ have) × (have ≤ left + 6 * codes) × (codes ≤ 9) × (count ≤ 19 * codes) × (top ≡ held * 2 ^ (64 - left) % 2 ^ 64)
+    × (count ≤ 18 → (count ≤ 2 * codes) × CountedSoFar scheme (low have held) (low left held) count codes)
 
 abbrev μ-loop : tie.MeasureT-loop
-μ-loop held have counts top₀ left₀ count₀ turn₀ top left count turn = 9 - turn
+μ-loop held have counts top₀ left₀ codes₀ count₀ top left codes count = 9 - codes
 
 sub-top : tie.Need-sub-top Inv-loop μ-loop
 sub-top c = omega arith
@@ -52,6 +52,9 @@ wide f =
 sub-left : tie.Need-sub-left Inv-loop μ-loop
 sub-left c = omega (arith, wide c .1)
 
+add-codes : tie.Need-add-codes Inv-loop μ-loop
+add-codes c = omega arith
+
 element-copy-out-count : tie.Need-element-copy-out-count Inv-loop μ-loop
 element-copy-out-count c = top-six (c .before .before .before)
 
@@ -66,9 +69,6 @@ cast-count c = record { fits = omega (arith, small c) }
 
 add-count : tie.Need-add-count Inv-loop μ-loop
 add-count c = record { fits = omega (arith, small c) }
-
-add-turn : tie.Need-add-turn Inv-loop μ-loop
-add-turn c = omega arith
 
 loop-less : tie.Need-loop-less Inv-loop μ-loop
 loop-less c = omega arith
@@ -93,8 +93,8 @@ loop-again c =
           let so-far = a .loop .inv .5 (omega arith) in
           let v = six-window held (a .loop .left) (a .loop .top) (omega arith) (omega arith) (a .loop .inv .4) in (
             omega (arith, so-far .0, count, characters-few six),
-            counted-code mutes (low (e .args .have) held) held (a .loop .left) (v .0) (a .loop .count) _ (so-far .1) (v .1)
-                (any-code (v .0) (v .2) low-six (f .width-of .ensures) count) (omega arith) refl,
+            counted-code mutes (low (e .args .have) held) held (a .loop .left) (v .0) (a .loop .count) (a .loop .codes) _ (so-far .1) (v .1)
+                (any-code (v .0) (v .2) low-six (f .width-of .ensures) count) (omega arith) refl (omega arith),
           ),
     )
 
@@ -122,10 +122,10 @@ skim-nine-spec =
     shifted-requires
     width-of-requires
     sub-left
+    add-codes
     element-copy-out-count
     cast-count
     add-count
-    add-turn
     loop-less
     loop-again
     returns

@@ -46,7 +46,7 @@ SixOnes held have = (w : ℕ) × Window held have w × (w / 8 ≡ 63)
 pub record Skims (held have : ℕ) (r : Skimmed) : Type 0 where
   pub brief : r .count + r .left ≤ have
   pub stuck : 24 < r .left → SixOnes held (r .left)
-  pub counted : CountedSoFar scheme (low have held) (low (r .left) held) (r .count)
+  pub counted : CountedSoFar scheme (low have held) (low (r .left) held) (r .count) (r .codes)
 
 -- ten codes from the top of a word on have five bits each, if they are no more: the first bit of each is 0
 abbrev pub Fives : ℕ → Type 0

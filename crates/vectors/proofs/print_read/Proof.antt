@@ -23,6 +23,18 @@ slice-aggregate-write-all c =
 write-all-requires : tie.Need-write-all-requires
 write-all-requires c κs = search needs
 
+slice-aggregate-print-line : tie.Need-slice-aggregate-print-line
+slice-aggregate-print-line c = search needs
+
+read-codes-requires : tie.Need-read-codes-requires
+read-codes-requires c κs = search needs
+
+slice-aggregate-print-line-2 : tie.Need-slice-aggregate-print-line-2
+slice-aggregate-print-line-2 c = search needs
+
+print-line-requires : tie.Need-print-line-requires
+print-line-requires c κs = search needs
+
 read-with-requires : tie.Need-read-with-requires
 read-with-requires c κs = search needs
 
@@ -41,6 +53,10 @@ print-read-spec =
     array-share-prefix-line
     slice-aggregate-write-all
     write-all-requires
+    slice-aggregate-print-line
+    read-codes-requires
+    slice-aggregate-print-line-2
+    print-line-requires
     read-with-requires
     print-buffer-requires
     returns)
