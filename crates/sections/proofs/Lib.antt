@@ -1,0 +1,4 @@
+pub mod Found
+pub mod InPlace
+pub mod OneSection
+pub mod Turns

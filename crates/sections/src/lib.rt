@@ -1,0 +1,151 @@
+// The data of a message in sections, each with its checksum behind it (document 001, 3.3): judged and joined where they were received, made where they are
+// sent.
+
+ghost use mathlib.Core.List.{_++_};
+ghost use mathlib.Core.Path.{_≡_};
+ghost use Prim.Native.Nat.{_+_, _-_, _*_, _^_, _≤_, _<_, min};
+ghost use lib.ListN.{length, take, drop};
+ghost use Rattle.checksum.specs.Checksum.{checksumBytes};
+ghost use Rattle.sections.specs.Sections.{sectionCount, sentLength, sizeOf, inSections, joined};
+ghost use Rattle.sections.specs.Steps.Sums.{Judges};
+
+// The checksums of all sections: right, or the first section whose is not.
+pub enum Sums {
+    Right,
+    Wrong(usize),
+}
+
+// A section, by its number.
+pub struct Section {
+    pub number: usize,
+}
+
+impl Section {
+    // The most data bytes of one.
+    pub const MOST: usize = 4000;
+    // The same with the checksum behind them.
+    pub const STEP: usize = 4002;
+}
+
+// How many sections n data bytes have.
+pub fn count(n: usize) -> usize
+    requires { ⌜ n < 2 ^ 14 ⌝ }
+    ensures { λ r. ⌜ r ≡ sectionCount n ⌝ }
+{
+    (n + (Section::MOST - 1)) / Section::MOST
+}
+
+// How many data bytes section k has.
+fn size(n: usize, k: usize) -> usize
+    requires { ⌜ (n < 2 ^ 14) × (k < sectionCount n) ⌝ }
+    ensures { λ r. ⌜ r ≡ sizeOf n k ⌝ }
+{
+    let left = n - k * Section::MOST;
+    if Section::MOST < left {
+        return Section::MOST;
+    }
+    left
+}
+
+// Whether the checksum of each section is right, and else of which it is not, the first.
+pub fn judge(n: usize, came: &[u8]) -> Sums
+    requires { ⌜ (n < 2 ^ 14) × (sentLength n ≤ length (now came)) ⌝ }
+    ensures { λ r. ⌜ Judges n (now (came .entry)) r ⌝ }
+{
+    let sections = count(n);
+    let mut k: usize = 0;
+    while k < sections {
+        let start = k * Section::STEP;
+        let end = start + size(n, k);
+        if !checksum::agrees(&came[start..end], came[end], came[end + 1]) {
+            return Sums::Wrong(k);
+        }
+        k += 1;
+    }
+    Sums::Right
+}
+
+// The sections in one piece, without their checksums, at the front of the buffer.
+pub fn join(n: usize, came: &[u8], out: &mut [u8])
+    requires { ⌜ (n < 2 ^ 14) × (sentLength n ≤ length (now came)) × (n ≤ length (now out)) ⌝ }
+    ensures { λ r. ⌜ now (out .exit) ≡ joined n (now (came .entry)) ++ drop n (now (out .entry)) ⌝ }
+{
+    let sections = count(n);
+    let mut k: usize = 0;
+    while k < sections {
+        let start = k * Section::STEP;
+        let end = start + size(n, k);
+        let place = k * Section::MOST;
+        bytes::copy(&came[start..end], &mut out[place..]);
+        k += 1;
+    }
+}
+
+// A few bytes moved from one place to another, by way of the stack, since the two may overlap.
+fn move_few(from: usize, to: usize, count: usize, body: &mut [u8])
+    requires { ⌜ (count ≤ 64) × (from + count ≤ length (now body)) × (to + count ≤ length (now body)) ⌝ }
+    ensures { λ r. ⌜ now (body .exit) ≡ take to (now (body .entry)) ++ (take count (drop from (now (body .entry))) ++ drop (to + count) (now (body .entry))) ⌝ }
+{
+    let mut few = [0u8; 64];
+    let end = from + count;
+    bytes::copy(&body[from..end], &mut few);
+    bytes::copy(&few[0..count], &mut body[to..]);
+}
+
+// How many are moved at once where so many are left.
+fn lesser(left: usize) -> usize
+    ensures { λ r. ⌜ r ≡ min left 64 ⌝ }
+{
+    if left < 64 {
+        return left;
+    }
+    64
+}
+
+// Bytes moved up from one place to another, the last first.
+fn move_up(from: usize, to: usize, count: usize, body: &mut [u8])
+    requires { ⌜ (from ≤ to) × (to + count ≤ length (now body)) ⌝ }
+    ensures { λ r. ⌜ now (body .exit) ≡ take to (now (body .entry)) ++ (take count (drop from (now (body .entry))) ++ drop (to + count) (now (body .entry))) ⌝ }
+{
+    let mut left = count;
+    while 0 < left {
+        let few = lesser(left);
+        left -= few;
+        move_few(from + left, to + left, few, body);
+    }
+}
+
+// The checksum of the bytes from one place to another, behind them.
+fn put_sum(start: usize, end: usize, body: &mut [u8])
+    requires { ⌜ (start ≤ end) × (end + 2 ≤ length (now body)) ⌝ }
+    ensures { λ r. ⌜ now (body .exit) ≡ take end (now (body .entry)) ++ (checksumBytes (take (end - start) (drop start (now (body .entry)))) ++ drop (end + 2) (now (body .entry))) ⌝ }
+{
+    let sum = checksum::checksum(&body[start..end]);
+    body[end] = checksum::low_byte(sum);
+    body[end + 1] = checksum::high_byte(sum);
+}
+
+// Section k out of data that lies in one piece, moved to where it is sent. The first stands there.
+fn move_section(n: usize, k: usize, body: &mut [u8])
+    requires { ⌜ (n < 2 ^ 14) × (k < sectionCount n) × (sentLength n ≤ length (now body)) ⌝ }
+    ensures { λ r. ⌜ now (body .exit) ≡ take (k * 4002) (now (body .entry)) ++ (take (sizeOf n k) (drop (k * 4000) (now (body .entry))) ++ drop (k * 4002 + sizeOf n k) (now (body .entry))) ⌝ }
+{
+    if 0 < k {
+        move_up(k * Section::MOST, k * Section::STEP, size(n, k), body);
+    }
+}
+
+// The data in sections, where it lay in one piece at the front of the buffer: the last section first, so that none is moved onto another.
+pub fn divide(n: usize, body: &mut [u8])
+    requires { ⌜ (n < 2 ^ 14) × (sentLength n ≤ length (now body)) ⌝ }
+    ensures { λ r. ⌜ now (body .exit) ≡ inSections (take n (now (body .entry))) ++ drop (sentLength n) (now (body .entry)) ⌝ }
+{
+    let mut k = count(n);
+    while 0 < k {
+        k -= 1;
+        move_section(n, k, body);
+        let start = k * Section::STEP;
+        let end = start + size(n, k);
+        put_sum(start, end, body);
+    }
+}
