@@ -11,17 +11,17 @@
 #include <string.h>
 #include <time.h>
 
-enum { MOST_ROUNDS = 101, IMPLEMENTATIONS = 4, LONG_TEXT = 12000 };
+enum { MOST_ROUNDS = 101, IMPLEMENTATIONS = 4, LONG_TEXT = 48000 };
 
-typedef rosopyat_read_answer reader(const uint8_t *, size_t, uint8_t *, size_t);
-typedef rosopyat_read_answer mending_reader(uint32_t, const uint8_t *, size_t, uint8_t *, size_t);
-typedef rosopyat_write_answer writer(uint32_t, bool, const uint8_t *, size_t, uint8_t *, size_t);
+typedef rosopyat_read_answer reader(bool, const uint8_t *, size_t, uint8_t *, size_t);
+typedef rosopyat_read_answer mending_reader(uint32_t, bool, const uint8_t *, size_t, uint8_t *, size_t);
+typedef rosopyat_write_answer writer(bool, uint32_t, bool, const uint8_t *, size_t, uint8_t *, size_t);
 
 static reader *const readers[IMPLEMENTATIONS] = {rosopyat_read, independent_read, tuned_read, small_read};
 static mending_reader *const mending_readers[IMPLEMENTATIONS] = {rosopyat_read_mending, independent_read_mending, tuned_read_mending, small_read_mending};
 static writer *const writers[IMPLEMENTATIONS] = {rosopyat_write, independent_write, tuned_write, small_write};
 
-static uint8_t source[LONG_TEXT + 400], packet[ROSOPYAT_MOST_PACKET], output[ROSOPYAT_MOST_TEXT], first_output[ROSOPYAT_MOST_TEXT];
+static uint8_t source[LONG_TEXT + 400], packet[ROSOPYAT_MOST_PACKET_1200], output[ROSOPYAT_MOST_TEXT], first_output[ROSOPYAT_MOST_TEXT];
 
 /* Realistic texts, the same in each run. */
 
@@ -100,11 +100,11 @@ static void make_full_ascii(void)
 /* The longest part of the source whose data is at most `size` bytes. */
 static size_t part_for(unsigned format, size_t size)
 {
-    size_t fits = 1, exceeds = LONG_TEXT;
+    size_t fits = 1, exceeds = LONG_TEXT, most_packet = size + 4 + (size + 3999) / 4000 * 2;
     while (exceeds - fits > 1) {
         size_t middle = fits + (exceeds - fits) / 2;
-        rosopyat_write_answer answer = tuned_write(format, false, source, middle, packet, 0);
-        if (answer.refusal == ROSOPYAT_TOO_LONG || answer.number > size + 6)
+        rosopyat_write_answer answer = tuned_write(true, format, false, source, middle, packet, 0);
+        if (answer.refusal == ROSOPYAT_TOO_LONG || answer.number > most_packet)
             exceeds = middle;
         else
             fits = middle;
@@ -117,6 +117,7 @@ static size_t part_for(unsigned format, size_t size)
 struct job {
     enum { READ, READ_MENDING, WRITE } call;
     uint32_t mend; /* the header bits that are named */
+    bool rate_1200;
     unsigned format;
     size_t text_length, packet_length;
     uint32_t refusal; /* that all must answer */
@@ -125,19 +126,19 @@ struct job {
 static uint32_t once(const struct job *job, int who)
 {
     if (job->call == READ)
-        return readers[who](packet, job->packet_length, output, sizeof output).refusal;
+        return readers[who](job->rate_1200, packet, job->packet_length, output, sizeof output).refusal;
     if (job->call == READ_MENDING)
-        return mending_readers[who](job->mend, packet, job->packet_length, output, sizeof output).refusal;
-    return writers[who](job->format, true, source, job->text_length, output, sizeof output).refusal;
+        return mending_readers[who](job->mend, job->rate_1200, packet, job->packet_length, output, sizeof output).refusal;
+    return writers[who](job->rate_1200, job->format, true, source, job->text_length, output, sizeof output).refusal;
 }
 
 /* What a reading answers, which all must answer alike; nothing of a writing. */
 static rosopyat_read_answer reading_of(const struct job *job, int who)
 {
     if (job->call == READ)
-        return readers[who](packet, job->packet_length, output, sizeof output);
+        return readers[who](job->rate_1200, packet, job->packet_length, output, sizeof output);
     if (job->call == READ_MENDING)
-        return mending_readers[who](job->mend, packet, job->packet_length, output, sizeof output);
+        return mending_readers[who](job->mend, job->rate_1200, packet, job->packet_length, output, sizeof output);
     return (rosopyat_read_answer){0};
 }
 
@@ -237,7 +238,7 @@ static void measure_wrong_headers(int rounds)
         struct job job = {.call = READ_MENDING, .mend = rows[r].mend, .refusal = rows[r].refusal};
         state = 1;
         make_open();
-        job.packet_length = tuned_write(0, true, source, 100, packet, sizeof packet).length;
+        job.packet_length = tuned_write(false, 0, true, source, 100, packet, sizeof packet).length;
         for (int i = 0; i < rows[r].wrong; i++)
             packet[i] ^= 4;
         measure(rows[r].what, "Open", 100, &job, rounds);
@@ -255,7 +256,15 @@ int main(int count, char **words)
                    {2, "Numeric", make_numeric},
                    {3, "SHEF", make_shef},
                    {4, "Full ASCII", make_full_ascii}};
-    static const size_t sizes[] = {100, 1000, 4000};
+    static const struct {
+        bool rate_1200;
+        size_t size;
+        const char *read, *write;
+    } rows[] = {{false, 100, "read", "write"},
+                {false, 1000, "read", "write"},
+                {false, 4000, "read", "write"},
+                {true, 8000, "read at 1200", "write at 1200"},
+                {true, 16000, "read at 1200", "write at 1200"}};
     int rounds = count > 1 ? atoi(words[1]) : 15;
     if (rounds < 1 || rounds > MOST_ROUNDS)
         rounds = 15;
@@ -265,12 +274,14 @@ int main(int count, char **words)
     for (int f = 0; f < 5; f++) {
         state = 1;
         formats[f].make();
-        for (int s = 0; s < 3; s++) {
-            struct job job = {.call = READ, .format = formats[f].format, .text_length = part_for(formats[f].format, sizes[s])};
-            job.packet_length = tuned_write(job.format, true, source, job.text_length, packet, sizeof packet).length;
-            measure("read", formats[f].name, job.packet_length - 6, &job, rounds);
+        for (int r = 0; r < 5; r++) {
+            struct job job = {.call = READ, .rate_1200 = rows[r].rate_1200, .format = formats[f].format};
+            job.text_length = part_for(job.format, rows[r].size);
+            job.packet_length = tuned_write(job.rate_1200, job.format, true, source, job.text_length, packet, sizeof packet).length;
+            size_t data_length = tuned_read(job.rate_1200, packet, job.packet_length, output, sizeof output).data_length;
+            measure(rows[r].read, formats[f].name, data_length, &job, rounds);
             job.call = WRITE;
-            measure("write", formats[f].name, job.packet_length - 6, &job, rounds);
+            measure(rows[r].write, formats[f].name, data_length, &job, rounds);
         }
     }
     measure_wrong_headers(rounds);

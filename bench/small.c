@@ -2,7 +2,7 @@
 #include "words.h"
 
 /* The longest text but Pseudo Binary's, and the longest data; behind each, what is written too much: sixteen bytes, and a run of 128 values. */
-enum { MOST_OWN_TEXT = 10668 + 16, MOST_DATA = 4000, MOST_OWN_DATA = MOST_DATA + 112 };
+enum { MOST_OWN_TEXT = 42668 + 16, MOST_OWN_DATA = MOST_DATA + 112 };
 
 /* The checksum: what four bit steps make of half a byte at the top of the register, which is at the top of the word, so that no mask is needed. */
 
@@ -70,7 +70,7 @@ static ALWAYS_INLINE uint32_t sum_in_parts(uint32_t sum, const uint8_t *data, si
 }
 #endif
 
-static uint16_t checksum(const uint8_t *data, size_t length)
+static inline uint16_t checksum(const uint8_t *data, size_t length)
 {
     uint32_t sum = 0xffff0000;
 #ifdef FOUR_PARTS
@@ -359,7 +359,8 @@ static ALWAYS_INLINE size_t text_of_numeric(const uint8_t *data, size_t length, 
 }
 
 /* Both readers have a copy of all this, so that the number of bits to mend costs nothing where it is known. */
-static ALWAYS_INLINE rosopyat_read_answer read_packet(uint32_t mend, const uint8_t *packet, size_t packet_length, uint8_t *text, size_t text_room)
+static ALWAYS_INLINE rosopyat_read_answer read_packet(uint32_t mend, bool rate_1200, const uint8_t *packet, size_t packet_length, uint8_t *text,
+                                                      size_t text_room)
 {
     if (mend > 2)
         return refuse_reading(17, 0);
@@ -381,16 +382,16 @@ static ALWAYS_INLINE rosopyat_read_answer read_packet(uint32_t mend, const uint8
     if ((flag & 0x61) != 0x40 || format > 4)
         return refuse_reading(3, 0);
     size_t length = header >> 10 & 0x3fff;
-    if (length - 1 > 3999)
+    if (length - 1 >= most_data(rate_1200))
         return refuse_reading(4, 0);
-    if (packet_length < length + 6)
+    if (packet_length < packet_size(length))
         return refuse_reading(5, 0);
-    const uint8_t *data = packet + 4;
-    if (checksum(data, length) != (data[length] | data[length + 1] << 8))
-        return refuse_reading(6, 0);
-
-    uint8_t own[MOST_OWN_TEXT];
+    uint8_t joined[MOST_DATA + 2], own[MOST_OWN_TEXT];
     size_t count = length, codes = 0, bad;
+    const uint8_t *data = data_in_one_part(packet, length, joined, &bad);
+    if (!data)
+        return refuse_reading(6, bad);
+
     bool readable = true;
     if (format == 1)
         readable = measure_pseudo_binary(data, length, &count, &codes, &bad);
@@ -416,17 +417,17 @@ static ALWAYS_INLINE rosopyat_read_answer read_packet(uint32_t mend, const uint8
                                   .codes = codes,
                                   .data_length = length,
                                   .text_length = count,
-                                  .used = length + 6};
+                                  .used = packet_size(length)};
 }
 
-rosopyat_read_answer small_read(const uint8_t *packet, size_t packet_length, uint8_t *text, size_t text_room)
+rosopyat_read_answer small_read(bool rate_1200, const uint8_t *packet, size_t packet_length, uint8_t *text, size_t text_room)
 {
-    return read_packet(1, packet, packet_length, text, text_room);
+    return read_packet(1, rate_1200, packet, packet_length, text, text_room);
 }
 
-rosopyat_read_answer small_read_mending(uint32_t mend, const uint8_t *packet, size_t packet_length, uint8_t *text, size_t text_room)
+rosopyat_read_answer small_read_mending(uint32_t mend, bool rate_1200, const uint8_t *packet, size_t packet_length, uint8_t *text, size_t text_room)
 {
-    return read_packet(mend, packet, packet_length, text, text_room);
+    return read_packet(mend, rate_1200, packet, packet_length, text, text_room);
 }
 
 /* Writing: the data is built once, in memory of our own, since a refusal may change nothing. Where it gets too long it is begun again over itself: then
@@ -642,43 +643,39 @@ static ALWAYS_INLINE bool data_of_numeric(const uint8_t *text, size_t length, ui
     return true;
 }
 
-/* The data of a text, its length, and whether all characters have a code. */
-static ALWAYS_INLINE bool data_of(unsigned format, const uint8_t *text, size_t length, uint8_t *own, size_t *data_length, size_t *bad)
+/* The data of a text, its length, which is one more than the most where it is too long, and whether all characters have a code. */
+static ALWAYS_INLINE bool data_of(unsigned format, const uint8_t *text, size_t length, uint8_t *own, size_t most, size_t *data_length, size_t *bad)
 {
-    struct out out = {.next = own, .limit = own + MOST_DATA};
+    struct out out = {.next = own, .limit = own + most};
     bool coded = format == 1   ? data_of_pseudo_binary(text, length, own, &out, bad)
                  : format == 2 ? data_of_numeric(text, length, own, &out, bad)
                  : format == 3 ? data_of_shef(text, length, own, &out, bad)
                                : data_of_full_ascii(text, length, own, &out, bad);
     if (out.have > 0)
         *out.next++ = out.held >> 56 | (format == 2 ? 10 : 0xffu >> out.have);
-    *data_length = out.too_long ? MOST_DATA + 1 : (size_t)(out.next - own);
+    *data_length = out.too_long ? most + 1 : (size_t)(out.next - own);
     return coded;
 }
 
-rosopyat_write_answer small_write(uint32_t format, bool sync, const uint8_t *text, size_t text_length, uint8_t *packet, size_t packet_room)
+rosopyat_write_answer small_write(bool rate_1200, uint32_t format, bool sync, const uint8_t *text, size_t text_length, uint8_t *packet, size_t packet_room)
 {
     if (format > 4)
         return refuse_writing(12, 0);
     if (text_length == 0)
         return refuse_writing(10, 0);
     uint8_t own[MOST_OWN_DATA];
-    size_t length = text_length, bad;
-    if (format != 0 && !data_of(format, text, text_length, own, &length, &bad))
+    size_t length = text_length, most = most_data(rate_1200), bad;
+    if (format != 0 && !data_of(format, text, text_length, own, most, &length, &bad))
         return refuse_writing(9, bad);
-    if (length > MOST_DATA)
+    if (length > most)
         return refuse_writing(11, 0);
-    if (packet_room < length + 6)
-        return refuse_writing(8, length + 6);
+    if (packet_room < packet_size(length))
+        return refuse_writing(8, packet_size(length));
 
-    uint8_t *data = packet + 4;
-    memcpy(data, format == 0 ? text : own, length);
     uint32_t flag = 0x40u | format << 2 | (uint32_t)sync << 1;
     flag |= (uint32_t)!__builtin_parity(flag) << 7;
     uint32_t header = flag << 24 | (uint32_t)length << 10;
     store_32(packet, header | check_bits(header));
-    uint16_t sum = checksum(data, length);
-    data[length] = sum;
-    data[length + 1] = sum >> 8;
-    return (rosopyat_write_answer){.length = length + 6};
+    put_sections(packet, format == 0 ? text : own, length);
+    return (rosopyat_write_answer){.length = packet_size(length)};
 }

@@ -1,7 +1,7 @@
 #include "tuned.h"
 #include "words.h"
 
-enum { MOST_FULL_ASCII = 7112, MOST_NUMERIC = 8004, MOST_SHEF = 10668, NOT_MENDABLE = 3 };
+enum { MOST_FULL_ASCII = 28446, MOST_NUMERIC = 32004, MOST_SHEF = 42668, NOT_MENDABLE = 3 };
 
 static uint32_t checksum_table[256];
 static uint16_t check_table[4][256];   /* what each header byte leaves as remainder; the top bit of the first is no part of it */
@@ -283,7 +283,8 @@ static ALWAYS_INLINE bool text_of_shef(const uint8_t *data, size_t length, uint8
 }
 
 /* Both readers have a copy of all this, so that the number of bits to mend costs nothing where it is known. */
-static ALWAYS_INLINE rosopyat_read_answer read_packet(uint32_t mend, const uint8_t *packet, size_t packet_length, uint8_t *text, size_t text_room)
+static ALWAYS_INLINE rosopyat_read_answer read_packet(uint32_t mend, bool rate_1200, const uint8_t *packet, size_t packet_length, uint8_t *text,
+                                                      size_t text_room)
 {
     if (mend > 2)
         return refuse_reading(17, 0);
@@ -305,15 +306,16 @@ static ALWAYS_INLINE rosopyat_read_answer read_packet(uint32_t mend, const uint8
     if ((flag & 0x61) != 0x40 || format > 4)
         return refuse_reading(3, 0);
     size_t length = header >> 10 & 0x3fff;
-    if (length - 1 > 3999)
+    if (length - 1 >= most_data(rate_1200))
         return refuse_reading(4, 0);
-    if (packet_length < length + 6)
+    if (packet_length < packet_size(length))
         return refuse_reading(5, 0);
-    const uint8_t *data = packet + 4;
-    if (checksum(data, length) != (data[length] | data[length + 1] << 8))
-        return refuse_reading(6, 0);
-
+    uint8_t joined[MOST_DATA + 2];
     size_t count = length, codes = 0, bad;
+    const uint8_t *data = data_in_one_part(packet, length, joined, &bad);
+    if (!data)
+        return refuse_reading(6, bad);
+
     if (format == 0) {
         if (text_room < count)
             return refuse_reading(8, count);
@@ -353,17 +355,17 @@ static ALWAYS_INLINE rosopyat_read_answer read_packet(uint32_t mend, const uint8
                                   .codes = codes,
                                   .data_length = length,
                                   .text_length = count,
-                                  .used = length + 6};
+                                  .used = packet_size(length)};
 }
 
-rosopyat_read_answer tuned_read(const uint8_t *packet, size_t packet_length, uint8_t *text, size_t text_room)
+rosopyat_read_answer tuned_read(bool rate_1200, const uint8_t *packet, size_t packet_length, uint8_t *text, size_t text_room)
 {
-    return read_packet(1, packet, packet_length, text, text_room);
+    return read_packet(1, rate_1200, packet, packet_length, text, text_room);
 }
 
-rosopyat_read_answer tuned_read_mending(uint32_t mend, const uint8_t *packet, size_t packet_length, uint8_t *text, size_t text_room)
+rosopyat_read_answer tuned_read_mending(uint32_t mend, bool rate_1200, const uint8_t *packet, size_t packet_length, uint8_t *text, size_t text_room)
 {
-    return read_packet(mend, packet, packet_length, text, text_room);
+    return read_packet(mend, rate_1200, packet, packet_length, text, text_room);
 }
 
 /* The bits that a text takes, or the index of its first character without a code. */
@@ -657,7 +659,7 @@ typedef void data_of_text(const uint8_t *, size_t, uint8_t *);
 static measure_text *const measures[5] = {NULL, measure_text_pseudo_binary, measure_text_numeric, measure_text_shef, measure_text_full_ascii};
 static data_of_text *const data_of[5] = {NULL, data_of_pseudo_binary, data_of_numeric, data_of_shef, data_of_full_ascii};
 
-rosopyat_write_answer tuned_write(uint32_t format, bool sync, const uint8_t *text, size_t text_length, uint8_t *packet, size_t packet_room)
+rosopyat_write_answer tuned_write(bool rate_1200, uint32_t format, bool sync, const uint8_t *text, size_t text_length, uint8_t *packet, size_t packet_room)
 {
     if (format > 4)
         return refuse_writing(12, 0);
@@ -666,23 +668,18 @@ rosopyat_write_answer tuned_write(uint32_t format, bool sync, const uint8_t *tex
     size_t bits = 8 * text_length, bad;
     if (format != 0 && !measures[format](text, text_length, &bits, &bad))
         return refuse_writing(9, bad);
-    if (bits > 32000)
+    if (bits > 8 * most_data(rate_1200))
         return refuse_writing(11, 0);
     size_t length = (bits + 7) / 8;
-    if (packet_room < length + 6)
-        return refuse_writing(8, length + 6);
+    if (packet_room < packet_size(length))
+        return refuse_writing(8, packet_size(length));
 
-    uint8_t *data = packet + 4;
-    if (format == 0)
-        memcpy(data, text, length);
-    else
-        data_of[format](text, text_length, data);
+    if (format != 0)
+        data_of[format](text, text_length, packet + 4);
     uint32_t flag = 0x40u | format << 2 | (uint32_t)sync << 1;
     flag |= (uint32_t)!__builtin_parity(flag) << 7;
     uint32_t header = flag << 24 | (uint32_t)length << 10;
     store_32(packet, header | check_bits(header));
-    uint16_t sum = checksum(data, length);
-    data[length] = sum;
-    data[length + 1] = sum >> 8;
-    return (rosopyat_write_answer){.length = length + 6};
+    put_sections(packet, format == 0 ? text : packet + 4, length);
+    return (rosopyat_write_answer){.length = packet_size(length)};
 }

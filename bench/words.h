@@ -1,4 +1,4 @@
-/* What tuned C and small C have in common, word for word: words of 64 bits, and the parts of Compact Pseudo Binary that need no table. */
+/* What tuned C and small C have in common, word for word: words of 64 bits, sections, and the parts of Compact Pseudo Binary that need no table. */
 #ifndef WORDS_H
 #define WORDS_H
 
@@ -58,6 +58,61 @@ static rosopyat_read_answer refuse_malformed(size_t bad, size_t codes)
 static rosopyat_write_answer refuse_writing(uint32_t refusal, size_t number)
 {
     return (rosopyat_write_answer){.refusal = refusal, .number = number};
+}
+
+/* Sections. Each side works out the checksum in its own way. */
+
+enum { SECTION = 4000, MOST_DATA = 4 * SECTION };
+
+static inline uint16_t checksum(const uint8_t *data, size_t length);
+
+static inline size_t most_data(bool rate_1200)
+{
+    return rate_1200 ? MOST_DATA : SECTION;
+}
+
+static inline size_t packet_size(size_t length)
+{
+    return likely(length <= SECTION) ? length + 6 : length + 4 + (length + SECTION - 1) / SECTION * 2;
+}
+
+static inline bool is_right(const uint8_t *data, size_t length)
+{
+    return checksum(data, length) == (data[length] | data[length + 1] << 8);
+}
+
+/* The data of a packet in one part, with two bytes behind it: its own where it has one section, and else its sections joined. NULL where a checksum is wrong,
+ * with the number of the first such section. */
+static ALWAYS_INLINE const uint8_t *data_in_one_part(const uint8_t *packet, size_t length, uint8_t joined[MOST_DATA + 2], size_t *bad)
+{
+    const uint8_t *from = packet + 4;
+    *bad = 0;
+    if (likely(length <= SECTION))
+        return is_right(from, length) ? from : NULL;
+    for (size_t done = 0; done < length; done += SECTION, from += SECTION + 2, ++*bad) {
+        size_t size = length - done < SECTION ? length - done : SECTION;
+        if (!is_right(from, size))
+            return NULL;
+        memcpy(joined + done, from, size);
+    }
+    joined[length] = joined[length + 1] = 0;
+    return joined;
+}
+
+/* Puts data into the sections of a packet, with their checksums. It may lie in the packet already, in one part behind the header: so the last section comes
+ * first, and none is put onto another. */
+static ALWAYS_INLINE void put_sections(uint8_t *packet, const uint8_t *data, size_t length)
+{
+    for (size_t section = (length + SECTION - 1) / SECTION; section-- > 0; length = section * SECTION) {
+        const uint8_t *from = data + section * SECTION;
+        uint8_t *to = packet + 4 + section * (SECTION + 2);
+        size_t size = length - section * SECTION;
+        if (to != from)
+            memmove(to, from, size);
+        uint16_t sum = checksum(to, size);
+        to[size] = sum;
+        to[size + 1] = sum >> 8;
+    }
 }
 
 /* Whether at most seven bits are all ones. */

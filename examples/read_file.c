@@ -1,6 +1,7 @@
 /* Reads a packet from a file and prints its text: read_file FILE. Status 0: printed; 1: refused; 2: a file could not be read or written. At most one wrong
  * header bit is mended, as on a live channel; for a weak recording that is known to hold a packet call rosopyat_read_mending with 2. Where a bit was mended,
- * a line on standard error says how many, and by the mask which: mended 1, mask 01000000 for the spare bit. */
+ * a line on standard error says how many, and by the mask which: mended 1, mask 01000000 for the spare bit. The message is one of 300 bps; for one of 1200 say
+ * true for false, and ROSOPYAT_MOST_PACKET_1200 and ROSOPYAT_MOST_TEXT_1200 for the sizes. */
 #include "rosopyat.h"
 
 #include <inttypes.h>
@@ -25,7 +26,7 @@ int main(int count, char **words)
     }
     fclose(file);
 
-    rosopyat_read_answer answer = rosopyat_read(packet, length, text, sizeof text);
+    rosopyat_read_answer answer = rosopyat_read(false, packet, length, text, sizeof text);
     if (answer.refusal != ROSOPYAT_ACCEPTED) {
         fprintf(stderr, "refused %u, number %zu\n", answer.refusal, answer.number);
         return 1;

@@ -1,5 +1,6 @@
 /* Writes the text of a file as a packet to standard output: write_file FORMAT FILE, where FORMAT is a number of rosopyat_format, 0 to 4.
- * Status 0: written; 1: refused; 2: a file could not be read or written, or FORMAT is no number. */
+ * Status 0: written; 1: refused; 2: a file could not be read or written, or FORMAT is no number. The message is one of 300 bps; for one of 1200 say true for
+ * the first false, and ROSOPYAT_MOST_TEXT_1200 and ROSOPYAT_MOST_PACKET_1200 for the sizes. */
 #include "rosopyat.h"
 
 #include <stdio.h>
@@ -29,7 +30,7 @@ int main(int count, char **words)
 
     /* what 32 bits do not hold is no format either: it must not be cut to one */
     uint32_t named = format < UINT32_MAX ? format : UINT32_MAX;
-    rosopyat_write_answer answer = rosopyat_write(named, false, text, length, packet, sizeof packet);
+    rosopyat_write_answer answer = rosopyat_write(false, named, false, text, length, packet, sizeof packet);
     if (answer.refusal != ROSOPYAT_ACCEPTED) {
         fprintf(stderr, "refused %u, number %zu\n", answer.refusal, answer.number);
         return 1;

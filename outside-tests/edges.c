@@ -1,6 +1,7 @@
 /* The published packets and messages (file given), the table of edges P1 to P15, M1 to M3 and Q1 to Q3, edges of Numeric and SHEF, every unreadable ending, the
- * numbers of formats and of header bits to mend, the mask of the mended bits, how many codes data has, through rosopyat.h: linked once with the independent
- * implementation under the library's names, and once with the library. */
+ * numbers of formats and of header bits to mend, the mask of the mended bits, how many codes data has; and of 1200 bps the lengths around the end of each
+ * section, damage in each, and what stands over its end; through rosopyat.h: linked once with the independent implementation under the library's names, and
+ * once with the library. Where nothing else is said, the rate is 300 bps. */
 #include "maker.h"
 #include "rosopyat.h"
 
@@ -25,6 +26,7 @@ _Static_assert(ROSOPYAT_ACCEPTED == 0 && ROSOPYAT_OPEN == 0 && ROSOPYAT_PSEUDO_B
                    ROSOPYAT_FULL_ASCII == 4,
                "numbers of the formats");
 _Static_assert(ROSOPYAT_MOST_DATA == 4000 && ROSOPYAT_OVERHEAD == 6 && ROSOPYAT_MOST_PACKET == 4006 && ROSOPYAT_MOST_TEXT == 85328, "limits");
+_Static_assert(ROSOPYAT_MOST_DATA_1200 == 16000 && ROSOPYAT_MOST_PACKET_1200 == 16012 && ROSOPYAT_MOST_TEXT_1200 == 341328, "limits at 1200");
 
 /* The parts of a header, as the library's mask has them. Each bit is in one of them, and in no other: their sum is no more than all bits. */
 _Static_assert(ROSOPYAT_MASK_PARITY == 0x80000000 && ROSOPYAT_MASK_TYPE == 0x60000000 && ROSOPYAT_MASK_EXTENDED_TYPE == 0x1c000000 &&
@@ -40,10 +42,12 @@ _Static_assert((uint64_t)ROSOPYAT_MASK_PARITY + ROSOPYAT_MASK_TYPE + ROSOPYAT_MA
                "each bit of the mask once");
 
 /* What a caller names: a narrower type would cut a format, or a number of bits to mend, to one of ours before the call. */
-_Static_assert(_Generic(&rosopyat_write, rosopyat_write_answer(*)(uint32_t, bool, const uint8_t *, size_t, uint8_t *, size_t): 1, default: 0),
+_Static_assert(_Generic(&rosopyat_write, rosopyat_write_answer(*)(bool, uint32_t, bool, const uint8_t *, size_t, uint8_t *, size_t): 1, default: 0),
                "parameters of the writer");
-_Static_assert(_Generic(&rosopyat_read_mending, rosopyat_read_answer(*)(uint32_t, const uint8_t *, size_t, uint8_t *, size_t): 1, default: 0),
+_Static_assert(_Generic(&rosopyat_read, rosopyat_read_answer(*)(bool, const uint8_t *, size_t, uint8_t *, size_t): 1, default: 0),
                "parameters of the reader");
+_Static_assert(_Generic(&rosopyat_read_mending, rosopyat_read_answer(*)(uint32_t, bool, const uint8_t *, size_t, uint8_t *, size_t): 1, default: 0),
+               "parameters of the reader that is told how many bits to mend");
 
 static unsigned checked, failed;
 
@@ -64,17 +68,25 @@ static void expect_bytes(const char *what, const uint8_t *got, const uint8_t *wa
 /* A reading names the most header bits to mend, or goes by the default. */
 enum { BY_DEFAULT = -1 };
 
+static bool rate_1200;
+
 static rosopyat_read_answer read_naming(int64_t named, const uint8_t *packet, size_t packet_length, uint8_t *text, size_t text_room)
 {
     if (named == BY_DEFAULT)
-        return rosopyat_read(packet, packet_length, text, text_room);
-    return rosopyat_read_mending(named, packet, packet_length, text, text_room);
+        return rosopyat_read(rate_1200, packet, packet_length, text, text_room);
+    return rosopyat_read_mending(named, rate_1200, packet, packet_length, text, text_room);
+}
+
+/* The data bytes of a packet of so many bytes. */
+static size_t data_length_of(size_t packet_length)
+{
+    return packet_length - 4 - (packet_length - 4 + 4001) / 4002 * 2;
 }
 
 static void expect_reading_naming(int64_t named, const char *what, const uint8_t *packet, size_t packet_length, unsigned format, uint32_t mask,
                                   size_t codes, const uint8_t *text, size_t text_length)
 {
-    static uint8_t got[ROSOPYAT_MOST_TEXT];
+    static uint8_t got[ROSOPYAT_MOST_TEXT_1200];
     rosopyat_read_answer answer = read_naming(named, packet, packet_length, got, sizeof got);
     expect(what, "refusal", answer.refusal, 0);
     expect(what, "number", answer.number, 0);
@@ -83,7 +95,7 @@ static void expect_reading_naming(int64_t named, const char *what, const uint8_t
     expect(what, "mended", answer.mended, __builtin_popcount(mask));
     expect(what, "mask", answer.mask, mask);
     expect(what, "codes", answer.codes, codes);
-    expect(what, "data length", answer.data_length, packet_length - 6);
+    expect(what, "data length", answer.data_length, data_length_of(packet_length));
     expect(what, "used", answer.used, packet_length);
     expect(what, "text length", answer.text_length, text_length);
     expect_bytes(what, got, text, text_length);
@@ -120,7 +132,7 @@ static void expect_refused(const char *what, const uint8_t *packet, size_t packe
 static void expect_not_written(const char *what, uint32_t format, const uint8_t *text, size_t text_length, unsigned refusal, size_t number)
 {
     uint8_t packet[16] = "as it was before", before[16] = "as it was before";
-    rosopyat_write_answer answer = rosopyat_write(format, false, text, text_length, packet, sizeof packet);
+    rosopyat_write_answer answer = rosopyat_write(rate_1200, format, false, text, text_length, packet, sizeof packet);
     expect(what, "refusal", answer.refusal, refusal);
     expect(what, "number", answer.number, number);
     expect_bytes(what, packet, before, sizeof packet);
@@ -128,8 +140,8 @@ static void expect_not_written(const char *what, uint32_t format, const uint8_t 
 
 static void expect_writing(const char *what, uint32_t format, const uint8_t *text, size_t text_length, const uint8_t *packet, size_t packet_length)
 {
-    uint8_t got[ROSOPYAT_MOST_PACKET];
-    rosopyat_write_answer answer = rosopyat_write(format, false, text, text_length, got, sizeof got);
+    uint8_t got[ROSOPYAT_MOST_PACKET_1200];
+    rosopyat_write_answer answer = rosopyat_write(rate_1200, format, false, text, text_length, got, sizeof got);
     expect(what, "refusal", answer.refusal, 0);
     expect(what, "number", answer.number, 0);
     expect(what, "length", answer.length, packet_length);
@@ -169,7 +181,7 @@ static void expect_malformed(const char *what, unsigned format, const char *data
 static void expect_header(const char *what, unsigned format, const char *text, size_t length, const char *header)
 {
     uint8_t packet[ROSOPYAT_MOST_PACKET];
-    rosopyat_write(format, false, (const uint8_t *)text, length, packet, sizeof packet);
+    rosopyat_write(false, format, false, (const uint8_t *)text, length, packet, sizeof packet);
     expect_bytes(what, packet, (const uint8_t *)header, 4);
 }
 
@@ -279,7 +291,7 @@ static void masks_of_each_bit(void)
             char what[32];
             sprintf(what, "mask of bit %u", bit);
             packet[bit / 8] ^= 0x80 >> bit % 8;
-            rosopyat_read_answer answer = rosopyat_read(packet, packet_length, text, sizeof text);
+            rosopyat_read_answer answer = rosopyat_read(false, packet, packet_length, text, sizeof text);
             expect(what, "mask", answer.mask, 0x80000000 >> bit);
             expect(what, "mask in its part", answer.mask & parts[i].part, 0x80000000 >> bit);
             packet[bit / 8] ^= 0x80 >> bit % 8;
@@ -299,7 +311,7 @@ static void too_many_bits(void)
         expect_refused_naming(above[i], what, NULL, 0, 17, 0);
         for (size_t length = 0; length <= packet_length; length++)
             expect_refused_naming(above[i], what, packet, length, 17, 0);
-        rosopyat_read_answer answer = rosopyat_read_mending(above[i], packet, packet_length, NULL, 0);
+        rosopyat_read_answer answer = rosopyat_read_mending(above[i], false, packet, packet_length, NULL, 0);
         expect(what, "refusal with no room", answer.refusal, 17);
         expect(what, "number with no room", answer.number, 0);
     }
@@ -495,7 +507,7 @@ static void endings(void)
 
 static void expect_count(unsigned format, struct maker_bits *bits, unsigned character)
 {
-    static uint8_t text[2 * ROSOPYAT_MOST_DATA];
+    static uint8_t text[2 * ROSOPYAT_MOST_DATA_1200];
     char what[64];
     size_t codes = bits->codes;
     sprintf(what, "%zu codes of format %u", codes, format);
@@ -527,7 +539,7 @@ static void most_codes_in(size_t data_length)
     } rows[] = {{1, 6, ' '}, {2, 4, '0'}, {3, 5, '0'}, {4, 6, ' '}};
     const size_t most[] = {4 * data_length / 3, 2 * data_length, 8 * data_length / 5, 4 * data_length / 3};
     for (unsigned i = 0; i < 4; i++) {
-        uint8_t packet[ROSOPYAT_MOST_PACKET];
+        uint8_t packet[ROSOPYAT_MOST_PACKET_1200];
         struct maker_bits bits = {packet + 4, 0, 0};
         while (8 * data_length - bits.bits >= rows[i].width)
             maker_code(&bits, 0, rows[i].width);
@@ -577,7 +589,7 @@ static void refused_without_codes(void)
         uint8_t packet[64];
         memcpy(packet + 4, rows[format].data, rows[format].data_length);
         size_t packet_length = maker_close(packet, MAKER_FLAG_OPEN | format << 2, rows[format].data_length);
-        rosopyat_read_answer answer = rosopyat_read(packet, packet_length, NULL, 0);
+        rosopyat_read_answer answer = rosopyat_read(false, packet, packet_length, NULL, 0);
         expect("no room", "refusal", answer.refusal, 8);
         expect("no room", "number", answer.number, rows[format].text_length);
         expect("no room", "codes", answer.codes, 0);
@@ -585,6 +597,227 @@ static void refused_without_codes(void)
         packet[packet_length - 1] ^= 1;
         expect_refused("checksum", packet, packet_length, 6, 0, 0);
     }
+}
+
+/* Sections, at 1200 bps. */
+
+static uint8_t long_text[ROSOPYAT_MOST_TEXT_1200 + 16], long_packet[ROSOPYAT_MOST_PACKET_1200 + 64];
+
+/* Bytes of which no two neighbouring sections have the same. */
+static void put_long_text(size_t length)
+{
+    for (size_t i = 0; i < length; i++)
+        long_text[i] = i * 7 + i / 251;
+}
+
+static size_t make_open(size_t data_length)
+{
+    put_long_text(data_length);
+    memcpy(long_packet + 4, long_text, data_length);
+    return maker_close(long_packet, MAKER_FLAG_OPEN, data_length);
+}
+
+static void expect_room_needed(const char *what, unsigned format, const uint8_t *text, size_t text_length, size_t room, size_t packet_length)
+{
+    static uint8_t packet[ROSOPYAT_MOST_PACKET_1200], before[ROSOPYAT_MOST_PACKET_1200];
+    rosopyat_write_answer answer = rosopyat_write(rate_1200, format, false, text, text_length, packet, room);
+    expect(what, "refusal", answer.refusal, 8);
+    expect(what, "number", answer.number, packet_length);
+    expect_bytes(what, packet, before, sizeof packet);
+}
+
+/* The length of the packet is added up here, and at 300 there is none of several sections. */
+static void lengths_of_sections(void)
+{
+    static const struct {
+        size_t data_length, packet_length;
+    } rows[] = {{1, 7},       {3999, 4005},   {4000, 4006},   {4001, 4009},   {7999, 8007},   {8000, 8008},
+                {8001, 8011}, {11999, 12009}, {12000, 12010}, {12001, 12013}, {15999, 16011}, {16000, 16012}};
+    for (unsigned i = 0; i < sizeof rows / sizeof *rows; i++) {
+        char what[64];
+        size_t data_length = rows[i].data_length, packet_length = make_open(data_length);
+        sprintf(what, "%zu data bytes", data_length);
+        expect(what, "packet length", packet_length, rows[i].packet_length);
+        for (unsigned rate = 0; rate < 2; rate++) {
+            rate_1200 = rate;
+            if (!rate_1200 && data_length > ROSOPYAT_MOST_DATA) {
+                expect_refused(what, long_packet, packet_length, 4, 0, 0);
+                expect_refused_naming(2, what, long_packet, packet_length, 4, 0);
+                expect_not_written(what, 0, long_text, data_length, 11, 0);
+                continue;
+            }
+            expect_reading(what, long_packet, packet_length, 0, 0, long_text, data_length);
+            expect_reading_naming(0, what, long_packet, packet_length, 0, 0, 0, long_text, data_length);
+            expect_writing(what, 0, long_text, data_length, long_packet, packet_length);
+            for (size_t lacking = 1; lacking <= 8 && lacking < packet_length - 4; lacking++) {
+                expect_refused(what, long_packet, packet_length - lacking, 5, 0, 0);
+                expect_room_needed(what, 0, long_text, data_length, packet_length - lacking, packet_length);
+            }
+        }
+    }
+    rate_1200 = true;
+    for (size_t data_length = 16001; data_length <= 16383; data_length += 191) {
+        uint8_t packet[17000] = {0};
+        size_t packet_length = maker_close(packet, MAKER_FLAG_OPEN, data_length);
+        expect_refused("more than 16,000", packet, packet_length, 4, 0, 0);
+        expect_refused("more than 16,000", packet, 4, 4, 0, 0);
+        put_long_text(data_length);
+        expect_not_written("more than 16,000", 0, long_text, data_length, 11, 0);
+    }
+    expect_refused("no data", (const uint8_t *)"\x40\x00\x03\xb4\xff\xff", 6, 4, 0, 0);
+    rate_1200 = false;
+}
+
+/* The damage lies within one section's data, or within its checksum: that section's number, whatever header bits were flipped, and nothing handed out. */
+static void expect_bad_section(size_t packet_length, size_t place, unsigned bytes, unsigned section)
+{
+    static const uint32_t flips[] = {0, 0x80000000, 0x00000001, 0x00400200};
+    for (unsigned i = 0; i < sizeof flips / sizeof *flips; i++) {
+        char what[64];
+        sprintf(what, "section %u, %u bytes changed at %zu, bits %08X flipped", section, bytes, place, (unsigned)flips[i]);
+        for (int k = 0; k < 4; k++)
+            long_packet[k] ^= flips[i] >> (24 - 8 * k);
+        expect_refused_naming(2, what, long_packet, packet_length, 6, section);
+        if (__builtin_popcount(flips[i]) < 2)
+            expect_refused(what, long_packet, packet_length, 6, section, 0);
+        for (int k = 0; k < 4; k++)
+            long_packet[k] ^= flips[i] >> (24 - 8 * k);
+    }
+}
+
+static void damage_at(size_t packet_length, size_t place, unsigned bytes, unsigned section)
+{
+    static const uint8_t changes[][2] = {{0x01, 0x80}, {0xff, 0xff}, {0x80, 0x01}};
+    for (unsigned i = 0; i < sizeof changes / sizeof *changes; i++) {
+        for (unsigned k = 0; k < bytes; k++)
+            long_packet[place + k] ^= changes[i][k];
+        expect_bad_section(packet_length, place, bytes, section);
+        for (unsigned k = 0; k < bytes; k++)
+            long_packet[place + k] ^= changes[i][k];
+    }
+}
+
+static void damaged_sections(void)
+{
+    static const size_t lengths[] = {4000, 4001, 4002, 8000, 12001, 16000};
+    rate_1200 = true;
+    for (unsigned i = 0; i < sizeof lengths / sizeof *lengths; i++) {
+        size_t packet_length = make_open(lengths[i]);
+        for (unsigned section = 0; section * 4000 < lengths[i]; section++) {
+            size_t first = 4 + section * 4002, size = lengths[i] - section * 4000 < 4000 ? lengths[i] - section * 4000 : 4000;
+            damage_at(packet_length, first, 1, section);
+            damage_at(packet_length, first + size / 2, 1, section);
+            damage_at(packet_length, first + size - 1, 1, section);
+            if (size > 1) {
+                damage_at(packet_length, first, 2, section);
+                damage_at(packet_length, first + size - 2, 2, section);
+            }
+            damage_at(packet_length, first + size, 1, section);
+            damage_at(packet_length, first + size + 1, 1, section);
+            damage_at(packet_length, first + size, 2, section);
+        }
+    }
+    /* of several the first */
+    size_t packet_length = make_open(16000);
+    for (unsigned section = 4; section-- > 0;) {
+        long_packet[4 + section * 4002] ^= 1;
+        expect_bad_section(packet_length, 4 + section * 4002, 1, section);
+    }
+    rate_1200 = false;
+}
+
+/* Codes of one character each, nearly to the end of the first section; then text whose code goes on over it, or whose codes do. */
+static void over_the_end(void)
+{
+    static const struct {
+        const char *what;
+        unsigned format, code, width, character, count; /* each of the first, and how many they are */
+        unsigned over[3], widths[3], codes;             /* those that stand over the end, and how many they are */
+        const char *text;
+    } rows[] = {
+        {"a space over the end", 1, 0x10, 6, '/', 5333, {0x0f}, {6}, 1, "                "},
+        {"values over the end", 1, 0x10, 6, '/', 5332, {0x81, 1, 2}, {8, 6, 6}, 3, "AB"},
+        {"a pair over the end", 2, 1, 4, '1', 7999, {0xb, 0xd, 0x7}, {4, 4, 4}, 3, "#7"},
+        {"a line end over the end", 2, 1, 4, '1', 7999, {0xb, 0xb, 0xb}, {4, 4, 4}, 3, "\r\n+"},
+        {"a letter over the end", 3, 0x20, 6, 'A', 5333, {0x21}, {6}, 1, "B"},
+        {"a line end over the end", 3, 0x20, 6, 'A', 5333, {0x3a}, {6}, 1, "\r\n"},
+        {"a letter over the end", 4, 1, 6, '!', 5333, {'B'}, {7}, 1, "B"},
+        {"CR LF over the end", 4, 1, 6, '!', 5333, {0x1ff}, {9}, 1, "\r\n"},
+    };
+    rate_1200 = true;
+    for (unsigned i = 0; i < sizeof rows / sizeof *rows; i++) {
+        struct maker_bits bits = {long_packet + 4, 0, 0};
+        size_t text_length = rows[i].count + strlen(rows[i].text);
+        for (unsigned k = 0; k < rows[i].count; k++)
+            maker_code(&bits, rows[i].code, rows[i].width);
+        expect(rows[i].what, "codes before the end", bits.bits < 32000, 1);
+        for (unsigned k = 0; k < rows[i].codes; k++)
+            maker_code(&bits, rows[i].over[k], rows[i].widths[k]);
+        expect(rows[i].what, "bits behind the end", bits.bits > 32000, 1);
+        memset(long_text, rows[i].character, rows[i].count);
+        memcpy(long_text + rows[i].count, rows[i].text, strlen(rows[i].text));
+        size_t packet_length = maker_close(long_packet, MAKER_FLAG_OPEN | rows[i].format << 2, maker_fill(&bits));
+        expect_reading(rows[i].what, long_packet, packet_length, rows[i].format, bits.codes, long_text, text_length);
+        if (rows[i].format != 1) /* where the writer has fuller runs */
+            expect_writing(rows[i].what, rows[i].format, long_text, text_length, long_packet, packet_length);
+    }
+    rate_1200 = false;
+}
+
+/* Six ones of SHEF, and values that are missing: before the end of a section, over it, behind it. Bits are counted as if the data lay in one piece. */
+static void malformed_over_the_end(void)
+{
+    rate_1200 = true;
+    for (unsigned section = 1; section < 4; section++)
+        for (unsigned over = 0; over < 12; over++) {
+            struct maker_bits bits = {long_packet + 4, 0, 0};
+            while (bits.bits + 5 < 32000 * section - 6 * over)
+                maker_code(&bits, 1, 5);
+            size_t bad = bits.bits;
+            maker_put(&bits, 0x3f, 6);
+            for (unsigned k = 0; k < 12; k++)
+                maker_put(&bits, 0x5a, 8);
+            size_t packet_length = maker_close(long_packet, MAKER_FLAG_OPEN | 3 << 2, maker_fill(&bits));
+            expect_refused("six ones over the end", long_packet, packet_length, 7, bad, bits.codes);
+            long_packet[packet_length - 1] ^= 1;
+            expect_refused("and a bad section", long_packet, packet_length, 6, section, 0);
+
+            bits = (struct maker_bits){long_packet + 4, 0, 0};
+            while (bits.bits < 32000 * section - 6 * over)
+                maker_code(&bits, 0x1f, 6);
+            put_values(&bits, 128, over + 1);
+            while (bits.bits % 8 != 4)
+                maker_code(&bits, 63, 6);
+            bad = bits.bits;
+            packet_length = maker_close(long_packet, MAKER_FLAG_PSEUDO_BINARY, maker_fill(&bits));
+            expect_refused("values missing", long_packet, packet_length, 7, bad, bits.codes);
+        }
+    rate_1200 = false;
+}
+
+/* The longest texts, and the most codes. */
+static void longest_at_1200(void)
+{
+    rate_1200 = true;
+    struct maker_bits bits = {long_packet + 4, 0, 0};
+    while (bits.codes < 21333)
+        maker_code(&bits, 0x1f, 6);
+    size_t packet_length = maker_close(long_packet, MAKER_FLAG_PSEUDO_BINARY, maker_fill(&bits));
+    memset(long_text, '/', sizeof long_text);
+    expect("longest text", "packet length", packet_length, 16012);
+    expect_reading("longest text", long_packet, packet_length, 1, 21333, long_text, 341328);
+    expect_writing("longest text", 1, long_text, 341328, long_packet, packet_length);
+    expect_not_written("a text too long", 1, long_text, 341329, 11, 0);
+    rosopyat_read_answer answer = rosopyat_read(true, long_packet, packet_length, NULL, 0);
+    expect("longest text", "refusal with no room", answer.refusal, 8);
+    expect("longest text", "number with no room", answer.number, 341328);
+    for (size_t data_length = 4000; data_length <= 16000; data_length += 4000) {
+        most_codes_in(data_length - 1);
+        most_codes_in(data_length);
+        if (data_length < 16000)
+            most_codes_in(data_length + 1);
+    }
+    rate_1200 = false;
 }
 
 /* Formats. All but five are refused, whatever their low bits say. */
@@ -701,7 +934,7 @@ static unsigned published_message(const char *title, const uint8_t *text, size_t
             expect_not_written(title, format, text, length, 9, index);
             continue;
         }
-        rosopyat_write_answer answer = rosopyat_write(format, false, text, length, packet, sizeof packet);
+        rosopyat_write_answer answer = rosopyat_write(false, format, false, text, length, packet, sizeof packet);
         expect(title, "refusal", answer.refusal, 0);
         memcpy(back, text, length);
         back[length] = ' ';
@@ -769,7 +1002,15 @@ int main(int count, char **words)
     values_missing();
     refused_without_codes();
     formats();
-    expect("published", "packets", published(words[1]), 6);
+    lengths_of_sections();
+    damaged_sections();
+    over_the_end();
+    malformed_over_the_end();
+    longest_at_1200();
+    for (unsigned rate = 2; rate-- > 0;) { /* a packet of one section is the same at both */
+        rate_1200 = rate;
+        expect("published", "packets", published(words[1]), 6);
+    }
     printf("%u facts checked, %u wrong\n", checked, failed);
     return failed != 0;
 }

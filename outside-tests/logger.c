@@ -2,7 +2,7 @@
  *
  * Fixed cases come first, then as many random ones as are named, from a fixed seed. A difference in any member of an answer or any byte of a buffer or
  * behind it, a byte changed though the text was refused, or a touch of the page behind the text ends the run with status 1. So does an answer that never
- * occurred: in both parts each refusal, and in each format all that it can answer.
+ * occurred: in both parts each refusal, in each format at each rate all that it can answer, and the lengths around the end of each section.
  *
  * Every call of the logger's writer runs on a stack of its own, full of a pattern. The deepest byte that any call changed counts, less that of a call of
  * logger_nothing: so the return address and the arguments do not count. A changed byte may be the pattern's by chance: there are two, used in turn. */
@@ -18,10 +18,10 @@
 #include <unistd.h>
 
 /* The script links rosopyat_write of the archive under this name. */
-rosopyat_write_answer logger_write(uint32_t format, bool sync, const uint8_t *text, size_t text_length, uint8_t *packet, size_t packet_room);
-rosopyat_write_answer logger_nothing(uint32_t format, bool sync, const uint8_t *text, size_t text_length, uint8_t *packet, size_t packet_room);
+typedef rosopyat_write_answer writer(bool, uint32_t, bool, const uint8_t *, size_t, uint8_t *, size_t);
+writer logger_write, logger_nothing;
 
-enum { FORMATS = 5, REFUSALS = 13, GUARD = 32, LARGE = 9000, BUFFER = LARGE + 2 * GUARD, MOST_TEXT = 90112, PAGE = 4096, STACK = 16384 };
+enum { RATES = 2, FORMATS = 5, REFUSALS = 13, GUARD = 32, LARGE = 20000, BUFFER = LARGE + 2 * GUARD, PAGE = 4096, MOST_TEXT = 88 * PAGE, STACK = 8 * PAGE };
 
 /* Random numbers. */
 
@@ -109,9 +109,8 @@ static void prepare(void)
 
 /* Calls on the measured stack. */
 
-typedef rosopyat_write_answer writer(uint32_t, bool, const uint8_t *, size_t, uint8_t *, size_t);
-
 static struct call {
+    bool rate_1200;
     uint32_t format;
     bool sync;
     const uint8_t *text;
@@ -125,7 +124,7 @@ static size_t deepest; /* of all calls so far */
 
 static void make_call(void)
 {
-    answer = called(call.format, call.sync, call.text, call.text_length, ours + GUARD, call.room);
+    answer = called(call.rate_1200, call.format, call.sync, call.text, call.text_length, ours + GUARD, call.room);
 }
 
 static size_t depth_with(unsigned pattern)
@@ -137,7 +136,10 @@ static size_t depth_with(unsigned pattern)
     there.uc_link = &here;
     makecontext(&there, make_call, 0);
     swapcontext(&here, &there);
+    const uint64_t eight = pattern * UINT64_C(0x0101010101010101);
     size_t same = 0;
+    while (same < STACK && memcmp(stack + same, &eight, 8) == 0)
+        same += 8;
     while (same < STACK && stack[same] == pattern)
         same++;
     return STACK - same;
@@ -154,17 +156,30 @@ static rosopyat_write_answer call_on_stack(writer *function)
 
 /* One case. */
 
-static unsigned long random_or_fixed[2][REFUSALS], by_format[FORMATS][REFUSALS], data_3999, data_4000, longest_texts;
+/* Packets of so many bytes must occur: around the end of each section, of one at 300, of four at 1200. */
+static const struct {
+    bool rate_1200;
+    unsigned data_length, packet_length;
+} lengths[] = {{false, 3999, 4005}, {false, 4000, 4006}, {true, 3999, 4005},   {true, 4000, 4006},   {true, 4001, 4009},   {true, 7999, 8007},
+               {true, 8000, 8008},  {true, 8001, 8011},  {true, 12000, 12010}, {true, 12001, 12013}, {true, 15999, 16011}, {true, 16000, 16012}};
+enum { LENGTHS = sizeof lengths / sizeof *lengths };
+
+static unsigned long random_or_fixed[2][REFUSALS], by_format[RATES][FORMATS][REFUSALS], of_length[LENGTHS], longest_texts[RATES];
 static bool is_random;
+
+static size_t most_text(bool rate_1200)
+{
+    return rate_1200 ? ROSOPYAT_MOST_TEXT_1200 : ROSOPYAT_MOST_TEXT;
+}
 
 static void count_answer(rosopyat_write_answer a)
 {
     random_or_fixed[is_random][a.refusal]++;
     if (call.format < FORMATS)
-        by_format[call.format][a.refusal]++;
-    data_3999 += a.length == 4005;
-    data_4000 += a.length == 4006;
-    longest_texts += a.refusal == 0 && call.text_length == ROSOPYAT_MOST_TEXT;
+        by_format[call.rate_1200][call.format][a.refusal]++;
+    for (unsigned i = 0; i < LENGTHS; i++)
+        of_length[i] += call.rate_1200 == lengths[i].rate_1200 && a.length == lengths[i].packet_length;
+    longest_texts[call.rate_1200] += a.refusal == 0 && call.text_length == most_text(call.rate_1200);
 }
 
 static const char *compare(rosopyat_write_answer a, rosopyat_write_answer b)
@@ -183,11 +198,11 @@ static const char *compare(rosopyat_write_answer a, rosopyat_write_answer b)
 static void write_case(void)
 {
     rosopyat_write_answer a = call_on_stack(logger_write);
-    rosopyat_write_answer b = independent_write(call.format, call.sync, call.text, call.text_length, theirs + GUARD, call.room);
+    rosopyat_write_answer b = independent_write(call.rate_1200, call.format, call.sync, call.text, call.text_length, theirs + GUARD, call.room);
     const char *wrong = compare(a, b);
     if (wrong) {
         printf("differs: case %lu: %s\n", case_number, wrong);
-        printf("format %u sync %u room %zu, text of %zu bytes:", call.format, call.sync, call.room, call.text_length);
+        printf("%s bps, format %u sync %u room %zu, text of %zu bytes:", call.rate_1200 ? "1200" : "300", call.format, call.sync, call.room, call.text_length);
         for (size_t i = 0; i < call.text_length && i < 64; i++)
             printf(" %02X", call.text[i]);
         printf("%s\n", call.text_length > 64 ? " ..." : "");
@@ -204,7 +219,7 @@ static void write_case(void)
 /* The room that the text of `call` needs, or any where it is refused. */
 static size_t room_needed(void)
 {
-    rosopyat_write_answer asked = independent_write(call.format, call.sync, call.text, call.text_length, NULL, 0);
+    rosopyat_write_answer asked = independent_write(call.rate_1200, call.format, call.sync, call.text, call.text_length, NULL, 0);
     return asked.refusal == 8 ? asked.number : 100;
 }
 
@@ -216,16 +231,19 @@ static void set_text(uint32_t format, const uint8_t *text, size_t length)
     memcpy(text_end - length, text, length);
 }
 
-/* With and without sync, in each kind of room. */
+/* At both rates, with and without sync, in each kind of room. */
 static void write_in_rooms(uint32_t format, const uint8_t *text, size_t length)
 {
     set_text(format, text, length);
-    size_t needed = room_needed();
-    const size_t rooms[] = {needed, needed - 1, 0, LARGE};
-    for (unsigned i = 0; i < 8; i++) {
-        call.room = rooms[i / 2];
-        call.sync = i % 2;
-        write_case();
+    for (unsigned rate = 0; rate < RATES; rate++) {
+        call.rate_1200 = rate;
+        size_t needed = room_needed();
+        const size_t rooms[] = {needed, needed - 1, 0, LARGE};
+        for (unsigned i = 0; i < 8; i++) {
+            call.room = rooms[i / 2];
+            call.sync = i % 2;
+            write_case();
+        }
     }
 }
 
@@ -279,22 +297,23 @@ static void make_text(unsigned format, uint8_t *text, size_t length)
         part_pairs(text, length);
 }
 
-/* Long texts of each format, and how much of each has data of at most 3,999 and 4,000 bytes. The first of each is the longest that a packet can hold. */
+/* Long texts of each format, and how much of each has data of at most so many bytes. The first of each is the longest that a packet can hold. */
 
-enum { LONG_TEXTS = 6, CUTS = 2 };
+static const size_t most_packet[] = {4005, 4006, 8007, 8008, 12010, 16011, 16012};
+enum { LONG_TEXTS = 4, CUTS = sizeof most_packet / sizeof *most_packet };
 
 static struct long_text {
     uint8_t text[MOST_TEXT];
     size_t cut[CUTS];
 } long_texts[FORMATS][LONG_TEXTS];
 
-static size_t longest_part(unsigned format, const uint8_t *text, size_t length, size_t most_packet)
+static size_t longest_part(unsigned format, const uint8_t *text, size_t length, size_t most)
 {
     size_t fits = 1, exceeds = length;
     while (exceeds - fits > 1) {
         size_t middle = fits + (exceeds - fits) / 2;
-        rosopyat_write_answer asked = independent_write(format, false, text, middle, NULL, 0);
-        if (asked.refusal == 8 && asked.number <= most_packet)
+        rosopyat_write_answer asked = independent_write(true, format, false, text, middle, NULL, 0);
+        if (asked.refusal == 8 && asked.number <= most)
             fits = middle;
         else
             exceeds = middle;
@@ -305,7 +324,7 @@ static size_t longest_part(unsigned format, const uint8_t *text, size_t length, 
 static void make_long_text(unsigned format, unsigned index)
 {
     struct long_text *made = &long_texts[format][index];
-    size_t length = format == 1 && index < 2 ? 90000 : 12000;
+    size_t length = format == 1 && index < 2 ? 350000 : 48000;
     make_text(format, made->text, length);
     if (format == 2)
         part_pairs(made->text, length);
@@ -314,7 +333,7 @@ static void make_long_text(unsigned format, unsigned index)
     for (size_t i = 0; format == 1 && index == 1 && i < length; i++)
         made->text[i] = " /"[i / 97 % 2];
     for (unsigned cut = 0; cut < CUTS; cut++)
-        made->cut[cut] = longest_part(format, made->text, length, 4005 + cut);
+        made->cut[cut] = longest_part(format, made->text, length, most_packet[cut]);
 }
 
 static void make_long_texts(void)
@@ -363,7 +382,7 @@ static void write_fixed(void)
 static size_t some_length(void)
 {
     unsigned dice = below(100);
-    return dice < 3 ? 0 : dice < 45 ? between(1, 8) : dice < 75 ? between(1, 64) : dice < 99 ? between(1, 600) : between(600, 20000);
+    return dice < 3 ? 0 : dice < 45 ? between(1, 8) : dice < 75 ? between(1, 64) : dice < 99 ? between(1, 600) : between(600, call.rate_1200 ? 60000 : 20000);
 }
 
 static uint32_t some_format(void)
@@ -392,6 +411,7 @@ static void write_random(void)
     static uint8_t text[MOST_TEXT];
     uint32_t format = some_format();
     unsigned made_for = format < FORMATS ? format : below(FORMATS);
+    call.rate_1200 = below(RATES);
     size_t length = some_length();
     if (chance(1)) {
         const struct long_text *from = &long_texts[made_for][below(LONG_TEXTS)];
@@ -423,16 +443,28 @@ static bool print_counts(const char *name, const unsigned long *counts, unsigned
     return missing;
 }
 
+static bool print_count(const char *name, size_t length, unsigned long count)
+{
+    printf("of %zu %s: %lu%s\n", length, name, count, count == 0 ? ": NEVER OCCURRED" : "");
+    return count == 0;
+}
+
 /* A bit for each answer that must occur. */
 static bool all_occurred(void)
 {
     static const char *const names[FORMATS] = {"Open", "Pseudo Binary", "Numeric", "SHEF", "Full ASCII"};
     bool missing = print_counts("fixed cases", random_or_fixed[0], 0x1f01);
     missing |= print_counts("random cases", random_or_fixed[1], 0x1f01);
-    for (unsigned format = 0; format < FORMATS; format++)
-        missing |= print_counts(names[format], by_format[format], format == 0 ? 0xd01 : 0xf01);
-    printf("data of 3999 bytes %lu, of 4000 %lu, texts of %u characters %lu\n", data_3999, data_4000, ROSOPYAT_MOST_TEXT, longest_texts);
-    return !missing && data_3999 > 0 && data_4000 > 0 && longest_texts > 0;
+    for (unsigned rate = 0; rate < RATES; rate++) {
+        printf("at %s bps\n", rate ? "1200" : "300");
+        for (unsigned format = 0; format < FORMATS; format++)
+            missing |= print_counts(names[format], by_format[rate][format], format == 0 ? 0xd01 : 0xf01);
+        for (unsigned i = 0; i < LENGTHS; i++)
+            if (lengths[i].rate_1200 == rate)
+                missing |= print_count("data bytes", lengths[i].data_length, of_length[i]);
+        missing |= print_count("characters", most_text(rate), longest_texts[rate]);
+    }
+    return !missing;
 }
 
 int main(int count, char **words)

@@ -1,5 +1,7 @@
 #include "maker.h"
 
+#include <string.h>
+
 /* Long division over two values: the next bit enters below, and the divisor is taken away when its top bit is reached. */
 static uint32_t divide_step(uint32_t rest, unsigned bit, uint32_t divisor, unsigned degree)
 {
@@ -30,15 +32,37 @@ static uint32_t checksum(const uint8_t *data, size_t length)
     return rest;
 }
 
+size_t maker_place(size_t data_byte)
+{
+    return 4 + data_byte + data_byte / MAKER_SECTION * 2;
+}
+
+size_t maker_length(size_t data_length)
+{
+    return maker_place(data_length - 1) + 3;
+}
+
+static void put_checksum(uint8_t *data, size_t length)
+{
+    uint32_t sum = checksum(data, length);
+    data[length] = sum;
+    data[length + 1] = sum >> 8;
+}
+
 size_t maker_close(uint8_t *packet, unsigned flag, size_t data_length)
 {
     uint32_t header = maker_header(flag, data_length);
-    uint32_t sum = checksum(packet + 4, data_length);
     for (int i = 0; i < 4; i++)
         packet[i] = header >> (24 - 8 * i);
-    packet[4 + data_length] = sum;
-    packet[5 + data_length] = sum >> 8;
-    return data_length + 6;
+    size_t first = (data_length - 1) / MAKER_SECTION * MAKER_SECTION, behind = data_length;
+    for (;;) { /* the last section first, so that none is moved onto another */
+        memmove(packet + maker_place(first), packet + 4 + first, behind - first);
+        put_checksum(packet + maker_place(first), behind - first);
+        if (first == 0)
+            return maker_length(data_length);
+        behind = first;
+        first -= MAKER_SECTION;
+    }
 }
 
 void maker_put(struct maker_bits *bits, unsigned value, unsigned width)

@@ -60,7 +60,7 @@ static void make(unsigned before, unsigned count, unsigned place, unsigned writt
 static bool is_written(const uint8_t *text)
 {
     uint8_t got[MOST_PACKET];
-    rosopyat_write_answer answer = rosopyat_write(ROSOPYAT_PSEUDO_BINARY, false, text, made.length, got, sizeof got);
+    rosopyat_write_answer answer = rosopyat_write(false, ROSOPYAT_PSEUDO_BINARY, false, text, made.length, got, sizeof got);
     return answer.refusal == ROSOPYAT_ACCEPTED && answer.number == 0 && answer.length == made.packet_length &&
            memcmp(got, made.packet, made.packet_length) == 0;
 }
@@ -68,7 +68,7 @@ static bool is_written(const uint8_t *text)
 static bool is_read(void)
 {
     uint8_t got[MOST_TEXT];
-    rosopyat_read_answer answer = rosopyat_read(made.packet, made.packet_length, got, sizeof got);
+    rosopyat_read_answer answer = rosopyat_read(false, made.packet, made.packet_length, got, sizeof got);
     return answer.refusal == ROSOPYAT_ACCEPTED && answer.format == ROSOPYAT_PSEUDO_BINARY && answer.codes == made.codes &&
            answer.data_length == made.packet_length - 6 && answer.text_length == made.length && memcmp(got, made.back, made.length) == 0;
 }

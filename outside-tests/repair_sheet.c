@@ -33,7 +33,7 @@ int main(void)
             fprintf(stderr, "%s is no packet\n", digits);
             return 1;
         }
-        rosopyat_read_answer answer = rosopyat_read_mending(mend, packet, length, text, sizeof text);
+        rosopyat_read_answer answer = rosopyat_read_mending(mend, false, packet, length, text, sizeof text);
         printf("%u %u %08X\n", (unsigned)answer.refusal, (unsigned)answer.mended, (unsigned)answer.mask);
     }
     return taken != EOF;

@@ -129,7 +129,7 @@ static size_t make_packet(uint8_t *packet, uint32_t data, unsigned length)
 static void expect_written(const char *text, size_t length, const uint8_t *packet, size_t packet_length)
 {
     uint8_t got[32];
-    rosopyat_write_answer answer = rosopyat_write(ROSOPYAT_NUMERIC, false, (const uint8_t *)text, length, got, sizeof got);
+    rosopyat_write_answer answer = rosopyat_write(false, ROSOPYAT_NUMERIC, false, (const uint8_t *)text, length, got, sizeof got);
     bool same = answer.refusal == ROSOPYAT_ACCEPTED && answer.number == 0 && answer.length == packet_length && memcmp(got, packet, packet_length) == 0;
     expect(same, "not written as the data that carries it", text, length);
 }
@@ -137,7 +137,7 @@ static void expect_written(const char *text, size_t length, const uint8_t *packe
 static void expect_read(const uint8_t *packet, size_t packet_length, const char *text, size_t length)
 {
     uint8_t got[MOST_TEXT];
-    rosopyat_read_answer answer = rosopyat_read(packet, packet_length, got, sizeof got);
+    rosopyat_read_answer answer = rosopyat_read(false, packet, packet_length, got, sizeof got);
     bool same = answer.refusal == ROSOPYAT_ACCEPTED && answer.format == ROSOPYAT_NUMERIC && answer.codes == 2 * (packet_length - 6) &&
                 answer.data_length == packet_length - 6 && answer.text_length == length && memcmp(got, text, length) == 0;
     expect(same, "not read", text, length);
@@ -150,7 +150,7 @@ static bool try_text(const char *text, size_t length)
     char back[MOST_TEXT];
     for (size_t i = 1; i <= length; i++)
         if (carried[place_of(comes_back(text, i))].found == 0) {
-            rosopyat_write_answer answer = rosopyat_write(ROSOPYAT_NUMERIC, false, (const uint8_t *)text, length, packet, sizeof packet);
+            rosopyat_write_answer answer = rosopyat_write(false, ROSOPYAT_NUMERIC, false, (const uint8_t *)text, length, packet, sizeof packet);
             expect(answer.refusal == ROSOPYAT_NO_CODE && answer.number == i - 1, "not refused at the character without a code", text, length);
             return true;
         }

@@ -7,12 +7,28 @@ use std::convert::TryFrom;
 use std::error::Error;
 use std::fmt;
 
-/// Data bytes that a packet has at most.
+/// Data bytes that a packet has at most, at 300 bps.
 pub const MOST_DATA: usize = 4000;
-/// A packet buffer of this size is never too short.
+/// A packet buffer of this size is never too short, at 300 bps.
 pub const MOST_PACKET: usize = 4006;
-/// A text buffer of this size is never too short.
+/// A text buffer of this size is never too short, at 300 bps.
 pub const MOST_TEXT: usize = 85_328;
+/// Data bytes that a packet has at most, at 1200 bps.
+pub const MOST_DATA_1200: usize = 16_000;
+/// A packet buffer of this size is never too short, at 1200 bps.
+pub const MOST_PACKET_1200: usize = 16_012;
+/// A text buffer of this size is never too short, at 1200 bps.
+pub const MOST_TEXT_1200: usize = 341_328;
+
+/// The rate at which a message is sent. Its data stands in sections with two checksum bytes behind each; every section but the last has 4,000 bytes, and none
+/// is empty. A packet of one section is the same at both rates.
+#[derive(Clone, Copy, Debug, PartialEq, Eq)]
+pub enum Rate {
+    /// 300 bps: 1 to 4,000 data bytes, which are one section.
+    Bps300,
+    /// 1200 bps: 1 to 16,000 data bytes, in one to four sections.
+    Bps1200,
+}
 
 /// The formats, by their number in the flag byte.
 #[derive(Clone, Copy, Debug, PartialEq, Eq)]
@@ -64,8 +80,9 @@ pub struct Reading<'a> {
     pub mask: u32,
     /// Indicators, values and codes that were read; 0 in `Open`. Fill is none, and in `Numeric` there are two in each data byte.
     pub codes: usize,
+    /// Data bytes of all sections.
     pub data_length: usize,
-    /// Bytes that belong to the packet: `data_length` and 6.
+    /// Bytes that belong to the packet: `data_length` and 4, and 2 for each section.
     pub used: usize,
     pub text: &'a [u8],
 }
@@ -146,13 +163,14 @@ pub enum ReadRefusal {
     NoHeader,
     /// 3: the header's type is none of the five formats, or its spare bit is 1
     OtherType,
-    /// 4: the length is 0 or above 4,000
+    /// 4: the length is 0 or above 4,000; at 1200 bps, 0 or above 16,000
     OtherLength,
-    /// 5: fewer bytes than the length and 6
+    /// 5: fewer bytes than the length and 4, and 2 for each section
     CutOff,
-    /// 6: the checksum of the data is not the one that follows it
-    Checksum,
-    /// 7: with the data bit at which the first unreadable indicator, value or code starts, and how many of these come before it
+    /// 6: with the first section, from 0, whose checksum is not the one that follows it; at 300 bps there is no other than 0
+    Checksum { section: usize },
+    /// 7: with the data bit at which the first unreadable indicator, value or code starts, and how many of these come before it; data bits count through all
+    /// sections, without the checksums
     Malformed { bit: usize, codes: usize },
     /// 8: with the text's length
     NoRoom(usize),
@@ -167,7 +185,7 @@ pub enum WriteRefusal {
     NoCode(usize),
     /// 10: the text is empty
     Empty,
-    /// 11: the data would have more than 4,000 bytes
+    /// 11: the data would have more than 4,000 bytes; at 1200 bps, more than 16,000
     TooLong,
     /// 12: the format is not one of 0 to 4; answered where a `Format` is made of its number
     OtherFormat,
@@ -183,7 +201,7 @@ impl ReadRefusal {
             ReadRefusal::OtherType => 3,
             ReadRefusal::OtherLength => 4,
             ReadRefusal::CutOff => 5,
-            ReadRefusal::Checksum => 6,
+            ReadRefusal::Checksum { .. } => 6,
             ReadRefusal::Malformed { .. } => 7,
             ReadRefusal::NoRoom(_) => 8,
         }
@@ -211,9 +229,9 @@ impl fmt::Display for ReadRefusal {
             ReadRefusal::Short => write!(to, "fewer than 4 bytes"),
             ReadRefusal::NoHeader => write!(to, "no valid header within the named number of bits of the one received"),
             ReadRefusal::OtherType => write!(to, "the header's type is none of the five formats, or its spare bit is 1"),
-            ReadRefusal::OtherLength => write!(to, "the length is 0 or above 4,000"),
-            ReadRefusal::CutOff => write!(to, "fewer bytes than the length and 6"),
-            ReadRefusal::Checksum => write!(to, "the checksum of the data is not the one that follows it"),
+            ReadRefusal::OtherLength => write!(to, "the length is 0 or above the most data bytes at the rate"),
+            ReadRefusal::CutOff => write!(to, "fewer bytes than the header's length, with the header and all checksums"),
+            ReadRefusal::Checksum { section } => write!(to, "the checksum of section {}, from 0, is not the one that follows it", section),
             ReadRefusal::Malformed { bit, codes } => write!(to, "the data is malformed at bit {}, codes before it: {}", bit, codes),
             ReadRefusal::NoRoom(needed) => write!(to, "the buffer is too short for a text of {} characters", needed),
         }
@@ -227,7 +245,7 @@ impl fmt::Display for WriteRefusal {
             WriteRefusal::NoRoom(needed) => write!(to, "the buffer is too short for a packet of {} bytes", needed),
             WriteRefusal::NoCode(index) => write!(to, "the character at index {} has no code in the format", index),
             WriteRefusal::Empty => write!(to, "the text is empty"),
-            WriteRefusal::TooLong => write!(to, "the data would have more than 4,000 bytes"),
+            WriteRefusal::TooLong => write!(to, "the data would have more than the most bytes at the rate"),
             WriteRefusal::OtherFormat => write!(to, "the format is not one of 0 to 4"),
         }
     }
@@ -236,18 +254,23 @@ impl fmt::Display for WriteRefusal {
 impl Error for ReadRefusal {}
 impl Error for WriteRefusal {}
 
-/// Reads the packet that starts at `packet[0]` into `text`. Bytes behind the packet are not looked at. At most one wrong header bit is mended.
-pub fn read<'a>(packet: &[u8], text: &'a mut [u8]) -> Result<Reading<'a>, ReadRefusal> {
+/// Reads the packet that starts at `packet[0]`, of a message sent at `rate`, into `text`. Bytes behind the packet are not looked at. At most one wrong header
+/// bit is mended.
+pub fn read<'a>(rate: Rate, packet: &[u8], text: &'a mut [u8]) -> Result<Reading<'a>, ReadRefusal> {
     // Slices of their own lengths, which cannot overlap: all that the library asks for.
-    let answer = unsafe { library::rosopyat_read(packet.as_ptr(), packet.len(), text.as_mut_ptr(), text.len()) };
+    let answer = unsafe { library::rosopyat_read(is_1200(rate), packet.as_ptr(), packet.len(), text.as_mut_ptr(), text.len()) };
     reading_of(answer, text)
 }
 
 /// The same, but that at most `mend` wrong header bits are mended: 0, 1 or 2. See `include/rosopyat.h` for which to name: 1, as `read` does, on a live
 /// channel; 2 for the replay of a weak recording that is known to hold packets; 0 where no header is to be guessed at.
-pub fn read_mending<'a>(mend: u32, packet: &[u8], text: &'a mut [u8]) -> Result<Reading<'a>, ReadRefusal> {
-    let answer = unsafe { library::rosopyat_read_mending(mend, packet.as_ptr(), packet.len(), text.as_mut_ptr(), text.len()) };
+pub fn read_mending<'a>(mend: u32, rate: Rate, packet: &[u8], text: &'a mut [u8]) -> Result<Reading<'a>, ReadRefusal> {
+    let answer = unsafe { library::rosopyat_read_mending(mend, is_1200(rate), packet.as_ptr(), packet.len(), text.as_mut_ptr(), text.len()) };
     reading_of(answer, text)
+}
+
+fn is_1200(rate: Rate) -> bool {
+    rate == Rate::Bps1200
 }
 
 fn reading_of<'a>(answer: library::ReadAnswer, text: &'a [u8]) -> Result<Reading<'a>, ReadRefusal> {
@@ -267,7 +290,7 @@ fn reading_of<'a>(answer: library::ReadAnswer, text: &'a [u8]) -> Result<Reading
         3 => Err(ReadRefusal::OtherType),
         4 => Err(ReadRefusal::OtherLength),
         5 => Err(ReadRefusal::CutOff),
-        6 => Err(ReadRefusal::Checksum),
+        6 => Err(ReadRefusal::Checksum { section: answer.number }),
         7 => Err(ReadRefusal::Malformed { bit: answer.number, codes: answer.codes }),
         8 => Err(ReadRefusal::NoRoom(answer.number)),
         17 => Err(ReadRefusal::TooManyBits),
@@ -275,9 +298,9 @@ fn reading_of<'a>(answer: library::ReadAnswer, text: &'a [u8]) -> Result<Reading
     }
 }
 
-/// Writes `text` as one packet to the start of `packet`, and answers that part of it.
-pub fn write<'a>(format: Format, sync: bool, text: &[u8], packet: &'a mut [u8]) -> Result<&'a [u8], WriteRefusal> {
-    let answer = unsafe { library::rosopyat_write(format.into(), sync, text.as_ptr(), text.len(), packet.as_mut_ptr(), packet.len()) };
+/// Writes `text` as one packet, for a message sent at `rate`, to the start of `packet`, and answers that part of it.
+pub fn write<'a>(rate: Rate, format: Format, sync: bool, text: &[u8], packet: &'a mut [u8]) -> Result<&'a [u8], WriteRefusal> {
+    let answer = unsafe { library::rosopyat_write(is_1200(rate), format.into(), sync, text.as_ptr(), text.len(), packet.as_mut_ptr(), packet.len()) };
     match answer.refusal {
         0 => Ok(&packet[..answer.length]),
         8 => Err(WriteRefusal::NoRoom(answer.number)),
@@ -319,8 +342,16 @@ mod library {
 
     #[link(name = "rosopyat_c", kind = "static")]
     extern "C" {
-        pub fn rosopyat_read(packet: *const u8, packet_length: usize, text: *mut u8, text_room: usize) -> ReadAnswer;
-        pub fn rosopyat_read_mending(mend: u32, packet: *const u8, packet_length: usize, text: *mut u8, text_room: usize) -> ReadAnswer;
-        pub fn rosopyat_write(format: u32, sync: bool, text: *const u8, text_length: usize, packet: *mut u8, packet_room: usize) -> WriteAnswer;
+        pub fn rosopyat_read(rate_1200: bool, packet: *const u8, packet_length: usize, text: *mut u8, text_room: usize) -> ReadAnswer;
+        pub fn rosopyat_read_mending(mend: u32, rate_1200: bool, packet: *const u8, packet_length: usize, text: *mut u8, text_room: usize) -> ReadAnswer;
+        pub fn rosopyat_write(
+            rate_1200: bool,
+            format: u32,
+            sync: bool,
+            text: *const u8,
+            text_length: usize,
+            packet: *mut u8,
+            packet_room: usize,
+        ) -> WriteAnswer;
     }
 }

@@ -4,59 +4,107 @@
 #[cfg(not(as_crate))]
 mod rosopyat;
 
-use rosopyat::{header_bits, read, read_mending, write, Format, HeaderBit, HeaderPart, ReadRefusal, WriteRefusal, MOST_DATA, MOST_PACKET, MOST_TEXT};
+use rosopyat::Rate::{Bps1200, Bps300};
+use rosopyat::{header_bits, read, read_mending, write, Format, HeaderBit, HeaderPart, Rate, ReadRefusal, WriteRefusal};
+use rosopyat::{MOST_DATA, MOST_DATA_1200, MOST_PACKET, MOST_PACKET_1200, MOST_TEXT, MOST_TEXT_1200};
 
 fn there_and_back(format: Format, sync: bool, text: &[u8]) -> usize {
     comes_back_as(format, sync, text, text)
 }
 
-/// Writes a text and reads it back, and answers the packet's length.
+/// Writes a text and reads it back at both rates, and answers the packet's length, which is the same at both.
 fn comes_back_as(format: Format, sync: bool, text: &[u8], wanted: &[u8]) -> usize {
-    let mut packet = [0; MOST_PACKET];
-    let mut back = vec![0; MOST_TEXT];
-    let packet = write(format, sync, text, &mut packet).unwrap();
-    let reading = read(packet, &mut back).unwrap();
+    let length = comes_back_at(Bps300, format, sync, text, wanted);
+    assert_eq!(comes_back_at(Bps1200, format, sync, text, wanted), length);
+    length
+}
+
+fn comes_back_at(rate: Rate, format: Format, sync: bool, text: &[u8], wanted: &[u8]) -> usize {
+    let mut packet = [0; MOST_PACKET_1200];
+    let mut back = vec![0; MOST_TEXT_1200];
+    let packet = write(rate, format, sync, text, &mut packet).unwrap();
+    let reading = read(rate, packet, &mut back).unwrap();
     assert_eq!((reading.format, reading.sync, reading.mended, reading.mask), (format, sync, 0, 0));
     assert_eq!(reading.mended_bits().next(), None);
-    assert_eq!((reading.data_length + 6, reading.used), (packet.len(), packet.len()));
+    let sections = (reading.data_length + 3999) / 4000;
+    assert_eq!((reading.data_length + 4 + 2 * sections, reading.used), (packet.len(), packet.len()));
     assert_eq!(reading.text, wanted);
     packet.len()
+}
+
+/// Data of one to four sections: the lengths around each end, the first bad section, and what only the other rate would take.
+fn sections() {
+    let text: Vec<u8> = (0..=MOST_DATA_1200).map(|i| (i * 7 + i / 251) as u8).collect();
+    let mut buffer = [0; MOST_PACKET_1200];
+    let mut back = [0; MOST_DATA_1200];
+    for (length, packet_length) in [(3999, 4005), (4000, 4006), (4001, 4009), (8000, 8008), (8001, 8011), (12_001, 12_013), (16_000, 16_012)] {
+        assert_eq!(comes_back_at(Bps1200, Format::Open, true, &text[..length], &text[..length]), packet_length);
+        assert_eq!(write(Bps1200, Format::Open, true, &text[..length], &mut buffer[..packet_length - 1]), Err(WriteRefusal::NoRoom(packet_length)));
+        let packet = write(Bps1200, Format::Open, true, &text[..length], &mut buffer).unwrap().to_vec();
+        assert_eq!(read(Bps1200, &packet[..packet_length - 1], &mut back), Err(ReadRefusal::CutOff));
+        let mut damaged = packet.clone();
+        for section in (0..(length + 3999) / 4000).rev() {
+            let first = 4 + 4002 * section;
+            for place in [first, (first + 4001).min(packet_length - 1)] {
+                let before = damaged[place];
+                damaged[place] ^= 0x10;
+                assert_eq!(read(Bps1200, &damaged, &mut back), Err(ReadRefusal::Checksum { section }), "{} bytes, changed at {}", length, place);
+                damaged[place] = before;
+            }
+            damaged[first] ^= 0x10; // and those before it: the first counts
+        }
+        if length > MOST_DATA {
+            assert_eq!(read(Bps300, &packet, &mut back), Err(ReadRefusal::OtherLength));
+            assert_eq!(write(Bps300, Format::Open, true, &text[..length], &mut buffer), Err(WriteRefusal::TooLong));
+        }
+    }
+    assert_eq!(write(Bps1200, Format::Open, false, &text, &mut buffer), Err(WriteRefusal::TooLong));
+    let longest = vec![b'/'; MOST_TEXT_1200];
+    assert_eq!(comes_back_at(Bps1200, Format::PseudoBinary, true, &longest, &longest), MOST_PACKET_1200);
+    // Six ones of SHEF, behind 6,400 zeros that fill the first section.
+    let mut zeros = vec![0; 4000];
+    zeros.push(0xff);
+    let open = write(Bps1200, Format::Open, false, &zeros, &mut buffer).unwrap().to_vec();
+    let headed = write(Bps1200, Format::Shef, false, &[b'0'; 6401], &mut buffer).unwrap();
+    assert_eq!((headed.len(), open.len()), (4009, 4009));
+    let malformed = [&headed[..4], &open[4..]].concat();
+    assert_eq!(read(Bps1200, &malformed, &mut back), Err(ReadRefusal::Malformed { bit: 32_000, codes: 6400 }));
 }
 
 fn read_refusals() {
     let mut buffer = [0; 64];
     let mut text = [0; 8];
-    assert_eq!(read(&[], &mut text), Err(ReadRefusal::Short));
-    assert_eq!(read(&[0x40, 0x00, 0x04, 0xda], &mut text), Err(ReadRefusal::NoHeader));
-    assert_eq!(read(&[0; 4], &mut text), Err(ReadRefusal::OtherType));
-    let packet = write(Format::FullAscii, true, b"A\r\nB", &mut buffer).unwrap().to_vec();
-    assert_eq!(read(&packet[..packet.len() - 1], &mut text), Err(ReadRefusal::CutOff));
-    assert_eq!(read(&packet, &mut text[..3]), Err(ReadRefusal::NoRoom(4)));
-    assert_eq!(read(&packet, &mut []), Err(ReadRefusal::NoRoom(4)));
+    assert_eq!(read(Bps300, &[], &mut text), Err(ReadRefusal::Short));
+    assert_eq!(read(Bps300, &[0x40, 0x00, 0x04, 0xda], &mut text), Err(ReadRefusal::NoHeader));
+    assert_eq!(read(Bps300, &[0; 4], &mut text), Err(ReadRefusal::OtherType));
+    let packet = write(Bps300, Format::FullAscii, true, b"A\r\nB", &mut buffer).unwrap().to_vec();
+    assert_eq!(read(Bps300, &packet[..packet.len() - 1], &mut text), Err(ReadRefusal::CutOff));
+    assert_eq!(read(Bps300, &packet, &mut text[..3]), Err(ReadRefusal::NoRoom(4)));
+    assert_eq!(read(Bps300, &packet, &mut []), Err(ReadRefusal::NoRoom(4)));
     let mut damaged = packet.clone();
     damaged[4] ^= 1;
-    assert_eq!(read(&damaged, &mut text), Err(ReadRefusal::Checksum));
+    assert_eq!(read(Bps300, &damaged, &mut text), Err(ReadRefusal::Checksum { section: 0 }));
     // An Open packet of one byte FF, its length turned to 0 (and the check with it), and its type to Full ASCII.
-    let open = write(Format::Open, false, b"\xff", &mut buffer).unwrap().to_vec();
+    let open = write(Bps300, Format::Open, false, b"\xff", &mut buffer).unwrap().to_vec();
     assert_eq!(open[..4], [0x40, 0x00, 0x04, 0xdd]);
     let no_data = [&[0x40, 0x00, 0x03, 0xb4], &open[4..]].concat();
-    assert_eq!(read(&no_data, &mut text), Err(ReadRefusal::OtherLength));
+    assert_eq!(read(Bps300, &no_data, &mut text), Err(ReadRefusal::OtherLength));
     let malformed = [&[0xd0, 0x00, 0x04, 0x30], &open[4..]].concat();
-    assert_eq!(read(&malformed, &mut text), Err(ReadRefusal::Malformed { bit: 0, codes: 0 }));
+    assert_eq!(read(Bps300, &malformed, &mut text), Err(ReadRefusal::Malformed { bit: 0, codes: 0 }));
     assert_eq!(text, [0; 8]);
 
     let mut mended = open.clone();
     mended[0] ^= 0x80;
     mended.push(7);
-    let reading = read(&mended, &mut text).unwrap();
+    let reading = read(Bps300, &mended, &mut text).unwrap();
     assert_eq!((reading.mended, reading.mask, reading.used, reading.text), (1, 0x8000_0000, 7, &b"\xff"[..]));
 }
 
 /// A packet of any data: the header of a text whose data is as long, and what follows the header of an Open packet.
 fn with_data(format: Format, as_long: &[u8], data: &[u8]) -> Vec<u8> {
     let (mut one, mut other) = ([0; 64], [0; 64]);
-    let headed = write(format, false, as_long, &mut one).unwrap();
-    let open = write(Format::Open, false, data, &mut other).unwrap();
+    let headed = write(Bps300, format, false, as_long, &mut one).unwrap();
+    let open = write(Bps300, Format::Open, false, data, &mut other).unwrap();
     assert_eq!(headed.len(), open.len());
     [&headed[..4], &open[4..]].concat()
 }
@@ -76,7 +124,7 @@ fn codes() {
         (Format::FullAscii, b"A\r\n", b"\x83\xff", 2),
         (Format::FullAscii, b"   ", b"\0\0\0", 4),
     ] {
-        assert_eq!(read(&with_data(format, as_long, data), &mut text).unwrap().codes, codes, "{:?} {:x?}", format, data);
+        assert_eq!(read(Bps300, &with_data(format, as_long, data), &mut text).unwrap().codes, codes, "{:?} {:x?}", format, data);
     }
     for (format, as_long, data, bit, codes) in [
         (Format::PseudoBinary, &b"/"[..], &b"\xff"[..], 8, 1),
@@ -86,7 +134,7 @@ fn codes() {
         (Format::Shef, b"AB", b"\x07\xff", 5, 1),
         (Format::FullAscii, b"A", b"\xff", 0, 0),
     ] {
-        let refused = read(&with_data(format, as_long, data), &mut text);
+        let refused = read(Bps300, &with_data(format, as_long, data), &mut text);
         assert_eq!(refused, Err(ReadRefusal::Malformed { bit, codes }), "{:?} {:x?}", format, data);
     }
 }
@@ -94,14 +142,14 @@ fn codes() {
 /// As it was sent, with one and with two header bits flipped (P5 of the table of edges): for each number, how many bits are mended and which, or why not.
 fn named_numbers() {
     let mut buffer = [0; 64];
-    let sent = write(Format::Open, false, b"x", &mut buffer).unwrap().to_vec();
+    let sent = write(Bps300, Format::Open, false, b"x", &mut buffer).unwrap().to_vec();
     let mended = |named: Option<u32>, flip: u8| {
         let mut packet = sent.clone();
         packet[0] ^= flip;
         let mut text = [0; 1];
         let reading = match named {
-            Some(mend) => read_mending(mend, &packet, &mut text),
-            None => read(&packet, &mut text),
+            Some(mend) => read_mending(mend, Bps300, &packet, &mut text),
+            None => read(Bps300, &packet, &mut text),
         };
         reading.map(|reading| {
             assert_eq!((reading.format, reading.sync, reading.data_length, reading.used, reading.text), (Format::Open, false, 1, 7, &b"x"[..]));
@@ -122,10 +170,10 @@ fn named_numbers() {
     }
     let mut text = [5; 8];
     for number in [3, 256, 65_538, u32::MAX] {
-        assert_eq!(read_mending(number, &[], &mut text), Err(ReadRefusal::TooManyBits));
-        assert_eq!(read_mending(number, &sent, &mut text), Err(ReadRefusal::TooManyBits));
+        assert_eq!(read_mending(number, Bps300, &[], &mut text), Err(ReadRefusal::TooManyBits));
+        assert_eq!(read_mending(number, Bps300, &sent, &mut text), Err(ReadRefusal::TooManyBits));
     }
-    assert_eq!(read_mending(2, &[], &mut text), Err(ReadRefusal::Short));
+    assert_eq!(read_mending(2, Bps300, &[], &mut text), Err(ReadRefusal::Short));
     assert_eq!(text, [5; 8]);
 }
 
@@ -145,7 +193,7 @@ fn mended_bits() {
         HeaderBit { position, part }
     };
     let mut buffer = [0; 64];
-    let sent = write(Format::Shef, true, b"A", &mut buffer).unwrap().to_vec();
+    let sent = write(Bps300, Format::Shef, true, b"A", &mut buffer).unwrap().to_vec();
     // The packet with these bits flipped; their positions stand highest first.
     let comes_of = |positions: &[u32]| {
         let mut packet = sent.clone();
@@ -153,7 +201,7 @@ fn mended_bits() {
             packet[3 - *position as usize / 8] ^= 1 << (position % 8);
         }
         let mut text = [0; 1];
-        let reading = read_mending(2, &packet, &mut text).unwrap();
+        let reading = read_mending(2, Bps300, &packet, &mut text).unwrap();
         assert_eq!((reading.format, reading.sync, reading.text), (Format::Shef, true, &b"A"[..]));
         assert_eq!(reading.mask, positions.iter().map(|position| 1 << position).sum::<u32>());
         assert_eq!((reading.mended as usize, reading.mask.count_ones()), (positions.len(), reading.mended));
@@ -161,7 +209,7 @@ fn mended_bits() {
         assert_eq!(reading.mended_bits().collect::<Vec<_>>(), wanted);
         let mut again = [0; 1];
         let usual = if positions.len() < 2 { Ok(reading) } else { Err(ReadRefusal::NoHeader) };
-        assert_eq!(read(&packet, &mut again), usual);
+        assert_eq!(read(Bps300, &packet, &mut again), usual);
     };
     comes_of(&[]);
     for high in 0..32 {
@@ -173,9 +221,9 @@ fn mended_bits() {
     assert!(header_bits(u32::MAX).eq((0..32).rev().map(bit)));
 
     let mut text = [0; 1];
-    let open = write(Format::Open, false, b"x", &mut buffer).unwrap().to_vec();
+    let open = write(Bps300, Format::Open, false, b"x", &mut buffer).unwrap().to_vec();
     let p5 = [&[0xc1, 0x00, 0x04, 0xdd], &open[4..]].concat();
-    let reading = read_mending(2, &p5, &mut text).unwrap();
+    let reading = read_mending(2, Bps300, &p5, &mut text).unwrap();
     let listed: Vec<HeaderBit> = reading.mended_bits().collect();
     assert_eq!((reading.mask, reading.mask.count_ones(), reading.mended), (0x8100_0000, 2, 2));
     assert_eq!(listed, [HeaderBit { position: 31, part: HeaderPart::Parity }, HeaderBit { position: 24, part: HeaderPart::Spare }]);
@@ -186,13 +234,13 @@ fn mended_bits() {
 
 fn write_refusals() {
     let mut packet = [0; 64];
-    assert_eq!(write(Format::Open, false, b"", &mut packet), Err(WriteRefusal::Empty));
-    assert_eq!(write(Format::PseudoBinary, false, b"@A>", &mut packet), Err(WriteRefusal::NoCode(2)));
-    assert_eq!(write(Format::Numeric, false, b"12+\r\n", &mut packet), Err(WriteRefusal::NoCode(3)));
-    assert_eq!(write(Format::Shef, false, b"Ab", &mut packet), Err(WriteRefusal::NoCode(1)));
-    assert_eq!(write(Format::FullAscii, false, b"\x7f", &mut packet), Err(WriteRefusal::NoCode(0)));
-    assert_eq!(write(Format::Open, false, &[0; MOST_DATA + 1], &mut packet), Err(WriteRefusal::TooLong));
-    assert_eq!(write(Format::Open, false, b"abc", &mut packet[..8]), Err(WriteRefusal::NoRoom(9)));
+    assert_eq!(write(Bps300, Format::Open, false, b"", &mut packet), Err(WriteRefusal::Empty));
+    assert_eq!(write(Bps300, Format::PseudoBinary, false, b"@A>", &mut packet), Err(WriteRefusal::NoCode(2)));
+    assert_eq!(write(Bps300, Format::Numeric, false, b"12+\r\n", &mut packet), Err(WriteRefusal::NoCode(3)));
+    assert_eq!(write(Bps300, Format::Shef, false, b"Ab", &mut packet), Err(WriteRefusal::NoCode(1)));
+    assert_eq!(write(Bps300, Format::FullAscii, false, b"\x7f", &mut packet), Err(WriteRefusal::NoCode(0)));
+    assert_eq!(write(Bps300, Format::Open, false, &[0; MOST_DATA + 1], &mut packet), Err(WriteRefusal::TooLong));
+    assert_eq!(write(Bps300, Format::Open, false, b"abc", &mut packet[..8]), Err(WriteRefusal::NoRoom(9)));
     assert_eq!(packet, [0; 64]);
 }
 
@@ -200,7 +248,7 @@ fn write_refusals() {
 fn formats() {
     let mut packet = [0; 64];
     for number in (0..16).chain([256, 257, 260, 65_540, u32::MAX]) {
-        let written = Format::try_from(number).and_then(|format| write(format, false, b"/", &mut packet).map(<[u8]>::to_vec));
+        let written = Format::try_from(number).and_then(|format| write(Bps300, format, false, b"/", &mut packet).map(<[u8]>::to_vec));
         match number {
             0..=4 => assert_eq!(written.map(|packet| u32::from(packet[0] >> 2 & 7)), Ok(number)),
             _ => assert_eq!(written, Err(WriteRefusal::OtherFormat)),
@@ -210,8 +258,8 @@ fn formats() {
 
 fn numbers_and_words() {
     use ReadRefusal::*;
-    let malformed = Malformed { bit: 70, codes: 11 };
-    let read = [TooManyBits, Short, NoHeader, OtherType, OtherLength, CutOff, Checksum, malformed, NoRoom(80)];
+    let (checksum, malformed) = (Checksum { section: 3 }, Malformed { bit: 70, codes: 11 });
+    let read = [TooManyBits, Short, NoHeader, OtherType, OtherLength, CutOff, checksum, malformed, NoRoom(80)];
     assert_eq!(read.map(ReadRefusal::number), [17, 1, 2, 3, 4, 5, 6, 7, 8]);
     let write = [WriteRefusal::NoRoom(80), WriteRefusal::NoCode(90), WriteRefusal::Empty, WriteRefusal::TooLong, WriteRefusal::OtherFormat];
     assert_eq!(write.map(WriteRefusal::number), [8, 9, 10, 11, 12]);
@@ -221,7 +269,7 @@ fn numbers_and_words() {
     for refusal in write {
         assert!(refusal.to_string().starts_with(&format!("refused {}: ", refusal.number())));
     }
-    assert_eq!(Checksum.to_string(), "refused 6: the checksum of the data is not the one that follows it");
+    assert_eq!(checksum.to_string(), "refused 6: the checksum of section 3, from 0, is not the one that follows it");
     assert!(malformed.to_string().ends_with("at bit 70, codes before it: 11") && NoRoom(80).to_string().ends_with("80 characters"));
     assert!(write[0].to_string().ends_with("80 bytes") && write[1].to_string().contains("index 90"));
 }
@@ -229,7 +277,7 @@ fn numbers_and_words() {
 /// The refusals go where errors go.
 fn first_byte(packet: &[u8]) -> Result<u8, Box<dyn std::error::Error>> {
     let mut text = [0; 8];
-    Ok(read(packet, &mut text)?.text[0])
+    Ok(read(Bps300, packet, &mut text)?.text[0])
 }
 
 fn main() {
@@ -244,6 +292,8 @@ fn main() {
     assert_eq!(there_and_back(Format::Shef, true, b":HG 4 #5 190.039;\r\n"), 18);
     assert_eq!(comes_back_as(Format::Shef, false, b"A\rB\n", b"A\r\nB\r\n"), 9);
     assert_eq!(there_and_back(Format::FullAscii, false, b"Stage 1.23 m\r\n\t~"), 19);
+    assert_eq!(MOST_DATA + 6, MOST_PACKET);
+    sections();
     read_refusals();
     codes();
     named_numbers();
@@ -255,10 +305,10 @@ fn main() {
 
     let packet = std::fs::read(std::env::args().nth(1).expect("a packet's file")).unwrap();
     let mut text = [0; 4096];
-    let reading = read(&packet, &mut text).unwrap();
+    let reading = read(Bps300, &packet, &mut text).unwrap();
     assert_eq!((reading.format, reading.mask, reading.codes), (Format::FullAscii, 0, 306));
     assert_eq!((reading.data_length, reading.text.len()), (259, 306));
     let mut again = [0; 4096];
-    assert_eq!(read_mending(2, &packet, &mut again), Ok(reading));
+    assert_eq!(read_mending(2, Bps300, &packet, &mut again), Ok(reading));
     println!("Rust, the module {}: all as it should be", if cfg!(as_crate) { "as a crate" } else { "in one file" });
 }

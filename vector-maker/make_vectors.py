@@ -8,6 +8,9 @@ of at most as many bits as are named, and the mask of the mended bits is put tog
 codes a packet has is known from its making, where a text's codes are listed one by one; section5.txt has it for the published packets; and for all others
 the codes are counted as they are read.
 
+Each case says its rate, 300 or 1200 bps, in the byte of the sync bit, to which 1200 adds two. At 1200 the data may have four sections; what a damaged, cut or
+malformed packet of several must give is known from its making.
+
     python3 vector-maker/make_vectors.py            writes both files
     python3 vector-maker/make_vectors.py --check    writes nothing: are they what would be written?
 """
@@ -24,8 +27,11 @@ OPEN, PSEUDO, NUMERIC, SHEF, ASCII = range(5)
 FORMATS = range(5)
 COMPACT = FORMATS[1:]
 LONGEST = 4000
+SECTION = 4000
+LONGEST_1200 = 4 * SECTION
 MOST_MENDED = 2
 DEFAULT = None  # no number of header bits to mend is named: it is one
+RATE_1200 = False  # the rate of the cases that are being made
 
 
 # ---- the header and the checksum
@@ -76,8 +82,14 @@ def checksum(data):
     return bytes([register & 0xFF, register >> 8])
 
 
+def sections_of(data):
+    """At 300 the data is one; at 1200 each but the last has 4,000 bytes."""
+    size = SECTION if RATE_1200 else len(data)
+    return [data[start:start + size] for start in range(0, len(data), size)]
+
+
 def packet(word, data):
-    return word.to_bytes(4, "big") + data + checksum(data)
+    return word.to_bytes(4, "big") + b"".join(section + checksum(section) for section in sections_of(data))
 
 
 def packet_of(format, data, sync=0):
@@ -305,6 +317,15 @@ def most_bits(named):
     return 1 if named is DEFAULT else named
 
 
+def most_data():
+    return LONGEST_1200 if RATE_1200 else LONGEST
+
+
+def packet_length(data_length):
+    """Header, data, and two bytes for each section, of which the last may be shorter than the others."""
+    return 4 + data_length + 2 * -(-data_length // SECTION)
+
+
 def read(received, room, named):
     if most_bits(named) > MOST_MENDED:
         return "refused 17", 0, b""
@@ -318,13 +339,16 @@ def read(received, room, named):
     format, sync = flag >> 2 & 7, flag >> 1 & 1
     if flag & 1 or flag >> 5 & 3 != 2 or format not in READ:
         return "refused 3", 0, b""
-    if length == 0 or length > LONGEST:
+    if length == 0 or length > most_data():
         return "refused 4", 0, b""
-    if len(received) < length + 6:
+    used = packet_length(length)
+    if len(received) < used:
         return "refused 5", 0, b""
-    data = received[4:4 + length]
-    if received[4 + length:6 + length] != checksum(data):
-        return "refused 6", 0, b""
+    parts = [received[start:min(start + SECTION + 2, used)] for start in range(4, used, SECTION + 2)]
+    for number, part in enumerate(parts):
+        if part[-2:] != checksum(part[:-2]):
+            return "refused 6", number, b""
+    data = b"".join(part[:-2] for part in parts)
     try:
         text, codes = READ[format](data)
     except Malformed as malformed:
@@ -332,7 +356,7 @@ def read(received, room, named):
         return "refused 7", place, b"", codes
     if room < len(text):
         return "refused 8", len(text), b""
-    return f"ok {format} {sync} {count} {mask:08X} {length} {len(text)}", length + 6, text, codes
+    return f"ok {format} {sync} {count} {mask:08X} {length} {len(text)}", used, text, codes
 
 
 def write(format, sync, text, room):
@@ -344,11 +368,12 @@ def write(format, sync, text, room):
     if index < len(text):
         return "refused 9", index, b""
     data = WRITE[format](text)
-    if len(data) > LONGEST:
+    if len(data) > most_data():
         return "refused 11", 0, b""
-    if room < len(data) + 6:
-        return "refused 8", len(data) + 6, b""
-    return f"written {len(data) + 6}", len(data) + 6, packet_of(format, data, sync)
+    whole = packet_of(format, data, sync)
+    if room < len(whole):
+        return "refused 8", len(whole), b""
+    return f"written {len(whole)}", len(whole), whole
 
 
 # ---- the cases
@@ -363,7 +388,7 @@ def case(kind, named, sync, room, given, answer):
     COUNT += 1
     line, beside, put = answer
     assert len(put) <= room, (line, room)
-    STDIN += kind + bytes([sync]) + b"".join(number.to_bytes(3, "big") for number in (named, room, len(given))) + given
+    STDIN += kind + bytes([sync + 2 * RATE_1200]) + b"".join(number.to_bytes(3, "big") for number in (named, room, len(given))) + given
     lent = put + bytes(i % 251 + 5 for i in range(len(put), room))
     STDOUT.append(f"{line}\n{beside} {zlib.adler32(lent):08x} {lent[:512].hex()}\n")
 
@@ -413,10 +438,11 @@ def accepted(format, used, text, sync=0, places=(), codes=None):
     codes it has, it has those that the text is written in."""
     mask = "".join("1" if place in places else "0" for place in range(32))
     codes = len(CODES[format](text)) if codes is None else codes
-    return f"ok {format} {sync} {len(places)} {int(mask, 2):08X} {used - 6} {len(text)}", used, text, codes
+    data_length = used - 4 - 2 * -(-(used - 4) // (SECTION + 2))
+    return f"ok {format} {sync} {len(places)} {int(mask, 2):08X} {data_length} {len(text)}", used, text, codes
 
 
-def sections():
+def section_5():
     """001's section 5, by number: the packet, the text of the message beside it, and how many codes the packet has."""
     found = {}
     for section in (ROOT / "outside-tests/vectors/section5.txt").read_text().split("\n## ")[1:]:
@@ -428,7 +454,7 @@ def sections():
 
 def published():
     """001's section 5: the packets, and the messages beside them."""
-    for name, (sent, message, codes) in sections().items():
+    for name, (sent, message, codes) in section_5().items():
         format = {"5.1": OPEN, "5.2.1": PSEUDO, "5.2.2": PSEUDO, "5.3": NUMERIC, "5.4": SHEF, "5.5": ASCII}[name]
         text = bytes(range(256)) if format == OPEN else message
         used = len(sent)
@@ -453,7 +479,7 @@ def published():
 
 def messages():
     """The text of every message of section 5, in the compact formats where it has codes there, and read back; 5 and 6 are no formats."""
-    for sent, text, _ in sections().values():
+    for sent, text, _ in section_5().values():
         for extended in 5, 6:
             writes(extended, text, 500, answer=("refused 12", 0, b""))
         for format in COMPACT:
@@ -772,7 +798,7 @@ def edges_named():
         reads(with_byte("400004DD"), 3, ("ok 0 0 0 00000000 1 1", 7, b"\x37"), named)  # M2
         for head, mask in ("C00004DD", "80000000"), ("400004DC", "00000001"), ("408004DD", "00800000"):  # M2, M3
             reads(with_byte(head), 3, ("refused 2", 0, b"") if named == 0 else (f"ok 0 0 1 {mask} 1 1", 7, b"\x37"), named)
-        for sent, message, codes in sections().values():
+        for sent, message, codes in section_5().values():
             format = sent[0] >> 2 & 7
             text = sent[4:-2] if format == OPEN else message + b" " * (format == NUMERIC)
             reads(sent, len(text), accepted(format, len(sent), text, codes=codes), named)
@@ -879,13 +905,294 @@ def values_missing():
                 malformed_behind(PSEUDO, codes, bits)
 
 
+# ---- at 1200: data of several sections
+
+class Building:
+    """Data put together code by code, and the text that it carries: both are known from the making."""
+
+    def __init__(self, format):
+        self.format, self.text, self.codes, self.bits, self.turns = format, b"", [], 0, itertools.count()
+
+    def add(self, text, codes=None):
+        """A text in the codes of our writer, or in those of another maker."""
+        if codes is None:
+            base = b"".join(BASE[piece] for piece in pieces(text)) if self.format == NUMERIC else b""
+            codes = [f"{TABLE_4.index(character):04b}" for character in base] or CODES[self.format](text)
+        self.text += text
+        self.codes += codes
+        self.bits += 8 * len(text) if self.format == OPEN else sum(map(len, codes))
+
+    def data(self):
+        return self.text if self.format == OPEN else bytes_of("".join(self.codes))
+
+    def some(self, characters):
+        turn = next(self.turns)
+        return bytes([characters[(turn * turn // 3 + turn) % len(characters)]])
+
+    def add_runs(self, width):
+        """Pseudo Binary: runs of values, each with blanks behind it, slashes at the end. Each has eight bits and then a number of sixes."""
+        runs = width // 222 * 3 + width // 2 % 3
+        sixes = (width - 8 * runs) // 6
+        for run in range(runs):
+            values = sixes * (run + 1) // runs - sixes * run // runs - 1
+            self.add(b"".join(self.some(bytes(range(64, 127)) + b"?") for _ in range(values)))
+            self.add((b"/" if (runs - run) % 2 else b" ") * (run % 16 + 1))
+
+    def add_characters(self, width, narrow, narrow_ones, wide_ones):
+        """Characters of two widths, of which one is a bit more, in equal numbers as far as can be."""
+        wide = width // (2 * narrow + 1)
+        wide -= (wide - width) % narrow
+        count = wide + (width - wide * (narrow + 1)) // narrow
+        for index in range(count):
+            self.add(self.some(wide_ones if (index + 1) * wide // count > index * wide // count else narrow_ones))
+
+    def fill_to(self, bit):
+        """Codes that end just there."""
+        width = bit - self.bits
+        if self.format == PSEUDO:
+            self.add_runs(width)
+        elif self.format == SHEF:
+            self.add_characters(width, 5, TABLE_4, b"ABCDEFGHIJKLMNOPQRSTUVWXYZ#=:;")
+        elif self.format == ASCII:
+            self.add_characters(width, 6, bytes(range(32, 64)), bytes(range(64, 127)))
+        else:
+            each, characters = (4, b"0123456789 ,/") if self.format == NUMERIC else (8, bytes(range(256)))
+            self.add(b"".join(self.some(characters) for _ in range(width // each)))
+        assert self.bits == bit, (self.format, self.bits, bit)
+
+
+# By format: texts that stand over the end of a section, and how many bits of their codes stand before it.
+OVER_AN_END = {
+    OPEN: [],
+    PSEUDO: [(b" " * 16, 2), (b" ", 4)] + [(b"ABC?~ ", bits) for bits in (2, 4, 6, 8, 10, 12, 14)] + [(b"x" * 128 + b" ", 394), (b"y" * 300 + b" ", 780)],
+    NUMERIC: [(pair, 4) for pair in (b"\r\n", b"#", b"=", b":", b"E")] + [(b"+5", 4), (b"-0", 4), (b".7", 4), (b"\r\n+1", 8), (b"E-1", 8)],
+    SHEF: [(text, bits) for text, width in ((b"7", 5), (b"Q", 6), (b"\r\n", 6)) for bits in range(1, width)],
+    ASCII: [(text, bits) for text, width in ((b"!", 6), (b"z", 7), (b"\r\n", 9)) for bits in range(1, width)] + [(b"\t", 3), (b"\n", 8)],
+}
+
+
+def filled(format, length, waiting):
+    """A building of so many data bytes. Over the end of each section stands the next of the texts that wait, where one byte is left the next that ends in it;
+    and where none waits, any."""
+    building = Building(format)
+    for end in range(8 * SECTION, 8 * length, 8 * SECTION):
+        for text, before in waiting + OVER_AN_END[format]:
+            if end + len("".join(CODES[format](text))) - before <= 8 * length:
+                building.fill_to(end - before)
+                building.add(text)
+                waiting[:] = [other for other in waiting if other != (text, before)]
+                break
+    if format == NUMERIC or 8 * length - building.bits > 7:
+        fill = {OPEN: 0, NUMERIC: 0, PSEUDO: length % 4 * 2}.get(format, length % 8)
+        building.fill_to(8 * length - fill)
+    assert len(building.data()) == length, (format, length, len(building.data()))
+    assert building.codes == CODES[format](building.text)
+    return building
+
+
+def round_trip(building, sync):
+    """Written, and read back in the room that is needed and by the reader that needs none to be named."""
+    format, text = building.format, building.text
+    whole = packet_of(format, building.data(), sync)
+    writes(format, text, len(whole), sync, (f"written {len(whole)}", len(whole), whole))
+    reads(whole, len(text), accepted(format, len(whole), text, sync, codes=len(building.codes)), DEFAULT)
+
+
+def lengths_1200():
+    """Lengths around each limit, with all that may stand over the end of a section."""
+    for format in FORMATS:
+        waiting = list(OVER_AN_END[format])
+        for length in 3999, 4000, 4001, 7999, 8000, 8001, 11999, 12000, 12001, 15999, 16000:
+            round_trip(filled(format, length, waiting), length % 2)
+        while waiting:
+            round_trip(filled(format, 12200, waiting), 1)
+
+
+def other_makers_1200():
+    """Codes that our writer would not choose, over the ends of sections; and as many codes as data can have."""
+    for codes, text in (["111111101", "111111110"], b"\r\n"), (["111111101", "111111111", "111111110"], b"\r\r\n\n"):
+        building = Building(ASCII)
+        for section in 1, 2:
+            building.fill_to(8 * SECTION * section - 9)
+            building.add(text, codes)
+        read_building(building)
+    for unit, codes in (b"/", ["010000"]), (b" ", ["000000"]), (b"A", ["10000000", "000001"]), (b"A" * 127 + b"B", values_codes([1] * 127) + values_codes([2])):
+        building = Building(PSEUDO)
+        while building.bits <= 8 * 2 * SECTION:
+            building.add(unit, codes)
+        read_building(building)
+    for format, width, character in (PSEUDO, 6, b" "), (NUMERIC, 4, b"0"), (SHEF, 5, b"0"), (ASCII, 6, b" "):
+        building = Building(format)
+        most = 8 * LONGEST_1200 // width
+        building.add(character * most, ["0" * width] * most)
+        read_building(building)
+
+
+def read_building(building):
+    whole = packet_of(building.format, building.data())
+    reads(whole, len(building.text), accepted(building.format, len(whole), building.text, codes=len(building.codes)))
+
+
+def longest_1200():
+    """Both sides of the limits of length and room."""
+    longest_text = packet_of(PSEUDO, bytes_of("011111" * 21333))
+    reads(longest_text, 341328, accepted(PSEUDO, 16012, b"/" * 341328, codes=21333))
+    reads(longest_text, 341327, ("refused 8", 341328, b""))
+    for format, unit, most in (OPEN, b"x", 16000), (PSEUDO, b"A", 21113), (NUMERIC, b":", 16000), (SHEF, b"A", 21333), (ASCII, b"\t", 14222):
+        fullest = packet_of(format, WRITE[format](unit * most))
+        assert len(fullest) == 16012
+        writes(format, unit * most, 16012, answer=("written 16012", 16012, fullest))
+        writes(format, unit * (most + 1), 0, answer=("refused 11", 0, b""))  # 11 comes before 8
+    writes(OPEN, b"x" * 16000, 16011, answer=("refused 8", 16012, b""))
+    writes(SHEF, b"A" * 21334 + b"a", 0, answer=("refused 9", 21334, b""))  # and 9 before 11
+    for format in FORMATS:
+        building = filled(format, 4001, [])
+        text, whole = building.text, packet_of(format, building.data())
+        for room in 0, 4006, 4008:
+            writes(format, text, room, answer=("refused 8", 4009, b""))
+        reads(whole + b"\x00", len(text) + 3, accepted(format, 4009, text, codes=len(building.codes)))
+        for room in 0, len(text) - 1:
+            reads(whole, room, ("refused 8", len(text), b""))
+
+
+def header_lengths_1200():
+    """What the header's length says, with a few bytes behind it: 4 above 16,000, else 5; and five sections that are all there."""
+    for format in FORMATS:
+        for length in 0, 4000, 4001, 8001, 16000, 16001, 16383:
+            for places in (), (12,), (0, 21):
+                refusal = "refused 5" if 1 <= length <= 16000 else "refused 4"
+                reads(flipped(packet(header(2, format, 0, 0, length), b"?"), places), 7, (refusal, 0, b""))
+    reads(packet_of(OPEN, filled(OPEN, 16001, []).data()), 9, ("refused 4", 0, b""))
+
+
+def cut_off_1200():
+    """Packets that lack a byte or more: one or several checksums, the last section, or a part of it."""
+    for format, length, cuts in ((OPEN, 4001, (4, 4004, 4006, 4007, 4008)), (ASCII, 8000, (8006, 8007)), (SHEF, 8001, (8007, 8009, 8010)),
+                                 (NUMERIC, 12001, (12007, 12012)), (PSEUDO, 16000, (16006, 16011))):
+        whole = packet_of(format, filled(format, length, []).data())
+        assert len(whole) == length + 4 + 2 * (length // 4000 + (length % 4000 > 0))
+        for cut in cuts:
+            reads(whole[:cut], 9, ("refused 5", 0, b""))
+
+
+def damaged(whole, *places):
+    """The packet with a byte changed at each of these places, each in another way."""
+    changed = bytearray(whole)
+    for place in places:
+        changed[place] ^= (0x01, 0x80, 0xFF, 0x10, 0x3C)[place % 5]
+    return bytes(changed)
+
+
+def places_in(section, length):
+    """Where one of a packet's sections lies: its first data byte, its last, and its checksum's two bytes."""
+    first = 4 + section * (SECTION + 2)
+    behind = first + min(SECTION, length - section * SECTION)
+    return first, behind - 1, behind, behind + 1
+
+
+def damage_1200():
+    """One section's data damaged in one byte or two neighbouring ones, or its checksum, and up to two header bits flipped; and several sections."""
+    formats, flips = itertools.cycle(FORMATS), itertools.cycle(((), (0,), (13,), (9, 30)))
+    for length, sections in (4030, (0, 1)), (8030, (1, 2)), (12030, (2, 3)):
+        for section in sections:
+            first, last, low, high = places_in(section, length)
+            middle = (first + last) // 2
+            for places in (first,), (last,), (first, first + 1), (last - 1, last), (middle, middle + 1), (low,), (high,), (low, high):
+                format = next(formats)
+                whole = packet_of(format, filled(format, length, []).data())
+                reads(flipped(damaged(whole, *places), next(flips)), 9, ("refused 6", section, b""))
+    whole = packet_of(OPEN, filled(OPEN, 12030, []).data())
+    firsts = [places_in(section, 12030)[0] for section in range(4)]
+    for bad in (0, 1), (1, 2), (0, 3), (2, 3), (0, 1, 2, 3):
+        reads(damaged(whole, *(firsts[section] for section in bad)), 9, ("refused 6", bad[0], b""))
+    reads(damaged(whole, places_in(0, 12030)[1], places_in(1, 12030)[0]), 9, ("refused 6", 0, b""))
+
+
+def other_checksums():
+    """Checksums that are laid out or worked out in other ways: not started anew, over the checksum before, high byte first, all behind the data, one alone."""
+    data = filled(OPEN, 8100, []).data()
+    head, parts = header(2, OPEN, 0, 0, 8100).to_bytes(4, "big"), [data[:4000], data[4000:8000], data[8000:]]
+    sums = [checksum(part) for part in parts]
+    for bodies, section in (
+            ([parts[0], sums[0], parts[1], checksum(data[:8000]), parts[2], checksum(data)], 1),
+            ([parts[0], sums[0], parts[1], sums[1], parts[2], checksum(data)], 2),
+            ([parts[0], sums[0], parts[1], checksum(sums[0] + parts[1]), parts[2], sums[2]], 1),
+            ([parts[0], sums[0], parts[1], sums[1][::-1], parts[2], sums[2]], 1),
+            ([data, *sums], 0),
+            ([data, checksum(data), bytes(4)], 0),
+    ):
+        reads(head + b"".join(bodies), 9, ("refused 6", section, b""))
+
+
+def malformed_1200():
+    """Data that cannot be read from a place in a later section on, or from one over a section's end; bits and codes count as if it lay in one piece."""
+    for section, before, tail in ((1, -1, 2), (1, 0, 1), (1, 1, 1), (1, 3, 1), (1, 5, 1), (1, 6, 1), (1, 7, 1), (1, 300, 1), (2, 2, 1), (2, -40, 9),
+                                  (3, 4, 1), (3, -1, 2)):
+        building = Building(SHEF)
+        building.fill_to(8 * SECTION * section - before)
+        bits = 8 * (SECTION * section + tail) - building.bits
+        read_malformed(building, "111111" + "0" * (bits - 6))
+    for section, before, announced, there in ((1, 2, 1, 0), (1, 6, 3, 2), (1, 6, 9, 3), (1, 8, 2, 1), (1, 400, 128, 100), (2, 4, 9, 3), (3, 770, 128, 127)):
+        building = Building(PSEUDO)
+        building.fill_to(8 * SECTION * section - before)
+        building.add(b"", [f"1{announced - 1:07b}"] + ["110011"] * there)
+        read_malformed(building, "1" * (-building.bits % 8))
+    for length, rest in (4001, "100000"), (4001, "111101"), (8001, "11111111"), (12002, "00000"), (16000, "111110"):
+        building = Building(ASCII)
+        building.fill_to(8 * length - len(rest))
+        read_malformed(building, rest)
+    for rest in "0111", "1110":
+        building = Building(SHEF)
+        building.fill_to(8 * 4004 - len(rest))
+        read_malformed(building, rest)
+
+
+def read_malformed(building, rest):
+    """Whole codes, and a remainder that cannot be read, to the end of a byte. Where a checksum is wrong, that comes first."""
+    data = bytes_of("".join(building.codes) + rest)
+    assert len(data) * 8 == building.bits + len(rest)
+    whole = packet_of(building.format, data)
+    reads(whole, 20, ("refused 7", building.bits, b"", len(building.codes)))
+    if len(data) < 4010:
+        reads(damaged(whole, len(whole) - 1), 20, ("refused 6", 1, b""))
+
+
+def flipped_1200():
+    """Packets of two sections with header bits flipped, and with each number of bits named."""
+    for format, places in zip(FORMATS, ((), (0,), (31,), (7, 22), (0, 13))):
+        building = filled(format, 4040 + format, [])
+        whole = flipped(packet_of(format, building.data(), 1), places)
+        ok = accepted(format, len(whole), building.text, 1, places, len(building.codes))
+        for named in 0, 1, 2, DEFAULT:
+            reads(whole, len(building.text), ok if as_sent(named, len(places)) else ("refused 2", 0, b""), named)
+        reads(whole, 9, ("refused 17", 0, b""), 3)
+
+
+def sections_at_300():
+    """Packets of several sections, read at 300."""
+    for format, length in (OPEN, 4001), (ASCII, 4001), (PSEUDO, 8000):
+        data = filled(format, length, []).data()
+        body = b"".join(data[start:start + 4000] + checksum(data[start:start + 4000]) for start in range(0, length, 4000))
+        reads(header(2, format, 0, 0, length).to_bytes(4, "big") + body, 9, ("refused 4", 0, b""))
+        reads(header(2, format, 0, 0, length).to_bytes(4, "big") + body, 9, ("refused 4", 0, b""), DEFAULT)
+
+
+AT_300 = (published, messages, edges, sixty_threes, line_ends_and_pairs, headers, reader_refusals, endings, compact_data, longest, writer_refusals, texts,
+          edges_named, flipped_headers, tests_behind, too_many_bits, most_codes, fills, cut_runs, line_ends_counted, codes_before_six_ones, values_missing,
+          sections_at_300)
+# Packets of one section have the same answers.
+AT_1200 = (published, edges, edges_named, endings, lengths_1200, other_makers_1200, longest_1200, header_lengths_1200, cut_off_1200, damage_1200,
+           other_checksums, malformed_1200, flipped_1200)
+
+
 def make():
-    for group in (published, messages, edges, sixty_threes, line_ends_and_pairs, headers, reader_refusals, endings, compact_data, longest, writer_refusals,
-                  texts, edges_named, flipped_headers, tests_behind, too_many_bits, most_codes, fills, cut_runs, line_ends_counted, codes_before_six_ones,
-                  values_missing):
-        before = COUNT
-        group()
-        print(f"{group.__name__}: {COUNT - before} cases")
+    global RATE_1200
+    for rate, groups in (300, AT_300), (1200, AT_1200):
+        RATE_1200 = rate == 1200
+        for group in groups:
+            cases, size = COUNT, len(STDIN) + sum(map(len, STDOUT))
+            group()
+            print(f"{rate}, {group.__name__}: {COUNT - cases} cases, {len(STDIN) + sum(map(len, STDOUT)) - size} bytes")
     print(f"{COUNT} cases, {len(STDIN)} bytes")
     return {"stdin": bytes(STDIN), "stdout": "".join(STDOUT).encode()}
 

@@ -4,9 +4,9 @@
  *
  * Each case depends on the seed and its own number only, so `outside-tests/compare/run 1 SEED FIRST` repeats one. A difference in any member of an
  * answer or any byte of a buffer, a byte changed outside of what the answer allows, a read or write past a buffer's end, a mask that does not lead from the
- * received header to a valid one by as many bits as were mended, more codes than the data can have, or an answer other than the one known from how the packet
- * was made ends the run with status 1. So does, in a run of MEANT_CASES or more, an outcome that never occurred, of the list below, of an answer in a format or
- * of a header bit mended. */
+ * received header to a valid one by as many bits as were mended, more codes than the data can have, an answer other than the one known from how the packet
+ * was made, or another at the other rate where both have the same ends the run with status 1. So does, in a run of MEANT_CASES or more, an outcome that never
+ * occurred, of the list below, of an answer in a format at a rate or of a header bit mended. */
 #define _GNU_SOURCE
 #include "independent.h"
 #include "maker.h"
@@ -21,7 +21,7 @@
 #include <time.h>
 #include <unistd.h>
 
-enum { MEANT_CASES = 20000, GUARD = 32, REGION = 28 * 4096, LONG_TEXT = 100000, LONG_TAIL = 8192, MOST_MENDED = 2, MOST_FLIPPED = 4 };
+enum { MEANT_CASES = 30000, GUARD = 32, REGION = 104 * 4096, LONG_TEXT = 400000, LONG_TAIL = 8192, MOST_MENDED = 2, MOST_FLIPPED = 4 };
 
 /* Random numbers: one row for each case. */
 
@@ -57,6 +57,31 @@ static void random_bytes(uint8_t *to, size_t length)
     memcpy(to, &(uint64_t){random_64()}, length);
 }
 
+/* The rate of a case, and the most data bytes at a rate. */
+
+enum { RATES = 2, SECTION = MAKER_SECTION, MOST_SECTIONS = 4 };
+
+static bool rate_1200;
+
+static size_t most_data(bool at_1200)
+{
+    return at_1200 ? ROSOPYAT_MOST_DATA_1200 : ROSOPYAT_MOST_DATA;
+}
+
+static size_t most_text(bool at_1200)
+{
+    return at_1200 ? ROSOPYAT_MOST_TEXT_1200 : ROSOPYAT_MOST_TEXT;
+}
+
+/* The lengths right around the end of each section, from 3,999 on. */
+
+enum { LENGTHS = 3 * MOST_SECTIONS - 1 };
+
+static size_t length_at(unsigned i)
+{
+    return (i / 3 + 1) * SECTION - 1 + i % 3;
+}
+
 /* Outcomes. */
 
 enum outcome {
@@ -71,23 +96,33 @@ enum outcome {
     MENDED_BY_DEFAULT = MENDED_NAMED + 9, /* and the number mended */
     READ_SYNC_0 = MENDED_BY_DEFAULT + 2,
     READ_SYNC_1,
-    READ_DATA_1,
-    READ_DATA_4000,
-    READ_LONGEST,
-    READ_LONGEST_NUMERIC,
-    READ_LONGEST_SHEF,
-    READ_MOST_CODES, /* and the format */
-    READ_ROOM_EXACT = READ_MOST_CODES + 5,
+    READ_DATA_1, /* and 1 at 1200, as wherever a rate is added */
+    READ_DATA_4000 = READ_DATA_1 + RATES,
+    READ_LENGTH_1200, /* and which of the lengths around the ends of sections */
+    READ_LONGEST = READ_LENGTH_1200 + LENGTHS, /* and the rate */
+    READ_LONGEST_NUMERIC = READ_LONGEST + RATES, /* and the rate */
+    READ_LONGEST_SHEF = READ_LONGEST_NUMERIC + RATES, /* and the rate */
+    READ_MOST_CODES = READ_LONGEST_SHEF + RATES, /* and five times the rate, and the format */
+    READ_ROOM_EXACT = READ_MOST_CODES + 5 * RATES,
     READ_ROOM_ONE_MORE,
     READ_TRAILING,
     READ_LONG_TAIL,
     MADE_AND_READ,
     MADE_VALUE_63,
+    SAME_AT_BOTH_RATES,
+    OTHER_LENGTH, /* and the rate: one more than the most data bytes in the header */
+    TOO_LONG_FOR_300 = OTHER_LENGTH + RATES,
+    CUT_OFF, /* and the rate */
+    CUT_OFF_CHECKSUMS = CUT_OFF + RATES,
     MADE_MALFORMED, /* and the format */
     MADE_MALFORMED_MOST_CODES = MADE_MALFORMED + 5, /* and the format */
-    DAMAGED = MADE_MALFORMED_MOST_CODES + 5, /* and its kind */
-    DAMAGED_MENDED = DAMAGED + 4, /* and the header bits flipped beside it */
-    NO_ROOM_ONE_SHORT = DAMAGED_MENDED + 3,
+    MALFORMED_IN_SECTION = MADE_MALFORMED_MOST_CODES + 5, /* and its number */
+    MALFORMED_OVER_END = MALFORMED_IN_SECTION + MOST_SECTIONS,
+    DAMAGED, /* at 300, and its kind */
+    DAMAGED_SECTION = DAMAGED + 4, /* at 1200, and four times the section's number, and its kind */
+    DAMAGED_SECTIONS = DAMAGED_SECTION + 4 * MOST_SECTIONS,
+    DAMAGED_MENDED, /* and three times the rate, and the header bits flipped beside it */
+    NO_ROOM_ONE_SHORT = DAMAGED_MENDED + 3 * RATES,
     FLIPPED_NAMED, /* and five times the number named, and the header bits flipped */
     FLIPPED_BY_DEFAULT = FLIPPED_NAMED + 15, /* and the header bits flipped */
     WRITE_REFUSED = FLIPPED_BY_DEFAULT + 5, /* and its number, 8 to 12 */
@@ -95,9 +130,12 @@ enum outcome {
     WRITE_LOW_16_OURS,
     WRITE_NO_PAIR,
     WRITE_NO_3E,
+    WRITE_ONLY_AT_1200,
     WRITE_SYNC_1,
     WRITE_DATA_4000,
-    WRITE_ROOM_EXACT,
+    WRITE_LENGTH_1200, /* and which of the lengths around the ends of sections */
+    WRITE_LONG_TEXT = WRITE_LENGTH_1200 + LENGTHS, /* and the rate */
+    WRITE_ROOM_EXACT = WRITE_LONG_TEXT + RATES,
     WRITTEN_AND_READ,
     WRITTEN_SPACE,
     WRITTEN_LINE_END, /* and its kind: CR LF, CR alone, LF alone */
@@ -106,6 +144,7 @@ enum outcome {
     WRITTEN_FIRST_63,
     WRITTEN_LAST_63,
     WRITE_ONE_SHORT,
+    WRITE_SHORT_OF_CHECKSUMS,
     OUTCOMES
 };
 
@@ -135,34 +174,85 @@ static const char *const outcome_name[OUTCOMES] = {
     [MENDED_BY_DEFAULT + 1] = "  by default and 1 mended",
     [READ_SYNC_0] = "  with sync 0",
     [READ_SYNC_1] = "  with sync 1",
-    [READ_DATA_1] = "  with 1 data byte",
+    [READ_DATA_1 + 0] = "  with 1 data byte",
+    [READ_DATA_1 + 1] = "  with 1 data byte at 1200",
     [READ_DATA_4000] = "  with 4,000 data bytes",
-    [READ_LONGEST] = "  with 85,328 characters",
-    [READ_LONGEST_NUMERIC] = "  with 8,000 characters of Compact Numeric",
-    [READ_LONGEST_SHEF] = "  with 10,666 characters of Compact SHEF",
+    [READ_LENGTH_1200 + 0] = "  with 3,999 data bytes at 1200",
+    [READ_LENGTH_1200 + 1] = "  with 4,000 data bytes at 1200",
+    [READ_LENGTH_1200 + 2] = "  with 4,001 data bytes at 1200",
+    [READ_LENGTH_1200 + 3] = "  with 7,999 data bytes at 1200",
+    [READ_LENGTH_1200 + 4] = "  with 8,000 data bytes at 1200",
+    [READ_LENGTH_1200 + 5] = "  with 8,001 data bytes at 1200",
+    [READ_LENGTH_1200 + 6] = "  with 11,999 data bytes at 1200",
+    [READ_LENGTH_1200 + 7] = "  with 12,000 data bytes at 1200",
+    [READ_LENGTH_1200 + 8] = "  with 12,001 data bytes at 1200",
+    [READ_LENGTH_1200 + 9] = "  with 15,999 data bytes at 1200",
+    [READ_LENGTH_1200 + 10] = "  with 16,000 data bytes at 1200",
+    [READ_LONGEST + 0] = "  with 85,328 characters",
+    [READ_LONGEST + 1] = "  with 341,328 characters at 1200",
+    [READ_LONGEST_NUMERIC + 0] = "  with 8,000 characters of Compact Numeric",
+    [READ_LONGEST_NUMERIC + 1] = "  with 32,000 characters of Compact Numeric at 1200",
+    [READ_LONGEST_SHEF + 0] = "  with 10,666 characters of Compact SHEF",
+    [READ_LONGEST_SHEF + 1] = "  with 42,666 characters of Compact SHEF at 1200",
     [READ_MOST_CODES + 1] = "  with 5,333 codes of Compact Pseudo Binary",
     [READ_MOST_CODES + 2] = "  with 8,000 codes of Compact Numeric",
     [READ_MOST_CODES + 3] = "  with 6,400 codes of Compact SHEF",
     [READ_MOST_CODES + 4] = "  with 5,333 codes of Compact Full ASCII",
+    [READ_MOST_CODES + 6] = "  with 21,333 codes of Compact Pseudo Binary at 1200",
+    [READ_MOST_CODES + 7] = "  with 32,000 codes of Compact Numeric at 1200",
+    [READ_MOST_CODES + 8] = "  with 25,600 codes of Compact SHEF at 1200",
+    [READ_MOST_CODES + 9] = "  with 21,333 codes of Compact Full ASCII at 1200",
     [READ_ROOM_EXACT] = "  with exactly the room needed",
     [READ_ROOM_ONE_MORE] = "  with one byte more room",
     [READ_TRAILING] = "  with bytes behind the packet",
     [READ_LONG_TAIL] = "  with more than 4,000 bytes behind the packet",
     [MADE_AND_READ] = "  and read as made",
     [MADE_VALUE_63] = "    with a value 63 (Compact Pseudo Binary)",
+    [SAME_AT_BOTH_RATES] = "answered alike at both rates, with at most 4,000 data bytes",
+    [OTHER_LENGTH + 0] = "refused 4 for a length of 4,001",
+    [OTHER_LENGTH + 1] = "refused 4 for a length of 16,001 at 1200",
+    [TOO_LONG_FOR_300] = "refused 4 for several sections at 300",
+    [CUT_OFF + 0] = "refused 5 as cut",
+    [CUT_OFF + 1] = "refused 5 as cut at 1200",
+    [CUT_OFF_CHECKSUMS] = "  with 6 bytes more than the length, or more",
     [MADE_MALFORMED + 1] = "refused 7 as made, Compact Pseudo Binary",
     [MADE_MALFORMED + 3] = "refused 7 as made, Compact SHEF",
     [MADE_MALFORMED + 4] = "refused 7 as made, Compact Full ASCII",
     [MADE_MALFORMED_MOST_CODES + 1] = "  with as many codes as the data can have, Compact Pseudo Binary",
     [MADE_MALFORMED_MOST_CODES + 3] = "  with as many codes as the data can have, Compact SHEF",
     [MADE_MALFORMED_MOST_CODES + 4] = "  with as many codes as the data can have, Compact Full ASCII",
+    [MALFORMED_IN_SECTION + 0] = "refused 7 as made at 1200, for a place in section 0",
+    [MALFORMED_IN_SECTION + 1] = "refused 7 as made at 1200, for a place in section 1",
+    [MALFORMED_IN_SECTION + 2] = "refused 7 as made at 1200, for a place in section 2",
+    [MALFORMED_IN_SECTION + 3] = "refused 7 as made at 1200, for a place in section 3",
+    [MALFORMED_OVER_END] = "  with data behind it in the next section",
     [DAMAGED + 0] = "refused 6 for a data byte changed",
     [DAMAGED + 1] = "refused 6 for two neighbouring data bytes changed",
     [DAMAGED + 2] = "refused 6 for a checksum byte changed",
     [DAMAGED + 3] = "refused 6 for both checksum bytes changed",
+    [DAMAGED_SECTION + 0] = "refused 6 at 1200, with section 0 for a data byte changed",
+    [DAMAGED_SECTION + 1] = "refused 6 at 1200, with section 0 for two neighbouring data bytes changed",
+    [DAMAGED_SECTION + 2] = "refused 6 at 1200, with section 0 for a checksum byte changed",
+    [DAMAGED_SECTION + 3] = "refused 6 at 1200, with section 0 for both checksum bytes changed",
+    [DAMAGED_SECTION + 4] = "refused 6 at 1200, with section 1 for a data byte changed",
+    [DAMAGED_SECTION + 5] = "refused 6 at 1200, with section 1 for two neighbouring data bytes changed",
+    [DAMAGED_SECTION + 6] = "refused 6 at 1200, with section 1 for a checksum byte changed",
+    [DAMAGED_SECTION + 7] = "refused 6 at 1200, with section 1 for both checksum bytes changed",
+    [DAMAGED_SECTION + 8] = "refused 6 at 1200, with section 2 for a data byte changed",
+    [DAMAGED_SECTION + 9] = "refused 6 at 1200, with section 2 for two neighbouring data bytes changed",
+    [DAMAGED_SECTION + 10] = "refused 6 at 1200, with section 2 for a checksum byte changed",
+    [DAMAGED_SECTION + 11] = "refused 6 at 1200, with section 2 for both checksum bytes changed",
+    [DAMAGED_SECTION + 12] = "refused 6 at 1200, with section 3 for a data byte changed",
+    [DAMAGED_SECTION + 13] = "refused 6 at 1200, with section 3 for two neighbouring data bytes changed",
+    [DAMAGED_SECTION + 14] = "refused 6 at 1200, with section 3 for a checksum byte changed",
+    [DAMAGED_SECTION + 15] = "refused 6 at 1200, with section 3 for both checksum bytes changed",
+    [DAMAGED_SECTIONS] = "  and other sections behind it",
     [DAMAGED_MENDED + 0] = "  under a header as sent",
     [DAMAGED_MENDED + 1] = "  under a header with 1 bit flipped",
     [DAMAGED_MENDED + 2] = "  under a header with 2 bits flipped",
+    [DAMAGED_MENDED + 3] = "  under a header as sent at 1200",
+    [DAMAGED_MENDED + 4] = "  under a header with 1 bit flipped at 1200",
+    [DAMAGED_MENDED + 5] = "  under a header with 2 bits flipped at 1200",
     [NO_ROOM_ONE_SHORT] = "text buffer one byte too short",
     [FLIPPED_NAMED + 1] = "refused 2 with 0 bits named and 1 flipped",
     [FLIPPED_NAMED + 2] = "refused 2 with 0 bits named and 2 flipped",
@@ -185,8 +275,18 @@ static const char *const outcome_name[OUTCOMES] = {
     [WRITE_LOW_16_OURS] = "  whose low 16 bits are a format's number",
     [WRITE_NO_PAIR] = "writer refused 9, a pair of Compact Numeric",
     [WRITE_NO_3E] = "writer refused 9, 3E in Compact Pseudo Binary",
+    [WRITE_ONLY_AT_1200] = "writer refused 11 at 300, what has room at 1200",
     [WRITE_SYNC_1] = "writer accepted, with sync 1",
     [WRITE_DATA_4000] = "  with 4,000 data bytes",
+    [WRITE_LENGTH_1200 + 1] = "  with 4,000 data bytes at 1200",
+    [WRITE_LENGTH_1200 + 2] = "  with 4,001 data bytes at 1200",
+    [WRITE_LENGTH_1200 + 4] = "  with 8,000 data bytes at 1200",
+    [WRITE_LENGTH_1200 + 5] = "  with 8,001 data bytes at 1200",
+    [WRITE_LENGTH_1200 + 7] = "  with 12,000 data bytes at 1200",
+    [WRITE_LENGTH_1200 + 8] = "  with 12,001 data bytes at 1200",
+    [WRITE_LENGTH_1200 + 10] = "  with 16,000 data bytes at 1200",
+    [WRITE_LONG_TEXT + 0] = "  with more than 50,000 characters",
+    [WRITE_LONG_TEXT + 1] = "  with more characters than a packet has at 300",
     [WRITE_ROOM_EXACT] = "  with exactly the room needed",
     [WRITTEN_AND_READ] = "  and read back as written",
     [WRITTEN_SPACE] = "  with a space behind it (Compact Numeric)",
@@ -198,6 +298,7 @@ static const char *const outcome_name[OUTCOMES] = {
     [WRITTEN_FIRST_63] = "  right behind a space or slash",
     [WRITTEN_LAST_63] = "  right before a space or slash",
     [WRITE_ONE_SHORT] = "packet buffer one byte too short",
+    [WRITE_SHORT_OF_CHECKSUMS] = "packet buffer of 6 bytes more than the data, or more, too short",
 };
 
 static uint64_t outcomes[OUTCOMES];
@@ -217,7 +318,7 @@ static const struct {
     {"Compact Full ASCII", 0x1f1, 0xf01},
 };
 
-static uint64_t read_answers[FORMATS][REFUSALS], write_answers[FORMATS][REFUSALS];
+static uint64_t read_answers[RATES][FORMATS][REFUSALS], write_answers[RATES][FORMATS][REFUSALS];
 
 /* The bits of a format's shortest code, and how many codes so many bits have at most: n bytes of data 4n/3 in Compact Pseudo Binary and Full ASCII, 2n in
  * Numeric, 8n/5 in SHEF. In Open there are none. */
@@ -290,6 +391,11 @@ static void dump_bytes(const char *name, const uint8_t *bytes, size_t length)
     for (size_t i = 0; i < length; i++)
         printf("%s%02X", i % 32 == 0 ? "\n  " : "", bytes[i]);
     printf("\n");
+}
+
+static const char *rate_name(void)
+{
+    return rate_1200 ? "1200" : "300";
 }
 
 static void dump_case(void)
@@ -370,12 +476,12 @@ static struct place place_input(const uint8_t *bytes, size_t length)
     return place;
 }
 
-/* One too short, exact, one longer, much longer, or anything. */
+/* One too short, or a few; exact, one longer, much longer, or anything. */
 static size_t some_room(size_t needed)
 {
     switch (below(8)) {
     case 0:
-        return needed > 0 ? needed - 1 : 0;
+        return needed > 8 && chance(30) ? needed - between(1, 8) : needed > 0 ? needed - 1 : 0;
     case 1:
         return below(needed + 1);
     case 2:
@@ -383,7 +489,7 @@ static size_t some_room(size_t needed)
     case 3:
         return needed + between(2, 2000);
     case 4:
-        return chance(10) ? 90000 : needed + 40;
+        return chance(10) ? most_text(rate_1200) + 5000 : needed + 40;
     case 5:
         return chance(20) ? 0 : needed;
     default:
@@ -394,17 +500,20 @@ static size_t some_room(size_t needed)
 /* Making packets. */
 
 struct made {
-    uint8_t packet[ROSOPYAT_MOST_PACKET + LONG_TAIL];
+    uint8_t packet[ROSOPYAT_MOST_PACKET_1200 + LONG_TAIL];
     size_t length;
     bool headed; /* it starts with a valid header, but for so many flipped bits; what follows holds where that header is found */
     unsigned flipped;
     uint32_t mask;  /* of the flipped bits */
+    bool of_data;   /* and the header is that of the data */
+    bool cut;       /* then: the packet is not there to its end */
     bool known;     /* the outcome is known from the making: this format, sync and text, in so many codes */
     bool malformed; /* and then it is refused as malformed, at the bit `bad`, with so many codes before it */
-    bool damaged;   /* known too: refused by checksum, for a damage of this kind */
-    unsigned kind;
+    bool damaged;   /* known too: refused by checksum, for a damage of this kind in this section, and maybe others in those behind it */
+    unsigned kind, section;
+    bool others;
     unsigned format, sync;
-    unsigned flag; /* that the header says */
+    unsigned flag, header_length; /* that the header says */
     size_t data_length, text_length, codes, bad;
 };
 
@@ -418,8 +527,26 @@ static void add_text(unsigned character, size_t count)
     made.text_length += count;
 }
 
-static size_t some_length(void)
+/* Around the end of a section, or anywhere in it. */
+static size_t some_long_length(void)
 {
+    size_t end = SECTION * between(1, MOST_SECTIONS);
+    switch (below(4)) {
+    case 0:
+        return end;
+    case 1:
+        return end - (chance(60) ? 1 : between(1, 10));
+    case 2:
+        return end == ROSOPYAT_MOST_DATA_1200 ? end : end + (chance(60) ? 1 : between(1, 10));
+    default:
+        return between(end - SECTION + 1, end);
+    }
+}
+
+static size_t some_length(bool for_1200)
+{
+    if (for_1200 && chance(50))
+        return some_long_length();
     unsigned dice = below(1000);
     if (dice < 400)
         return between(1, 8);
@@ -606,6 +733,8 @@ static void make_malformed(unsigned format, struct maker_bits *bits)
         made.bad = bits->bits;
         maker_put(bits, 0x3f, 6);
         maker_put(bits, chance(50) ? ~0u : random_64(), between(2, 24));
+        for (unsigned more = chance(50) ? below(90) : 0; more > 0; more--)
+            maker_put(bits, random_64(), 8);
     } else if (format == 4 && bits->bits % 8 == 0) { /* nine bits are needed */
         made.bad = bits->bits;
         maker_put(bits, 0xfe | below(2), 8);
@@ -615,10 +744,10 @@ static void make_malformed(unsigned format, struct maker_bits *bits)
         maker_put(bits, chance(80), 1);
 }
 
-static size_t make_data(unsigned format, uint8_t *data)
+static size_t make_data(unsigned format, bool for_1200, uint8_t *data)
 {
-    bool longest = format >= 1 && format <= 3 && chance(4), shortest = format >= 3 && !longest && chance(4);
-    size_t length = longest || shortest ? 4000 : some_length();
+    bool longest = format >= 1 && format <= 3 && chance(6), shortest = format >= 3 && !longest && chance(8);
+    size_t most = most_data(for_1200), length = longest || shortest ? most : some_length(for_1200);
     struct maker_bits bits = {data, 0, 0};
     if (format == 0) {
         random_bytes(data, length);
@@ -645,7 +774,7 @@ static size_t make_data(unsigned format, uint8_t *data)
         make_shef(&bits, 8 * length, longest, shortest);
     else
         make_full_ascii(&bits, 8 * length, shortest);
-    if (dice < 35 && length <= 3990) {
+    if (dice < 35 && length <= most - 10) {
         made.known = false;
         make_ending(&bits);
         while (bits.bits % 8 != 0)
@@ -663,7 +792,7 @@ static size_t make_data(unsigned format, uint8_t *data)
         maker_fill(&bits);
         return between(1, bits.bits / 8);
     }
-    if (dice < 58 && format != 2 && length <= 3900)
+    if (dice < (length < SECTION - 10 ? 58 : 68) && format != 2 && length <= most - 100)
         make_malformed(format, &bits);
     made.codes = bits.codes;
     return maker_fill(&bits);
@@ -689,19 +818,51 @@ static void damage_header(void)
     made.flipped = flips;
 }
 
-/* Only a data byte or two neighbouring ones, or only one or both checksum bytes, each made any other. */
+/* Of a section: where its data stands in the packet, and how long that is. */
+
+static size_t section_place(unsigned section)
+{
+    return maker_place((size_t)section * SECTION);
+}
+
+static size_t section_length(unsigned section)
+{
+    size_t rest = made.data_length - (size_t)section * SECTION;
+    return rest < SECTION ? rest : SECTION;
+}
+
+static unsigned sections_made(void)
+{
+    return (made.data_length + SECTION - 1) / SECTION;
+}
+
+/* Only a data byte of a section or two neighbouring ones, or only one or both bytes of its checksum, each made any other. Answers which. */
+static unsigned damage_section(unsigned section)
+{
+    size_t length = section_length(section), first;
+    unsigned kind = below(length > 1 ? 4 : 3);
+    if (length == 1 && kind == 1)
+        kind = 3;
+    if (kind >= 2)
+        first = kind == 2 ? length + below(2) : length;
+    else
+        first = chance(20) ? 0 : chance(20) ? length - 1 - kind : below(length - kind);
+    for (unsigned i = 0; i <= kind % 2; i++)
+        made.packet[section_place(section) + first + i] ^= between(1, 255);
+    return kind;
+}
+
 static void damage_data(void)
 {
-    size_t length = made.data_length, first;
-    made.kind = below(length > 1 ? 4 : 3);
-    if (length == 1 && made.kind == 1)
-        made.kind = 3;
-    if (made.kind >= 2)
-        first = made.kind == 2 ? length + below(2) : length;
-    else
-        first = chance(20) ? 0 : chance(20) ? length - 1 - made.kind : below(length - made.kind);
-    for (unsigned i = 0; i <= made.kind % 2; i++)
-        made.packet[4 + first + i] ^= between(1, 255);
+    unsigned sections = sections_made();
+    made.section = chance(40) ? sections - 1 : below(sections);
+    made.kind = damage_section(made.section);
+    made.others = false;
+    for (unsigned section = made.section + 1; section < sections; section++)
+        if (chance(25)) {
+            damage_section(section);
+            made.others = true;
+        }
     made.damaged = made.known;
     made.known = false;
 }
@@ -709,28 +870,37 @@ static void damage_data(void)
 static void flip_data(void)
 {
     made.known = false;
-    for (unsigned i = between(1, 3); i > 0; i--)
-        flip(made.packet, 32 + (chance(30) ? 8 * made.data_length + below(16) : below(8 * made.data_length)));
+    for (unsigned i = between(1, 3); i > 0; i--) {
+        unsigned section = below(sections_made());
+        if (chance(30))
+            flip(made.packet + section_place(section) + section_length(section), below(16));
+        else
+            flip(made.packet + section_place(section), below(8 * section_length(section)));
+    }
 }
 
 /* A valid header that says something else. */
 static void other_header(unsigned flag)
 {
-    static const unsigned lengths[] = {0, 0, 1, 3999, 4000, 4001, 4002, 0x3fff};
-    made.known = false;
+    static const unsigned lengths[] = {0, 0, 1, 3999, 4000, 4001, 4002, 8001, 15999, 16000, 16001, 16002, 0x3fff};
+    unsigned too_long = most_data(rate_1200) + 1;
+    made.known = made.of_data = false;
     if (chance(50))
-        flag = below(128);
+        flag = chance(40) ? 0x40 | below(FORMATS) << 2 : below(128);
     made.flag = flag;
     types_made |= 1u << (flag >> 2);
-    uint32_t header = maker_header(flag, chance(30) ? lengths[below(8)] : chance(30) ? below(0x4000) : made.data_length);
+    if (chance(60))
+        made.header_length = chance(35) ? too_long : chance(50) ? lengths[below(sizeof lengths / sizeof *lengths)] : below(0x4000);
+    uint32_t header = maker_header(flag, made.header_length);
     for (int i = 0; i < 4; i++)
         made.packet[i] = header >> (24 - 8 * i);
 }
 
 static void cut_packet(void)
 {
+    made.cut = made.of_data;
     made.known = made.damaged = false;
-    made.length = chance(30) ? made.length - 1 : chance(30) ? below(8) % made.length : below(made.length);
+    made.length = chance(30) ? made.length - 1 : chance(30) ? made.length - between(1, 7) : chance(30) ? below(8) % made.length : below(made.length);
 }
 
 static void add_tail(void)
@@ -748,7 +918,7 @@ static unsigned some_format(void)
 static void make_packet(void)
 {
     made.known = true;
-    made.headed = made.damaged = made.malformed = false;
+    made.headed = made.of_data = made.cut = made.damaged = made.malformed = false;
     made.flag = 0;
     made.text_length = made.codes = 0;
     if (chance(4)) { /* any bytes at all */
@@ -759,16 +929,16 @@ static void make_packet(void)
     }
     made.format = some_format();
     made.sync = below(2);
-    made.data_length = make_data(made.format, made.packet + 4);
+    made.data_length = made.header_length = make_data(made.format, rate_1200 || chance(5), made.packet + 4);
     unsigned flag = made.flag = 0x40 | made.format << 2 | made.sync << 1;
     made.length = maker_close(made.packet, flag, made.data_length);
-    made.headed = true;
+    made.headed = made.of_data = true;
     if (chance(10))
         other_header(flag);
     damage_header();
     if (chance(8))
         flip_data();
-    else if (chance(15))
+    else if (chance(sections_made() > 1 ? 30 : 15))
         damage_data();
     if (chance(8))
         cut_packet();
@@ -807,18 +977,18 @@ static struct naming some_naming(void)
     return (struct naming){by_default ? 1 : some_mend(), by_default};
 }
 
-static rosopyat_read_answer read_by_library(struct naming naming, const uint8_t *packet, size_t length, uint8_t *text, size_t room)
+static rosopyat_read_answer read_by_library(struct naming naming, bool at_1200, const uint8_t *packet, size_t length, uint8_t *text, size_t room)
 {
     if (naming.by_default)
-        return rosopyat_read(packet, length, text, room);
-    return rosopyat_read_mending(naming.mend, packet, length, text, room);
+        return rosopyat_read(at_1200, packet, length, text, room);
+    return rosopyat_read_mending(naming.mend, at_1200, packet, length, text, room);
 }
 
 static rosopyat_read_answer read_independently(struct naming naming, const uint8_t *packet, size_t length, uint8_t *text, size_t room)
 {
     if (naming.by_default)
-        return independent_read(packet, length, text, room);
-    return independent_read_mending(naming.mend, packet, length, text, room);
+        return independent_read(rate_1200, packet, length, text, room);
+    return independent_read_mending(naming.mend, rate_1200, packet, length, text, room);
 }
 
 static bool may_be_named(uint32_t mend)
@@ -847,14 +1017,19 @@ static bool same_read_answer(rosopyat_read_answer a, rosopyat_read_answer b)
 static bool read_as_made(rosopyat_read_answer answer, const uint8_t *text)
 {
     return answer.refusal == 0 && answer.format == made.format && answer.sync == made.sync && answer.mended == made.flipped && answer.mask == made.mask &&
-           answer.data_length == made.data_length && answer.used == made.data_length + 6 && answer.text_length == made.text_length &&
+           answer.data_length == made.data_length && answer.used == maker_length(made.data_length) && answer.text_length == made.text_length &&
            memcmp(text, made_text, made.text_length) == 0;
 }
 
-/* Nothing but the refusal is told. */
+/* Nothing but the refusal and its number is told. */
+static bool only_refused_with(rosopyat_read_answer answer, uint32_t refusal, size_t number)
+{
+    return same_read_answer(answer, (rosopyat_read_answer){.refusal = refusal, .number = number});
+}
+
 static bool only_refused(rosopyat_read_answer answer, uint32_t refusal)
 {
-    return same_read_answer(answer, (rosopyat_read_answer){.refusal = refusal});
+    return only_refused_with(answer, refusal, 0);
 }
 
 static bool malformed_as_made(rosopyat_read_answer answer)
@@ -896,6 +1071,24 @@ static const char *compare_codes(uint32_t mend, rosopyat_read_answer answer)
     return answer.codes <= most_codes(format, answer.number) ? NULL : "more codes than the bits before the bad place can have";
 }
 
+static void count_damage(void)
+{
+    outcomes[rate_1200 ? DAMAGED_SECTION + 4 * made.section + made.kind : DAMAGED + made.kind]++;
+    outcomes[DAMAGED_SECTIONS] += made.others;
+    outcomes[DAMAGED_MENDED + 3 * rate_1200 + made.flipped]++;
+}
+
+static void count_malformed(void)
+{
+    unsigned section = made.bad / (8 * SECTION);
+    outcomes[MADE_MALFORMED + made.format]++;
+    outcomes[MADE_MALFORMED_MOST_CODES + made.format] += made.codes == most_codes(made.format, 8 * made.data_length);
+    if (rate_1200 && section < sections_made()) {
+        outcomes[MALFORMED_IN_SECTION + section]++;
+        outcomes[MALFORMED_OVER_END] += section + 1 < sections_made();
+    }
+}
+
 /* What is known from the making, whatever the two implementations say; NULL where it is so. */
 static const char *compare_making(uint32_t mend, rosopyat_read_answer answer, const uint8_t *text, size_t room)
 {
@@ -905,19 +1098,26 @@ static const char *compare_making(uint32_t mend, rosopyat_read_answer answer, co
         return only_refused(answer, 2) ? NULL : "the header is not refused";
     if (!is_found(mend))
         return NULL;
+    if (made.of_data && made.length >= 4 && made.data_length > most_data(rate_1200)) {
+        outcomes[TOO_LONG_FOR_300]++;
+        return only_refused(answer, 4) ? NULL : "several sections are not refused at 300";
+    }
+    if (made.cut) {
+        outcomes[CUT_OFF + rate_1200] += made.length >= 4;
+        outcomes[CUT_OFF_CHECKSUMS] += made.length >= made.data_length + 6;
+        return only_refused(answer, made.length < 4 ? 1 : 5) ? NULL : "the packet is not refused as cut";
+    }
     if (made.damaged) {
-        if (!only_refused(answer, 6))
+        if (!only_refused_with(answer, 6, made.section))
             return "the damage is not refused by checksum";
-        outcomes[DAMAGED + made.kind]++;
-        outcomes[DAMAGED_MENDED + made.flipped]++;
+        count_damage();
     }
     if (!made.known)
         return answer.refusal != 0 || answer.mask == made.mask ? NULL : "the mask is not that of the flipped bits";
     if (made.malformed) {
         if (!malformed_as_made(answer))
             return "the data is not refused as made";
-        outcomes[MADE_MALFORMED + made.format]++;
-        outcomes[MADE_MALFORMED_MOST_CODES + made.format] += made.codes == most_codes(made.format, 8 * made.data_length);
+        count_malformed();
         return NULL;
     }
     if (room < made.text_length)
@@ -931,15 +1131,32 @@ static const char *compare_making(uint32_t mend, rosopyat_read_answer answer, co
     return NULL;
 }
 
-/* The default's answer and text once more, by naming one bit. */
-static const char *compare_default(rosopyat_read_answer by_default, struct place packet, struct place text)
+/* The library's answer and text once more, by another call that is to give the same; `differ` says that it does not. */
+static const char *compare_again(rosopyat_read_answer answer, struct naming naming, bool at_1200, struct place packet, struct place text, const char *differ)
 {
-    memcpy(library_output + text.start, untouched + text.start, by_default.text_length);
-    rosopyat_read_answer named = rosopyat_read_mending(1, at_place(input, packet), packet.length, at_place(library_output, text), text.length);
+    memcpy(library_output + text.start, untouched + text.start, answer.text_length);
+    rosopyat_read_answer again = read_by_library(naming, at_1200, at_place(input, packet), packet.length, at_place(library_output, text), text.length);
     const char *wrong = compare_input(packet);
-    if (!wrong && !same_read_answer(by_default, named))
-        wrong = "the default is not the answer with one bit named";
-    return wrong ? wrong : compare_outputs(text, named.text_length);
+    if (!wrong && !same_read_answer(answer, again))
+        wrong = differ;
+    return wrong ? wrong : compare_outputs(text, again.text_length);
+}
+
+/* By naming one bit, where that is the default. */
+static const char *compare_default(struct naming naming, rosopyat_read_answer answer, struct place packet, struct place text)
+{
+    if (!naming.by_default)
+        return NULL;
+    return compare_again(answer, (struct naming){1, false}, rate_1200, packet, text, "the default is not the answer with one bit named");
+}
+
+/* At the other rate, where the header is found and says that there is no more than one section. */
+static const char *compare_rates(struct naming naming, rosopyat_read_answer answer, struct place packet, struct place text)
+{
+    if (!is_found(naming.mend) || made.header_length > SECTION)
+        return NULL;
+    outcomes[SAME_AT_BOTH_RATES]++;
+    return compare_again(answer, naming, !rate_1200, packet, text, "the answer is another at the other rate");
 }
 
 static void count_refusal(struct naming naming, rosopyat_read_answer answer, size_t room)
@@ -950,8 +1167,10 @@ static void count_refusal(struct naming naming, rosopyat_read_answer answer, siz
     outcomes[TOO_MANY_LOW_8_OURS] += too_many && may_be_named(naming.mend & 0xff);
     outcomes[TOO_MANY_LOW_16_OURS] += too_many && may_be_named(naming.mend & 0xffff);
     outcomes[NO_ROOM_ONE_SHORT] += answer.refusal == 8 && room + 1 == answer.number;
-    if (is_found(naming.mend) && answer.refusal > 3 && made.flag >> 5 == 2 && (made.flag >> 2 & 7) < FORMATS)
-        read_answers[made.flag >> 2 & 7][answer.refusal]++;
+    if (is_found(naming.mend) && answer.refusal > 3 && made.flag >> 5 == 2 && (made.flag >> 2 & 7) < FORMATS) {
+        read_answers[rate_1200][made.flag >> 2 & 7][answer.refusal]++;
+        outcomes[OTHER_LENGTH + rate_1200] += answer.refusal == 4 && made.header_length == most_data(rate_1200) + 1;
+    }
 }
 
 /* With more bits flipped than named. */
@@ -962,6 +1181,13 @@ static void count_flipped(struct naming naming)
     outcomes[naming.by_default ? FLIPPED_BY_DEFAULT + made.flipped : FLIPPED_NAMED + 5 * naming.mend + made.flipped]++;
 }
 
+/* At 1200, where it is one of the lengths around the ends of sections. */
+static void count_length(unsigned outcome, size_t data_length)
+{
+    for (unsigned i = 0; i < LENGTHS; i++)
+        outcomes[outcome + i] += rate_1200 && data_length == length_at(i);
+}
+
 static void count_reading(struct naming naming, rosopyat_read_answer answer, size_t room)
 {
     if (may_be_named(naming.mend))
@@ -970,18 +1196,20 @@ static void count_reading(struct naming naming, rosopyat_read_answer answer, siz
         count_refusal(naming, answer, room);
         return;
     }
-    read_answers[answer.format][0]++;
+    read_answers[rate_1200][answer.format][0]++;
     outcomes[MENDED_0 + answer.mended]++;
     for (unsigned bit = 0; bit < HEADER_BITS; bit++)
         mended_bits[bit] += answer.mask >> bit & 1;
     outcomes[naming.by_default ? MENDED_BY_DEFAULT + answer.mended : MENDED_NAMED + 3 * naming.mend + answer.mended]++;
     outcomes[READ_SYNC_0 + answer.sync]++;
-    outcomes[READ_DATA_1] += answer.data_length == 1;
-    outcomes[READ_DATA_4000] += answer.data_length == 4000;
-    outcomes[READ_LONGEST] += answer.text_length == ROSOPYAT_MOST_TEXT;
-    outcomes[READ_LONGEST_NUMERIC] += answer.format == 2 && answer.text_length == 8000;
-    outcomes[READ_LONGEST_SHEF] += answer.format == 3 && answer.text_length == 10666;
-    outcomes[READ_MOST_CODES + answer.format] += answer.data_length == 4000 && answer.codes == most_codes(answer.format, 8 * 4000);
+    outcomes[READ_DATA_1 + rate_1200] += answer.data_length == 1;
+    outcomes[READ_DATA_4000] += !rate_1200 && answer.data_length == 4000;
+    count_length(READ_LENGTH_1200, answer.data_length);
+    outcomes[READ_LONGEST + rate_1200] += answer.text_length == most_text(rate_1200);
+    outcomes[READ_LONGEST_NUMERIC + rate_1200] += answer.format == 2 && answer.text_length == (rate_1200 ? 32000 : 8000);
+    outcomes[READ_LONGEST_SHEF + rate_1200] += answer.format == 3 && answer.text_length == (rate_1200 ? 42666 : 10666);
+    outcomes[READ_MOST_CODES + 5 * rate_1200 + answer.format] +=
+        answer.data_length == most_data(rate_1200) && answer.codes == most_codes(answer.format, 8 * most_data(rate_1200));
     outcomes[READ_ROOM_EXACT] += room == answer.text_length;
     outcomes[READ_ROOM_ONE_MORE] += room == answer.text_length + 1;
     outcomes[READ_TRAILING] += made.length > answer.used;
@@ -999,7 +1227,7 @@ static bool reader_case(void)
     size_t room = some_room(needed.refusal == 8 ? needed.number : below(100));
     struct place text = new_place(room);
 
-    rosopyat_read_answer ours = read_by_library(naming, at_place(input, packet), packet.length, at_place(library_output, text), room);
+    rosopyat_read_answer ours = read_by_library(naming, rate_1200, at_place(input, packet), packet.length, at_place(library_output, text), room);
     const char *wrong = compare_input(packet);
     rosopyat_read_answer theirs = read_independently(naming, input + packet.start, packet.length, independent_output + text.start, room);
     if (!wrong)
@@ -1014,12 +1242,14 @@ static bool reader_case(void)
         wrong = compare_codes(naming.mend, ours);
     if (!wrong)
         wrong = compare_making(naming.mend, ours, library_output + text.start, room);
-    if (!wrong && naming.by_default)
-        wrong = compare_default(ours, packet, text);
+    if (!wrong)
+        wrong = compare_default(naming, ours, packet, text);
+    if (!wrong)
+        wrong = compare_rates(naming, ours, packet, text);
     if (wrong) {
         printf("differs: reader: %s\n", wrong);
         dump_case();
-        printf("%" PRIu32 " bits to mend%s, text room %zu\n", naming.mend, naming.by_default ? " by default" : "", room);
+        printf("%s bps, %" PRIu32 " bits to mend%s, text room %zu\n", rate_name(), naming.mend, naming.by_default ? " by default" : "", room);
         dump_read_answer("library    ", ours);
         dump_read_answer("independent", theirs);
         dump_bytes("packet", input_copy + packet.start, packet.length);
@@ -1064,11 +1294,13 @@ static size_t make_run(uint8_t *text, bool few, bool runs, unsigned sixty_threes
     return run;
 }
 
-static size_t make_pieces(unsigned format, uint8_t *text, size_t least)
+/* `runs`: of Compact Pseudo Binary no values. */
+static size_t make_pieces(unsigned format, uint8_t *text, size_t least, bool runs)
 {
     size_t length = 0;
-    bool few = chance(30), runs = chance(3);
+    bool few = chance(30);
     unsigned line_ends = chance(5) ? 99 : few ? 3 : 20, pairs = chance(70) ? 0 : chance(50) ? 2 : 20, sixty_threes = chance(30) ? 60 : 4;
+    unsigned always = below(2 * 27); /* in every second text all pairs are the same */
     while (length < least) {
         if (format == 0)
             text[length++] = random_64() >> 56;
@@ -1081,8 +1313,9 @@ static size_t make_pieces(unsigned format, uint8_t *text, size_t least)
             else
                 length += piece;
             if (chance(pairs)) { /* mostly without a code */
-                text[length++] = "+-."[below(3)];
-                text[length++] = "+-.#=:E\r\n"[below(9)];
+                unsigned pair = always < 27 ? always : below(27);
+                text[length++] = "+-."[pair / 9];
+                text[length++] = "+-.#=:E\r\n"[pair % 9];
             }
         } else if (format == 3) {
             static const char all[] = "0123456789 +,-./#=:;ABCDEFGHIJKLMNOPQRSTUVWXYZ";
@@ -1098,13 +1331,14 @@ static size_t make_pieces(unsigned format, uint8_t *text, size_t least)
     return length;
 }
 
-/* The longest part that still fits a packet, for both sides of that edge. */
-static size_t longest_part(unsigned format, const uint8_t *text, size_t length)
+/* The longest part whose data has at most so many bytes, for both sides of that edge. */
+static size_t longest_part(unsigned format, const uint8_t *text, size_t length, size_t most)
 {
     size_t fits = 1, exceeds = length + 1;
     while (exceeds - fits > 1) {
         size_t middle = fits + (exceeds - fits) / 2;
-        if (independent_write(format, false, text, middle, untouched + REGION, 0).refusal == 11)
+        rosopyat_write_answer asked = independent_write(true, format, false, text, middle, untouched + REGION, 0);
+        if (asked.refusal == 11 || (asked.refusal == 8 && asked.number > maker_length(most)))
             exceeds = middle;
         else
             fits = middle;
@@ -1118,14 +1352,16 @@ static size_t make_text(uint32_t format, uint8_t *text)
     if (dice < 3)
         return 0;
     if (dice < 10) {
-        size_t length = make_pieces(coded, text, coded == 0 ? 4100 : coded == 1 && chance(20) ? 90000 : 11000);
-        size_t fits = longest_part(coded, text, length);
+        unsigned sections = rate_1200 || chance(10) ? between(1, MOST_SECTIONS) : 1;
+        bool runs = coded == 1 && chance(60);
+        size_t length = make_pieces(coded, text, sections * (coded == 0 ? 4100 : runs ? 86000 : 11000), runs);
+        size_t fits = longest_part(coded, text, length, sections * SECTION);
         size_t part = chance(60) ? fits : chance(70) ? fits + 1 : fits + between(2, 10);
         return part < length ? part : length;
     }
     if (dice < 14)
-        return make_pieces(coded, text, between(1, 20000));
-    size_t length = make_pieces(coded, text, some_length());
+        return make_pieces(coded, text, between(1, rate_1200 ? 60000 : 20000), chance(3));
+    size_t length = make_pieces(coded, text, some_length(false), chance(3));
     return chance(50) ? length : between(1, length);
 }
 
@@ -1139,10 +1375,19 @@ static bool is_ours(uint32_t format)
     return format < FORMATS;
 }
 
-static void count_writing(rosopyat_write_answer answer, size_t room, uint32_t format, bool sync, const uint8_t *text)
+/* Of a packet of so many bytes. */
+static size_t data_length_of(size_t packet_length)
+{
+    size_t data_length = packet_length - 6;
+    while (maker_length(data_length) > packet_length)
+        data_length--;
+    return data_length;
+}
+
+static void count_writing(rosopyat_write_answer answer, size_t room, uint32_t format, bool sync, const uint8_t *text, size_t length)
 {
     if (is_ours(format))
-        write_answers[format][answer.refusal]++;
+        write_answers[rate_1200][format][answer.refusal]++;
     if (answer.refusal != 0) {
         outcomes[WRITE_NO_PAIR] +=
             answer.refusal == 9 && format == 2 && answer.number > 0 && makes_pair(text[answer.number - 1], text[answer.number]);
@@ -1151,10 +1396,13 @@ static void count_writing(rosopyat_write_answer answer, size_t room, uint32_t fo
         outcomes[WRITE_LOW_8_OURS] += answer.refusal == 12 && is_ours(format & 0xff);
         outcomes[WRITE_LOW_16_OURS] += answer.refusal == 12 && is_ours(format & 0xffff);
         outcomes[WRITE_ONE_SHORT] += answer.refusal == 8 && room + 1 == answer.number;
+        outcomes[WRITE_SHORT_OF_CHECKSUMS] += answer.refusal == 8 && room >= data_length_of(answer.number) + 6;
         return;
     }
     outcomes[WRITE_SYNC_1] += sync;
-    outcomes[WRITE_DATA_4000] += answer.length == 4006;
+    outcomes[WRITE_DATA_4000] += !rate_1200 && answer.length == 4006;
+    count_length(WRITE_LENGTH_1200, data_length_of(answer.length));
+    outcomes[WRITE_LONG_TEXT + rate_1200] += length > (rate_1200 ? ROSOPYAT_MOST_TEXT : 50000);
     outcomes[WRITE_ROOM_EXACT] += room == answer.length;
 }
 
@@ -1218,17 +1466,27 @@ static size_t make_normal(uint32_t format, const uint8_t *text, size_t text_leng
 /* Reads the library's packet back into the other output, which is put back by the caller, and writes what came back again. */
 static bool reads_back(struct place packet, size_t length, uint32_t format, bool sync, const uint8_t *text, size_t text_length)
 {
-    static uint8_t again[ROSOPYAT_MOST_PACKET];
+    static uint8_t again[ROSOPYAT_MOST_PACKET_1200];
     uint8_t *back = independent_output;
     size_t normal_length = make_normal(format, text, text_length);
-    rosopyat_read_answer answer = rosopyat_read(library_output + packet.start, length, back, REGION);
+    rosopyat_read_answer answer = rosopyat_read(rate_1200, library_output + packet.start, length, back, REGION);
     bool same = answer.refusal == 0 && answer.format == format && answer.sync == sync && answer.mended == 0 && answer.mask == 0 &&
-                answer.codes == codes_of(format, normal, normal_length) && answer.data_length + 6 == length && answer.used == length &&
+                answer.codes == codes_of(format, normal, normal_length) && maker_length(answer.data_length) == length && answer.used == length &&
                 answer.text_length == normal_length && memcmp(back, normal, normal_length) == 0;
-    rosopyat_write_answer rewritten = rosopyat_write(format, sync, back, answer.text_length, again, sizeof again);
+    rosopyat_write_answer rewritten = rosopyat_write(rate_1200, format, sync, back, answer.text_length, again, sizeof again);
     same &= rewritten.refusal == 0 && rewritten.length == length && memcmp(again, library_output + packet.start, length) == 0;
     memcpy(back, untouched, answer.text_length);
     return same;
+}
+
+/* At the other rate a text has the same packet, or, if that has several sections, none: they are for 1200 alone. */
+static bool same_at_both_rates(struct place packet, size_t length, uint32_t format, bool sync, const uint8_t *text, size_t text_length)
+{
+    static uint8_t other[ROSOPYAT_MOST_PACKET_1200];
+    rosopyat_write_answer answer = rosopyat_write(!rate_1200, format, sync, text, text_length, other, sizeof other);
+    if (length > ROSOPYAT_MOST_PACKET)
+        return same_write_answer(answer, (rosopyat_write_answer){.refusal = 11});
+    return same_write_answer(answer, (rosopyat_write_answer){.length = length}) && memcmp(other, library_output + packet.start, length) == 0;
 }
 
 static unsigned other_character(unsigned kind)
@@ -1281,13 +1539,13 @@ static bool writer_case(void)
     if (length > 0 && chance(10))
         damage_text(length);
     struct place text = place_input(made_text, length);
-    rosopyat_write_answer needed = independent_write(format, sync, input + text.start, length, untouched + REGION, 0);
+    rosopyat_write_answer needed = independent_write(rate_1200, format, sync, input + text.start, length, untouched + REGION, 0);
     size_t room = some_room(needed.refusal == 8 ? needed.number : below(100));
     struct place packet = new_place(room);
 
-    rosopyat_write_answer ours = rosopyat_write(format, sync, at_place(input, text), length, at_place(library_output, packet), room);
+    rosopyat_write_answer ours = rosopyat_write(rate_1200, format, sync, at_place(input, text), length, at_place(library_output, packet), room);
     const char *wrong = compare_input(text);
-    rosopyat_write_answer theirs = independent_write(format, sync, input + text.start, length, independent_output + packet.start, room);
+    rosopyat_write_answer theirs = independent_write(rate_1200, format, sync, input + text.start, length, independent_output + packet.start, room);
     if (!wrong)
         wrong = compare_input(text);
     if (!wrong && !same_write_answer(ours, theirs))
@@ -1296,10 +1554,12 @@ static bool writer_case(void)
         wrong = compare_outputs(packet, ours.length);
     if (!wrong && ours.refusal == 0 && !reads_back(packet, ours.length, format, sync, input + text.start, length))
         wrong = "the packet does not read back";
+    if (!wrong && ours.refusal == 0 && !same_at_both_rates(packet, ours.length, format, sync, input + text.start, length))
+        wrong = "the packet is another at the other rate";
     if (wrong) {
         printf("differs: writer: %s\n", wrong);
         dump_case();
-        printf("format %u sync %u packet room %zu\n", format, sync, room);
+        printf("%s bps, format %u sync %u packet room %zu\n", rate_name(), format, sync, room);
         dump_write_answer("library    ", ours);
         dump_write_answer("independent", theirs);
         dump_bytes("text", input_copy + text.start, length);
@@ -1307,8 +1567,10 @@ static bool writer_case(void)
         return false;
     }
     outcomes[WRITTEN_AND_READ] += ours.refusal == 0;
+    outcomes[WRITE_ONLY_AT_1200] +=
+        ours.refusal == 11 && !rate_1200 && independent_write(true, format, sync, input + text.start, length, untouched + REGION, 0).refusal == 8;
     put_back(packet, ours.length);
-    count_writing(ours, room, format, sync, input + text.start);
+    count_writing(ours, room, format, sync, input + text.start, length);
     return true;
 }
 
@@ -1329,10 +1591,10 @@ static void prepare(void)
     memcpy(independent_output, untouched, REGION);
 }
 
-static bool print_answers(const char *side, unsigned format, const uint64_t *answers, unsigned meant)
+static bool print_answers(const char *side, bool at_1200, unsigned format, const uint64_t *answers, unsigned meant)
 {
     bool missing = false;
-    printf("%10" PRIu64 "  %s accepted %s", answers[0], side, formats[format].name);
+    printf("%10" PRIu64 "  %s accepted %s%s", answers[0], side, formats[format].name, at_1200 ? " at 1200" : "");
     for (unsigned refusal = 0; refusal < REFUSALS; refusal++) {
         if (refusal > 0 && answers[refusal] > 0)
             printf(", refused %u: %" PRIu64, refusal, answers[refusal]);
@@ -1370,9 +1632,10 @@ static bool print_mended_bits(bool meant)
 static bool print_outcomes(bool all_meant)
 {
     bool missing = false;
-    for (unsigned format = 0; format < FORMATS; format++) {
-        missing |= print_answers("reader", format, read_answers[format], all_meant ? formats[format].read : 0);
-        missing |= print_answers("writer", format, write_answers[format], all_meant ? formats[format].written : 0);
+    for (unsigned i = 0; i < RATES * FORMATS; i++) {
+        unsigned rate = i / FORMATS, format = i % FORMATS;
+        missing |= print_answers("reader", rate, format, read_answers[rate][format], all_meant ? formats[format].read : 0);
+        missing |= print_answers("writer", rate, format, write_answers[rate][format], all_meant ? formats[format].written : 0);
     }
     for (int i = 0; i < OUTCOMES; i++)
         if (outcome_name[i])
@@ -1392,6 +1655,7 @@ int main(int count, char **words)
     prepare();
     for (case_number = first; case_number < first + cases; case_number++) {
         state = (seed + 1) * 0xd1342543de82ef95 + case_number * 0xaf251af3b0f025b5;
+        rate_1200 = chance(45);
         if (!(chance(60) ? reader_case() : writer_case()))
             return 1;
     }

@@ -107,6 +107,61 @@ static uint16_t checksum(const uint8_t *data, size_t length)
     return sum;
 }
 
+/* Sections (001, Figure 3 and 3.3): behind every 4,000 data bytes, and behind what remains of the data, stands the checksum of just these bytes. */
+
+enum { SECTION = 4000, MOST_SECTIONS = 4, HEADER = 4, CHECKSUM = 2 };
+
+static size_t most_data(bool rate_1200)
+{
+    return rate_1200 ? MOST_SECTIONS * SECTION : SECTION;
+}
+
+static size_t packet_size(size_t length)
+{
+    size_t sections = (length + SECTION - 1) / SECTION;
+    return HEADER + length + CHECKSUM * sections;
+}
+
+/* The data bytes of a section that begins where so many remain. */
+static size_t section_size(size_t remain)
+{
+    return remain < SECTION ? remain : SECTION;
+}
+
+/* Puts the data of all sections together. Answers false when a checksum differs, with the number of the first section in *bad of which it does. */
+static bool read_sections(const uint8_t *packet, size_t length, uint8_t *data, size_t *bad)
+{
+    const uint8_t *from = packet + HEADER;
+    size_t done = 0;
+    *bad = 0;
+    while (done < length) {
+        size_t size = section_size(length - done);
+        uint16_t sum = checksum(from, size);
+        if (sum != (from[size] | from[size + 1] << 8))
+            return false;
+        memcpy(data + done, from, size);
+        done += size;
+        from += size + CHECKSUM;
+        ++*bad;
+    }
+    return true;
+}
+
+static void write_sections(uint8_t *packet, size_t length, const uint8_t *data)
+{
+    uint8_t *to = packet + HEADER;
+    size_t done = 0;
+    while (done < length) {
+        size_t size = section_size(length - done);
+        uint16_t sum = checksum(data + done, size);
+        memcpy(to, data + done, size);
+        to[size] = sum & 0xff;
+        to[size + 1] = sum >> 8;
+        done += size;
+        to += size + CHECKSUM;
+    }
+}
+
 /* Reading. A reader of data counts the characters, and writes them where text is not NULL; and it counts the indicators, values and codes that it takes, in
  * *codes. It answers false when the data is malformed, with the bit in *bad at which the first unreadable piece starts. */
 
@@ -327,7 +382,7 @@ static rosopyat_read_answer refuse_malformed(size_t bad, size_t codes)
     return answer;
 }
 
-rosopyat_read_answer independent_read_mending(uint32_t mend, const uint8_t *packet, size_t packet_length, uint8_t *text, size_t text_room)
+rosopyat_read_answer independent_read_mending(uint32_t mend, bool rate_1200, const uint8_t *packet, size_t packet_length, uint8_t *text, size_t text_room)
 {
     if (mend > 2)
         return refuse_reading(17, 0);
@@ -344,15 +399,15 @@ rosopyat_read_answer independent_read_mending(uint32_t mend, const uint8_t *pack
     if ((flag & 1) != 0 || type != 2 || format > 4)
         return refuse_reading(3, 0);
     size_t length = header >> 10 & 0x3fff;
-    if (length == 0 || length > 4000)
+    if (length == 0 || length > most_data(rate_1200))
         return refuse_reading(4, 0);
-    if (packet_length < length + 6)
+    if (packet_length < packet_size(length))
         return refuse_reading(5, 0);
-    const uint8_t *data = packet + 4;
-    if (checksum(data, length) != (data[length] | data[length + 1] << 8))
-        return refuse_reading(6, 0);
-
+    uint8_t data[MOST_SECTIONS * SECTION];
     size_t count = 0, codes = 0, bad = 0;
+    if (!read_sections(packet, length, data, &bad))
+        return refuse_reading(6, bad);
+
     if (!read_data(format, data, length, NULL, &count, &codes, &bad))
         return refuse_malformed(bad, codes);
     if (text_room < count)
@@ -367,13 +422,13 @@ rosopyat_read_answer independent_read_mending(uint32_t mend, const uint8_t *pack
     answer.codes = codes;
     answer.data_length = length;
     answer.text_length = count;
-    answer.used = length + 6;
+    answer.used = packet_size(length);
     return answer;
 }
 
-rosopyat_read_answer independent_read(const uint8_t *packet, size_t packet_length, uint8_t *text, size_t text_room)
+rosopyat_read_answer independent_read(bool rate_1200, const uint8_t *packet, size_t packet_length, uint8_t *text, size_t text_room)
 {
-    return independent_read_mending(1, packet, packet_length, text, text_room);
+    return independent_read_mending(1, rate_1200, packet, packet_length, text, text_room);
 }
 
 /* Writing. */
@@ -600,7 +655,8 @@ static rosopyat_write_answer refuse_writing(uint32_t refusal, size_t number)
     return answer;
 }
 
-rosopyat_write_answer independent_write(uint32_t format, bool sync, const uint8_t *text, size_t text_length, uint8_t *packet, size_t packet_room)
+rosopyat_write_answer independent_write(bool rate_1200, uint32_t format, bool sync, const uint8_t *text, size_t text_length, uint8_t *packet,
+                                        size_t packet_room)
 {
     if (format > 4)
         return refuse_writing(12, 0);
@@ -612,12 +668,13 @@ rosopyat_write_answer independent_write(uint32_t format, bool sync, const uint8_
     struct bit_row row = {NULL, 0};
     write_data(format, &row, text, text_length);
     size_t length = row.bits / 8;
-    if (length > 4000)
+    if (length > most_data(rate_1200))
         return refuse_writing(11, 0);
-    if (packet_room < length + 6)
-        return refuse_writing(8, length + 6);
+    if (packet_room < packet_size(length))
+        return refuse_writing(8, packet_size(length));
 
-    row.data = packet + 4;
+    uint8_t data[MOST_SECTIONS * SECTION];
+    row.data = data;
     row.bits = 0;
     write_data(format, &row, text, text_length);
     uint32_t flag = 0x40u | format << 2 | (uint32_t)sync << 1;
@@ -627,11 +684,9 @@ rosopyat_write_answer independent_write(uint32_t format, bool sync, const uint8_
     header |= remainder_of(header & 0x7fffffff);
     for (int i = 0; i < 4; i++)
         packet[i] = header >> (24 - 8 * i);
-    uint16_t sum = checksum(packet + 4, length);
-    packet[4 + length] = sum & 0xff;
-    packet[5 + length] = sum >> 8;
+    write_sections(packet, length, data);
 
     rosopyat_write_answer answer = {0};
-    answer.length = length + 6;
+    answer.length = packet_size(length);
     return answer;
 }

@@ -13,8 +13,8 @@ use lib.Seq.{drop-at, length-take-le, getD-take}
 use Rattle.header.specs.declared.Format.{Format}
 use Rattle.header.specs.declared.Format.the-variants.{Open, PseudoBinary, Numeric, Shef, FullAscii}
 use Rattle.header.specs.Fields.{bytesOf}
-use Rattle.checksum.specs.Checksum.{checksumBytes}
-use Rattle.checksum.proofs.Row.{checksum-bytes-length}
+use Rattle.sections.specs.Sections.{inSections}
+use Rattle.sections.proofs.Found.{sent-length}
 use Rattle.codes.specs.Coded.{CodedBelow}
 use Rattle.full_ascii.proofs.Writer as ascii-writer
 use Rattle.numeric.proofs.Table as numeric-table
@@ -35,7 +35,7 @@ use Rattle.reader.specs.declared.ReadAnswer.the-variants.{Refused as NotRead}
 use Rattle.writer.specs.declared.WriteAnswer.{WriteAnswer}
 use Rattle.writer.specs.declared.WriteAnswer.the-variants.{Refused as NotWritten}
 use Rattle.reader.specs.Examine.{Fault, Examines}
-use Rattle.packet.specs.Packet.{packetOf, headerFor}
+use Rattle.packet.specs.Packet.{wholeLength, packetOf, headerFor}
 use Rattle.reader.specs.Reader.{ReadFault, Reads}
 use Rattle.terms.specs.Terms.{OnePacket}
 use Rattle.writer.specs.Writer.{WriteFault, Writes, ourPacket}
@@ -52,12 +52,11 @@ exactly Refusal told Fault turn Answered to from as-told =
     let first = numbered Refusal told Fault turn as-told in
     (λ a. first .0 (a .0, a .1, to (a .0) (a .2)), λ f. let r = first .1 f in (r .0, r .1, from (r .0) (r .2)))
 
-our-length : (format : Format) (sync : Bool) (text : List ℕ) → length (ourPacket format sync text) ≡ length (dataOf format text) + 6
+our-length : (format : Format) (sync : Bool) (text : List ℕ) → length (ourPacket format sync text) ≡ wholeLength (length (dataOf format text))
 unfolding ourPacket packetOf bytesOf
 our-length format sync text =
     let carried = dataOf format text in
-    let header = headerFor format sync (length carried) in
-    omega (arith, length-append (bytesOf header) (carried ++ checksumBytes carried), length-append carried (checksumBytes carried), checksum-bytes-length carried)
+    omega (arith, length-append (bytesOf (headerFor format sync (length carried))) (inSections carried), sent-length carried)
 
 module _ (terms : Terms) (bytes : OnePacket (terms .most)) where
   pub demand-1 : Demand1 terms

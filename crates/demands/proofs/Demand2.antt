@@ -1,7 +1,7 @@
 -- Demand 2 holds, under all terms that may be named.
 -- Assumes nothing.
 use mathlib.Core.Bool.{Bool}
-use mathlib.Core.List.{List, [], _++_, append-assoc}
+use mathlib.Core.List.{List, [], _++_}
 use mathlib.Core.Logic.{_↔_}
 use mathlib.Core.Path.{_≡_, refl, sym, ap, ap₂, _∙_, subst, subst⁻¹}
 use Prim.Native.Nat.{ℕ, _+_, _^_, _≤_, _<_}
@@ -16,7 +16,7 @@ use Rattle.header.specs.Formats.{formatNumber}
 use Rattle.header.specs.Valid.{lengthIn}
 use Rattle.header.proofs.Formats.{one-number}
 use Rattle.distance.specs.Distance.{distance}
-use Rattle.checksum.specs.Checksum.{checksumBytes}
+use Rattle.sections.specs.Sections.{sentLength}
 use Rattle.formats.specs.Data.{Carries, codesIn, AllCoded, comesBack, dataOf, codesOf}
 use Rattle.formats.proofs.Codes.{ours-codes}
 use Rattle.formats.proofs.Formats.{carries-coded, carries-kept, carries-some, data-some, no-fewer, writer-carries}
@@ -30,7 +30,7 @@ use Rattle.reader.specs.declared.ReadAnswer.the-variants.{Accepted}
 use Rattle.writer.specs.declared.WriteAnswer.{WriteAnswer}
 use Rattle.writer.specs.declared.WriteAnswer.the-variants.{Written, Refused as NotWritten}
 use Rattle.reader.specs.Examine.{Allowed, readingOf, Accepts, Examines}
-use Rattle.packet.specs.Packet.{received, dataIn, packetOf, headerFor}
+use Rattle.packet.specs.Packet.{wholeLength, received, dataIn, packetOf, headerFor}
 use Rattle.reader.specs.Reader.{Reads}
 use Rattle.terms.specs.Terms.{MayBeNamed}
 use Rattle.writer.specs.Writer.{ourPacket, Writes}
@@ -115,7 +115,7 @@ module _ (terms : Terms) (named : MayBeNamed terms) where
       subst (λ (k : Format). Writable terms k text) same (record { some = w .some; coded = w .coded; few = w .few }) in
       let back =
       reads-back format sync text (drop n lent) entry exit answer writable held (subst (λ (p : List ℕ). Reads terms p entry answer exit) is reads) in
-      (back .0, sym (w .fits ∙ ap (λ (k : Format). length (dataOf k text) + 6) same), back .1)
+      (back .0, sym (w .fits ∙ ap (λ (k : Format). wholeLength (length (dataOf k text))) same), back .1)
 
   -- ---- a packet is accepted exactly when it is allowed and the buffer holds its text
 
@@ -201,14 +201,15 @@ module _ (terms : Terms) (named : MayBeNamed terms) where
           few = subst (λ (w : ℕ). distance (received packet) w ≤ terms .mend) (sym same-header) (a .framed .near .near);
         }
 
-    arrived-so : packet ≡ arriving (received packet) whole (drop (6 + lengthIn header) packet)
+    abbrev behind : List ℕ
+    behind = drop (sentLength (lengthIn header)) (drop 4 packet)
+
+    arrived-so : packet ≡ arriving (received packet) whole behind
     unfolding arriving packetOf bytesOf
     arrived-so =
         head-and-rest packet four bytes
         ∙ ap (λ (l : List ℕ). bytesOf (received packet) ++ l)
-        (behind-header packet header (a .framed .whole)
-        ∙ ap (λ (sum : List ℕ). carried ++ (sum ++ drop (6 + lengthIn header) packet)) (a .summed)
-        ∙ sym (append-assoc carried (checksumBytes carried) (drop (6 + lengthIn header) packet)))
+        (behind-header packet header (a .framed .whole) (a .summed))
 
   -- of an accepted packet, said of its reading
   accepted-is-made : (packet : List ℕ) (reading : Reading) (text : List ℕ) → Bytes packet → Accepts terms packet reading text
@@ -224,7 +225,7 @@ module _ (terms : Terms) (named : MayBeNamed terms) where
       × (r .mask ≡ bitXor (received packet) (received made)))
       (a .is) (
         whole packet (a .format) header text bytes (a .allowed),
-        drop (6 + lengthIn header) packet,
+        behind packet (a .format) header text bytes (a .allowed),
         made-of packet (a .format) header text bytes (a .allowed),
         flipped packet (a .format) header text bytes (a .allowed),
         arrived-so packet (a .format) header text bytes (a .allowed),

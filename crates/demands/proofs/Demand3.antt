@@ -1,10 +1,10 @@
 -- Demand 3 holds, under all terms that may be named.
 -- Assumes nothing.
 use mathlib.Core.Bool.{Bool}
-use mathlib.Core.List.{List, [], _∷_, _++_, append-assoc}
+use mathlib.Core.List.{List, [], _∷_, _++_}
 use mathlib.Core.Logic.{_≢_, _↔_}
 use mathlib.Core.Path.{_≡_, refl, sym, ap, ap₂, _∙_, subst, subst₂}
-use Prim.Native.Nat.{ℕ, _/_, _%_, _^_, _≤_, _<_}
+use Prim.Native.Nat.{ℕ, _^_, _≤_, _<_}
 use native.Mathlib.Omega.{arith}
 use lib.Bits.{bitXor}
 use lib.ListN.{length, drop}
@@ -17,8 +17,10 @@ use Rattle.header.specs.Valid.{Valid}
 use Rattle.distance.specs.Distance.{ValidWithin, distance}
 use Rattle.distance.proofs.Unique.{one-near, none-within}
 use Rattle.checksum.specs.Alike.{AlikeBut}
-use Rattle.checksum.specs.Checksum.{checksumOf, checksumBytes}
+use Rattle.checksum.specs.Checksum.{checksumBytes}
 use Rattle.checksum.proofs.Detect.{checksum-bytes-detect}
+use Rattle.checksum.proofs.Row.{checksum-bytes-length}
+use Rattle.sections.specs.Sections.{sectionCount, section, inSections, besides}
 use Rattle.formats.specs.Data.{codesIn, comesBack}
 use Rattle.refusals.specs.declared.ExamineRefusal.the-variants.{NoHeader, Checksum}
 use Rattle.refusals.specs.declared.ReadRefusal.the-variants.{Packet}
@@ -35,7 +37,7 @@ use Rattle.terms.specs.Terms.{MayBeNamed}
 use Rattle.reader.proofs.ExamineOnce.{examines-one}
 use Rattle.reader.proofs.ExamineStages.{clear-two}
 use Rattle.reader.proofs.ReadOnce.{reads-one, refused-packet}
-use Rattle.packet.proofs.Sent.{received-front, arrived, received-is, header-valid}
+use Rattle.packet.proofs.Sent.{received-front, arrived, header-valid}
 use Rattle.reader.proofs.Sent.{sent-allowed, sent-codes, sent-reading, sent-refused}
 use Rattle.demands.specs.Demand3.{RefusedByChecksum, Demand3}
 use Rattle.demands.specs.Makers.{Made, Flipped, FlippedBeyond, arriving, readingWith}
@@ -44,24 +46,19 @@ module _ (terms : Terms) (named : MayBeNamed terms) (format : Format) (sync : Bo
   small : length (made .carried) < 2 ^ 14
   small = omega (arith, made .few, named .bytes)
 
-  -- the packet is the header that was sent, the data and the checksum
+  -- the header that was sent
   pub packet-header : received packet ≡ headerFor format sync (length (made .carried))
-  unfolding packetOf checksumBytes
+  unfolding packetOf
   packet-header =
       ap received (made .is)
-      ∙ received-is (headerFor format sync (length (made .carried))) (made .carried) (checksumOf (made .carried) % 256) (checksumOf (made .carried) / 256) []
-      (header-valid format sync (length (made .carried)) small .bits)
+      ∙ received-front (headerFor format sync (length (made .carried))) (inSections (made .carried)) (header-valid format sync (length (made .carried)) small .bits)
 
   near : (word : ℕ) → Flipped terms packet word → distance word (headerFor format sync (length (made .carried))) ≤ terms .mend
   near word flipped = subst (λ (h : ℕ). distance word h ≤ terms .mend) packet-header (flipped .few)
 
-  arrives : (word : ℕ) (after : List ℕ)
-      → arriving word packet after
-      ≡ bytesOf word ++ (made .carried ++ (checksumOf (made .carried) % 256 ∷ checksumOf (made .carried) / 256 ∷ after))
-  unfolding arriving packetOf checksumBytes bytesOf
-  arrives word after =
-      ap (λ (l : List ℕ). bytesOf word ++ (drop 4 l ++ after)) (made .is)
-      ∙ ap (λ (l : List ℕ). bytesOf word ++ l) (append-assoc (made .carried) (checksumOf (made .carried) % 256 ∷ checksumOf (made .carried) / 256 ∷ []) after)
+  arrives : (word : ℕ) (after : List ℕ) → arriving word packet after ≡ arrived word (inSections (made .carried)) after
+  unfolding arriving packetOf bytesOf
+  arrives word after = ap (λ (l : List ℕ). bytesOf word ++ (drop 4 l ++ after)) (made .is)
 
   module _ (word : ℕ) (flipped : Flipped terms packet word) (after entry exit : List ℕ) (answer : ReadAnswer) where
     pub intact : length (comesBack format text) ≤ length entry → Reads terms (arriving word packet after) entry answer exit
@@ -70,53 +67,46 @@ module _ (terms : Terms) (named : MayBeNamed terms) (format : Format) (sync : Bo
         (readingWith format sync (distance word (received packet)) (bitXor word (received packet))
         (codesIn format (comesBack format text) (made .carried) (made .carries)) (length (made .carried)) (length (comesBack format text))))
         × (exit ≡ comesBack format text ++ drop (length (comesBack format text)) entry)
-    unfolding checksumBytes
     intact held reads =
-        let low = checksumOf (made .carried) % 256 in
-        let high = checksumOf (made .carried) / 256 in
         let back = comesBack format text in
         let header = headerFor format sync (length (made .carried)) in
-        let came = arrived word (made .carried) low high after in
-        let allowed =
-        sent-allowed terms named format sync word (made .carried) low high after (made .some) (made .few) (flipped .bits) (near word flipped) refl back (made .carries) in
+        let came = arrived word (inSections (made .carried)) after in
+        let allowed = sent-allowed terms named format sync word (made .carried) after (made .some) (made .few) (flipped .bits) (near word flipped) back (made .carries) in
         let codes = codesIn format back (dataIn header came) (allowed .carries) in
-        let sent =
-        sent-codes terms named format sync word (made .carried) low high after (made .some) (made .few) (flipped .bits) (near word flipped) refl back (made .carries) in
+        let sent = sent-codes terms named format sync word (made .carried) after (made .some) (made .few) (flipped .bits) (near word flipped) back (made .carries) in
         let once =
         reads-one terms (named .bytes) came entry answer (Accepted (readingOf format header (received came) back codes)) exit (back ++ drop (length back) entry)
         (subst (λ (p : List ℕ). Reads terms p entry answer exit) (arrives word after) reads)
         (back, record { format = format; header = header; allowed = allowed; is = refl }, held, refl) in (
           once .0
               ∙ ap {B = ReadAnswer} Accepted
-              (sent-reading terms named format sync word (made .carried) low high after (made .some) (made .few) (flipped .bits) (near word flipped) back codes)
+              (sent-reading terms named format sync word (made .carried) after (made .some) (made .few) (flipped .bits) (near word flipped) back codes)
               ∙ ap₂ (λ (h k : ℕ). Accepted (readingWith format sync (distance word h) (bitXor word h) k (length (made .carried)) (length back))) (sym packet-header) sent,
           once .1,
         )
 
-    -- what is refused by its checksum is handed out nothing of
-    refused : (came : List ℕ) → Refuses terms came Checksum → Reads terms came entry answer exit → RefusedByChecksum entry answer exit
-    refused came refuses reads =
-        reads-one terms (named .bytes) came entry answer (Refused (Packet Checksum)) exit entry reads (refused-packet terms came (length entry) Checksum refuses, refl)
+    -- as many bytes came for a section and its checksum, but the checksum is not theirs: refused, and nothing is handed out
+    refused : (k : ℕ) → k < sectionCount (length (made .carried)) → (row sum : List ℕ) → length row ≡ length (section (made .carried) k) → length sum ≡ 2
+        → (sum ≡ checksumBytes row → ⊥) → Reads terms (arrived word (besides (made .carried) k (row ++ sum)) after) entry answer exit
+        → RefusedByChecksum k entry answer exit
+    refused k there row sum as-long two bad reads =
+        let came = arrived word (besides (made .carried) k (row ++ sum)) after in
+        let refuses =
+        sent-refused terms named format sync word (made .carried) after (made .some) (made .few) (flipped .bits) (near word flipped) k there row sum as-long two bad in
+        reads-one terms (named .bytes) came entry answer (Refused (Packet (Checksum k))) exit entry reads (refused-packet terms came (length entry) (Checksum k) refuses, refl)
 
-    pub damaged-data : (place : ℕ) (other : List ℕ) → Bytes (made .carried) → Bytes other → AlikeBut place other (made .carried) → other ≢ made .carried
-        → Reads terms (bytesOf word ++ (other ++ (checksumBytes (made .carried) ++ after))) entry answer exit → RefusedByChecksum entry answer exit
-    unfolding checksumBytes
-    damaged-data place other bytes other-bytes alike differs reads =
-        let low = checksumOf (made .carried) % 256 in
-        let high = checksumOf (made .carried) / 256 in
-        let long : length other ≡ length (made .carried) = alike .same-length in
-        refused (arrived word other low high after)
-        (sent-refused terms named format sync word other low high after (subst (λ (n : ℕ). 1 ≤ n) (sym long) (made .some))
-        (subst (λ (n : ℕ). n ≤ terms .most) (sym long) (made .few)) (flipped .bits)
-        (subst (λ (n : ℕ). distance word (headerFor format sync n) ≤ terms .mend) (sym long) (near word flipped))
-        (λ e. checksum-bytes-detect alike other-bytes bytes differs (sym e)))
-        reads
+    pub damaged-data : (k : ℕ) → k < sectionCount (length (made .carried)) → (place : ℕ) (other : List ℕ) → Bytes (section (made .carried) k) → Bytes other
+        → AlikeBut place other (section (made .carried) k) → other ≢ section (made .carried) k
+        → Reads terms (bytesOf word ++ (besides (made .carried) k (other ++ checksumBytes (section (made .carried) k)) ++ after)) entry answer exit
+        → RefusedByChecksum k entry answer exit
+    damaged-data k there place other bytes other-bytes alike differs =
+        refused k there other (checksumBytes (section (made .carried) k)) (alike .same-length) (checksum-bytes-length (section (made .carried) k))
+        (λ e. checksum-bytes-detect alike other-bytes bytes differs (sym e))
 
-    pub damaged-sum : (low high : ℕ) → low ∷ high ∷ [] ≢ checksumBytes (made .carried)
-        → Reads terms (bytesOf word ++ (made .carried ++ (low ∷ high ∷ after))) entry answer exit → RefusedByChecksum entry answer exit
-    damaged-sum low high differs reads =
-        refused (arrived word (made .carried) low high after)
-        (sent-refused terms named format sync word (made .carried) low high after (made .some) (made .few) (flipped .bits) (near word flipped) differs) reads
+    pub damaged-sum : (k : ℕ) → k < sectionCount (length (made .carried)) → (low high : ℕ) → low ∷ high ∷ [] ≢ checksumBytes (section (made .carried) k)
+        → Reads terms (bytesOf word ++ (besides (made .carried) k (section (made .carried) k ++ (low ∷ high ∷ [])) ++ after)) entry answer exit
+        → RefusedByChecksum k entry answer exit
+    damaged-sum k there low high differs = refused k there (section (made .carried) k) (low ∷ high ∷ []) refl refl differs
 
   -- ---- which bits were flipped
 

@@ -1,9 +1,9 @@
 -- Every row of the table of edges holds.
 -- Assumes nothing.
 use mathlib.Core.Bool.{Bool, true, false, not, _&&_}
-use mathlib.Core.List.{List, [], _∷_}
-use mathlib.Core.Path.{_≡_, subst₂}
-use Prim.Native.Nat.{ℕ, _^_}
+use mathlib.Core.List.{List, [], _∷_, append-nil}
+use mathlib.Core.Path.{_≡_, refl, sym, ap, _∙_, subst, subst₂}
+use Prim.Native.Nat.{ℕ, _+_, _*_, _/_, _^_, _<_}
 use native.Mathlib.Omega.{arith}
 use lib.Bits.{bitXor}
 use lib.Count.{onesIn}
@@ -20,10 +20,11 @@ use Rattle.header.specs.declared.Format.{Format}
 use Rattle.header.specs.declared.Format.the-variants.{Open, PseudoBinary, Numeric, Shef, FullAscii}
 use Rattle.header.specs.Check.{generator, remainder, checkOf}
 use Rattle.header.specs.Flag.{Odd, flagBits, spareIn, syncIn, extendedTypeIn, messageTypeIn, parityFor}
-use Rattle.header.specs.Valid.{flagIn, lengthIn, checkIn, informationIn}
+use Rattle.header.specs.Valid.{Valid, flagIn, lengthIn, checkIn, informationIn}
 use Rattle.header.specs.Fields.{fieldsIn, headerOf, lowFlag, bytesOf}
 use Rattle.mending.specs.declared.Mending.the-variants.{Mended}
-use Rattle.distance.specs.Distance.{distance}
+use Rattle.bits.proofs.Ones.{differences-self}
+use Rattle.distance.specs.Distance.{ValidWithin, distance}
 use Rattle.mending.specs.Mends.{MendsWithin}
 use Rattle.mending.specs.Search.{isValid, turnedOver, answerOf, search}
 use Rattle.mending.proofs.Search.{passing-valid}
@@ -54,16 +55,18 @@ use Rattle.pseudo_binary.proofs.Table as pseudo-table
 use Rattle.shef.specs.Table as shef
 use Rattle.shef.specs.Writer as shef-writer
 use Rattle.shef.proofs.Table as shef-table
-use Rattle.refusals.specs.declared.ExamineRefusal.the-variants.{TooManyBits, NoHeader, OtherType}
+use Rattle.refusals.specs.declared.ExamineRefusal.the-variants.{TooManyBits, NoHeader, OtherType, OtherLength}
 use Rattle.formats.specs.Ceiling.{ceiling}
 use Rattle.formats.specs.Data.{CarriesIn, UnreadableAfter, coded, dataOf, comesBack}
-use Rattle.packet.specs.Packet.{received, headerFor}
-use Rattle.terms.specs.Terms.{naming}
-use Rattle.packet.proofs.Sent.{header-valid, header-typed, header-length, header-sync}
+use Rattle.sections.specs.Sections.{sectionCount}
+use Rattle.packet.specs.Packet.{wholeLength, received, headerFor}
+use Rattle.terms.specs.Terms.{mostAt, naming}
+use Rattle.packet.proofs.Sent.{header-valid, header-typed, header-length, header-sync, received-front}
+use Rattle.pseudo_binary.proofs.Bound.{built-bound, slashes-bytes}
 use Rattle.reader.proofs.ExamineOnce.{too-many}
 use Rattle.reader.proofs.ReadOnce.{refused-packet}
-use Rattle.demands.specs.Edges.{Edge, checks, heads, reads, hopeless, foreign, unnamed, writes, carries, stops, fullest, lacks, RefusesAll, Holds, edges, Every}
-use Rattle.demands.proofs.HeaderTests.{findsNone, none, none-near, mends-by-test, ours, other, other-none, refuses-hopeless, refuses-foreign, whichever}
+use Rattle.demands.specs.Edges.{Edge, checks, heads, reads, hopeless, foreign, unnamed, writes, carries, stops, fullest, lacks, divides, fits, overlong, longest, RefusesAt, RefusesAll, Holds, edges, Every}
+use Rattle.demands.proofs.HeaderTests.{findsNone, none, none-near, mends-by-test, ours, other, other-none, refuses-hopeless, refuses-foreign, refuses-overlong, whichever}
 
 -- ---- data, by a reading that computes
 
@@ -147,6 +150,13 @@ tests (writes format text carried codes) = same (dataOf format text) carried ∷
 tests (carries format text carried codes) = comes-to (reading format carried) text codes ∷ []
 tests (stops format carried bit codes) = stuck-at (reading format carried) bit codes ∷ []
 tests (fullest format text carried codes) = comes-to (reading format carried) text codes ∷ eqb codes (ceiling format (length carried)) ∷ []
+tests (divides length sections whole) = eqb (sectionCount length) sections ∷ eqb (wholeLength length) whole ∷ []
+tests (fits rate-1200 length) = leb length (mostAt rate-1200) ∷ []
+tests (overlong rate-1200 numbers head format sync length) =
+    let header = headerFor format sync length in
+    same (bytesOf header) head ∷ ltb length (2 ^ 14) ∷ ltb (mostAt rate-1200) length ∷ every (λ (mend : ℕ). leb mend 2) numbers ∷ []
+tests (longest bytes characters) =
+    eqb characters (16 * (8 * bytes / 6)) ∷ eqb ((6 * ((characters + 15) / 16) + 7) / 8) bytes ∷ []
 tests (lacks format text index) =
     ltb index (length text) ∷ all (λ (i : ℕ). coded format (take i text) (getD text i 0)) index ∷ not (coded format (take index text) (getD text index 0)) ∷ []
 
@@ -158,6 +168,22 @@ passed : (bs : List Bool) → T (every-test bs) → Passed bs
 unfolding every-test Passed
 passed [] t = tt
 passed (b ∷ bs) t = (and-left b (every-test bs) t, passed bs (and-right b (every-test bs) t))
+
+unnamed-at : (rate-1200 : Bool) (mend : ℕ) → 2 < mend → RefusesAt rate-1200 mend [] TooManyBits
+unnamed-at rate-1200 mend many after room =
+    refused-packet (naming mend rate-1200) after room TooManyBits (too-many (naming mend rate-1200) after (λ few. omega (arith, few)))
+
+four-bytes : (header : ℕ) → length (bytesOf header) ≡ 4
+unfolding bytesOf
+four-bytes header = refl
+
+-- a valid header, where it is received as it is
+itself-near : (mend header : ℕ) → Valid header → ValidWithin mend (received (bytesOf header)) header
+unfolding distance
+itself-near mend header valid =
+    subst (λ (w : ℕ). ValidWithin mend w header)
+    (sym (ap received (sym (append-nil (bytesOf header))) ∙ received-front header [] (valid .bits)))
+    (record { valid = valid; near = omega (arith, differences-self 32 header) })
 
 -- a row whose tests pass holds
 row-holds : (e : Edge) → Passed (tests e) → Holds e
@@ -197,15 +223,31 @@ row-holds (foreign numbers head header mended) (four, (small, (v, (near, (none, 
     numbers near
 row-holds (unnamed numbers) (many, t) =
     whichever (ltb 2) (λ (mend : ℕ). RefusesAll mend [] TooManyBits)
-    (λ mend p after room.
-    refused-packet (naming mend) after room TooManyBits (too-many (naming mend) after (λ few. omega (arith, few, ltb→lt 2 mend p))))
-    numbers many
+    (λ mend p. let many = ltb→lt 2 mend p in (unnamed-at false mend many, unnamed-at true mend many)) numbers many
 row-holds (writes format text carried codes) (made, (read, t)) =
     (same-is (dataOf format text) carried made, carries-by-test format (comesBack format text) carried codes read)
 row-holds (carries format text carried codes) (read, t) = carries-by-test format text carried codes read
 row-holds (stops format carried bit codes) (read, t) = stops-by-test format carried bit codes read
 row-holds (fullest format text carried codes) (read, (most, t)) =
     (carries-by-test format text carried codes read, eqb→eq codes (ceiling format (length carried)) most)
+row-holds (divides length sections whole) (count, (size, t)) = (eqb→eq (sectionCount length) sections count, eqb→eq (wholeLength length) whole size)
+row-holds (fits rate-1200 length) (few, t) = leb→le length (mostAt rate-1200) few
+row-holds (overlong rate-1200 numbers head format sync length) (is, (small, (many, (named, t)))) =
+    let header = headerFor format sync length in
+    let bytes = same-is (bytesOf header) head is in
+    let few = ltb→lt length (2 ^ 14) small in (
+      bytes,
+      whichever (λ (mend : ℕ). leb mend 2) (λ (mend : ℕ). RefusesAt rate-1200 mend head OtherLength)
+          (λ mend p.
+          subst (λ (l : List ℕ). RefusesAt rate-1200 mend l OtherLength) bytes
+          (refuses-overlong mend (leb→le mend 2 p) (bytesOf header) (four-bytes header) header (itself-near mend header (header-valid format sync length few)) rate-1200 format
+          (header-typed format sync length few) (omega (arith, header-length format sync length few, ltb→lt (mostAt rate-1200) length many))))
+          numbers named,
+    )
+row-holds (longest bytes characters) (most, (ours, t)) = (
+  λ text carried few built. omega (arith, built-bound carried built, eqb→eq characters (16 * (8 * bytes / 6)) most),
+  slashes-bytes characters ∙ eqb→eq ((6 * ((characters + 15) / 16) + 7) / 8) bytes ours,
+)
 row-holds (lacks format text index) (there, (before, (none, t))) =
     record {
       there = ltb→lt index (length text) there;
@@ -235,7 +277,7 @@ unfolding Passed every-row every-test tests ceiling same other ours reading come
     numeric-writer.sentFor numeric-writer.ours numeric-writer.comesBack shef.table shef-writer.coded shef-writer.own shef-writer.ours
     ascii.six ascii.seven ascii.special ascii.pair ascii.table ascii-writer.own ascii-writer.ours
 computed =
-    (tt, (tt, (tt, (tt, (tt, (tt, (tt, (tt, (tt, (tt, (tt, (tt, (tt, (tt, (tt, (tt, (tt, (tt, (tt, (tt, (tt, (tt, (tt, (tt, (tt, (tt, (tt, (tt, (tt, (tt, (tt, (tt, (tt, (tt, (tt, (tt, (tt, (tt, (tt, (tt, (tt, (tt, (tt, (tt, (tt, (tt, (tt, (tt, (tt, (tt, (tt, (tt, (tt, (tt, (tt, (tt, (tt, (tt, (tt, (tt, (tt, (tt, (tt, (tt, tt))))))))))))))))))))))))))))))))))))))))))))))))))))))))))))))))
+    (tt, (tt, (tt, (tt, (tt, (tt, (tt, (tt, (tt, (tt, (tt, (tt, (tt, (tt, (tt, (tt, (tt, (tt, (tt, (tt, (tt, (tt, (tt, (tt, (tt, (tt, (tt, (tt, (tt, (tt, (tt, (tt, (tt, (tt, (tt, (tt, (tt, (tt, (tt, (tt, (tt, (tt, (tt, (tt, (tt, (tt, (tt, (tt, (tt, (tt, (tt, (tt, (tt, (tt, (tt, (tt, (tt, (tt, (tt, (tt, (tt, (tt, (tt, (tt, (tt, (tt, (tt, (tt, (tt, (tt, (tt, (tt, (tt, (tt, (tt, (tt, (tt, (tt, (tt, (tt, tt))))))))))))))))))))))))))))))))))))))))))))))))))))))))))))))))))))))))))))))))
 
 -- the one statement: every row of the table
 pub edges-hold : Every edges

@@ -2,6 +2,7 @@
 -- Assumes nothing.
 use mathlib.Core.Bool.{Bool, true, false, not, _&&_}
 use mathlib.Core.List.{List, [], _∷_, _++_, List·Memᴰ, List·Memᴰ·head, List·Memᴰ·tail}
+use mathlib.Core.Logic.{inr}
 use mathlib.Core.Path.{_≡_, refl, sym, subst}
 use Prim.Native.Nat.{ℕ, _^_, _<_, _≤_}
 use native.Mathlib.Omega.{arith}
@@ -11,7 +12,7 @@ use Rattle.bits.proofs.Said.{and-left, and-right, and-both}
 use Rattle.header.specs.declared.Format.{Format}
 use Rattle.header.specs.declared.Format.the-variants.{Open, PseudoBinary, Numeric, Shef, FullAscii}
 use Rattle.header.specs.declared.Header.{Header}
-use Rattle.header.specs.Valid.{Valid}
+use Rattle.header.specs.Valid.{Valid, lengthIn}
 use Rattle.header.specs.Fields.{fieldsIn}
 use Rattle.header.specs.Formats.{HasFormat, formatNumber}
 use Rattle.mending.specs.declared.Mending.{Mending}
@@ -21,12 +22,13 @@ use Rattle.mending.specs.Mends.{MendsWithin}
 use Rattle.mending.specs.Search.{search}
 use Rattle.mending.proofs.Search.{search-mends}
 use Rattle.codes.proofs.EveryElement.{every, every-at}
-use Rattle.refusals.specs.declared.ExamineRefusal.the-variants.{NoHeader, OtherType}
+use Rattle.refusals.specs.declared.ExamineRefusal.the-variants.{NoHeader, OtherType, OtherLength}
 use Rattle.packet.specs.Packet.{received}
-use Rattle.terms.specs.Terms.{MayMend, naming}
-use Rattle.reader.proofs.ExamineStages.{clear-two, clear-three}
+use Rattle.terms.specs.Terms.{mostAt, MayMend, naming}
+use Rattle.terms.proofs.Usual.{naming-named}
+use Rattle.reader.proofs.ExamineStages.{clear-two, clear-three, clear-four}
 use Rattle.reader.proofs.ReadOnce.{refused-packet}
-use Rattle.demands.specs.Edges.{Naming, RefusesAll}
+use Rattle.demands.specs.Edges.{Naming, RefusesAt, RefusesAll}
 
 -- ---- that no valid header lies near a word: the search, computed, finds none
 
@@ -98,20 +100,40 @@ module _ (mend : ℕ) (bits : MayMend mend) (head : List ℕ) (four : length hea
   enough : (after : List ℕ) → 4 ≤ length (head ++ after)
   enough after = omega (arith, length-append head after)
 
-  pub refuses-hopeless : ((header : ℕ) → ValidWithin mend (received head) header → ⊥) → RefusesAll mend head NoHeader
-  refuses-hopeless far after room =
-      refused-packet (naming mend) (head ++ after) room NoHeader
+  hopeless-at : (rate-1200 : Bool) → ((header : ℕ) → ValidWithin mend (received head) header → ⊥) → RefusesAt rate-1200 mend head NoHeader
+  hopeless-at rate-1200 far after room =
+      refused-packet (naming mend rate-1200) (head ++ after) room NoHeader
       (record {
         fault = λ header near. far header (subst (λ (w : ℕ). ValidWithin mend w header) (front-word head after four) near);
-        first = clear-two (naming mend) (head ++ after) bits (enough after);
+        first = clear-two (naming mend rate-1200) (head ++ after) bits (enough after);
       })
 
-  pub refuses-foreign : (header : ℕ) → ValidWithin mend (received head) header → ((format : Format) → HasFormat (fieldsIn header) format → ⊥)
-      → RefusesAll mend head OtherType
-  refuses-foreign header near none after room =
-      let near′ : ValidWithin mend (received (head ++ after)) header = subst (λ (w : ℕ). ValidWithin mend w header) (sym (front-word head after four)) near in
-      refused-packet (naming mend) (head ++ after) room OtherType
-      (record { fault = (header, near′, none); first = clear-three (naming mend) (head ++ after) bits (enough after) header near′ })
+  pub refuses-hopeless : ((header : ℕ) → ValidWithin mend (received head) header → ⊥) → RefusesAll mend head NoHeader
+  refuses-hopeless far = (hopeless-at false far, hopeless-at true far)
+
+  module _ (header : ℕ) (near : ValidWithin mend (received head) header) where
+    near-behind : (after : List ℕ) → ValidWithin mend (received (head ++ after)) header
+    near-behind after = subst (λ (w : ℕ). ValidWithin mend w header) (sym (front-word head after four)) near
+
+    foreign-at : (rate-1200 : Bool) → ((format : Format) → HasFormat (fieldsIn header) format → ⊥) → RefusesAt rate-1200 mend head OtherType
+    foreign-at rate-1200 none after room =
+        refused-packet (naming mend rate-1200) (head ++ after) room OtherType
+        (record {
+          fault = (header, near-behind after, none);
+          first = clear-three (naming mend rate-1200) (head ++ after) bits (enough after) header (near-behind after);
+        })
+
+    pub refuses-foreign : ((format : Format) → HasFormat (fieldsIn header) format → ⊥) → RefusesAll mend head OtherType
+    refuses-foreign none = (foreign-at false none, foreign-at true none)
+
+    pub refuses-overlong : (rate-1200 : Bool) (format : Format) → HasFormat (fieldsIn header) format → mostAt rate-1200 < lengthIn header
+        → RefusesAt rate-1200 mend head OtherLength
+    refuses-overlong rate-1200 format typed many after room =
+        refused-packet (naming mend rate-1200) (head ++ after) room OtherLength
+        (record {
+          fault = (header, near-behind after, inr many);
+          first = clear-four (naming mend rate-1200) (head ++ after) (naming-named mend rate-1200 bits) header (near-behind after) (enough after) format typed;
+        })
 
 -- what a test says of each number, it says whichever is named
 pub whichever : (test : ℕ → Bool) (Said : ℕ → Type 0) → ((mend : ℕ) → T (test mend) → Said mend) → (numbers : List ℕ) → T (every test numbers)

@@ -28,7 +28,7 @@ use Rattle.terms.specs.Terms.{OnePacket, MayBeNamed}
 use Rattle.reader.specs.declared.Reading.{Reading}
 use Rattle.reader.specs.Examine.{Refuses, Accepts}
 use Rattle.reader.proofs.Headers.{under}
-use Rattle.packet.specs.Packet.{received, dataIn, packetOf, headerFor}
+use Rattle.packet.specs.Packet.{wholeLength, received, dataIn, packetOf, headerFor}
 use Rattle.demands.specs.HowManyCodes.{HowManyCodes}
 use Rattle.demands.specs.Makers.{Made}
 use Rattle.demands.proofs.Parts.{data-size}
@@ -78,11 +78,11 @@ module _ (terms : Terms) (bytes : OnePacket (terms .most)) (packet : List ℕ) (
   any-before place stuck = sym (stuck-here .1) ∙ before-one format bit place (dataIn header packet) (stuck-here .0) stuck
 
   -- nor where bytes are missing
-  whole : lengthIn header + 6 ≤ length packet
+  whole : wholeLength (lengthIn header) ≤ length packet
   unfolding turnIn
-  whole = pick (decLt (length packet) (lengthIn header + 6))
+  whole = pick (decLt (length packet) (wholeLength (lengthIn header)))
     where
-      pick : Dec (length packet < lengthIn header + 6) → lengthIn header + 6 ≤ length packet
+      pick : Dec (length packet < wholeLength (lengthIn header)) → wholeLength (lengthIn header) ≤ length packet
       pick (yes short) = absurd (refuses .first CutOff (omega arith) (header, near, short))
       pick (no enough) = omega arith
 
@@ -99,7 +99,7 @@ others-none (Packet NoHeader) other = refl
 others-none (Packet OtherType) other = refl
 others-none (Packet OtherLength) other = refl
 others-none (Packet CutOff) other = refl
-others-none (Packet Checksum) other = refl
+others-none (Packet (Checksum section)) other = refl
 others-none (Packet (Malformed bit codes)) other = absurd (other refl)
 others-none (NoRoom needed) other = refl
 

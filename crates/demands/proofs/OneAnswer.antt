@@ -1,20 +1,21 @@
 -- The promises of the entry points leave one answer and one content; what `examine` and the reader say agrees; what any maker may build of a text; and bytes
 -- after the checksum change nothing.
 -- Assumes nothing.
-use mathlib.Core.List.{List, [], _∷_, _++_}
+use mathlib.Core.List.{List, _++_}
 use mathlib.Core.Logic.{_⊎_, _↔_}
-use mathlib.Core.Path.{_≡_, refl, sym, ap, ap₂, _∙_, subst}
+use mathlib.Core.Path.{_≡_, refl, sym, ap, _∙_, subst}
 use Prim.Native.Nat.{ℕ, _+_, _≤_, _<_}
 use native.Mathlib.Decide.{decLe}
 use native.Mathlib.Omega.{arith}
-use lib.ListN.{length, getD, take, drop, length-append, length-drop, List·getD-append}
-use lib.Seq.{take-append-le, drop-append-le}
+use lib.ListN.{length, getD, drop, length-append, length-drop, List·getD-append}
+use lib.Seq.{drop-append-le}
 use Rattle.header.specs.declared.Format.{Format}
 use Rattle.header.specs.Fields.{fieldsIn, wordOf}
 use Rattle.header.specs.Formats.{HasFormat}
 use Rattle.header.specs.Valid.{lengthIn}
 use Rattle.distance.specs.Distance.{ValidWithin}
-use Rattle.checksum.specs.Checksum.{checksumBytes}
+use Rattle.sections.specs.Sections.{sentLength, joined, RightSums, FirstWrong}
+use Rattle.sections.proofs.Behind.{joined-alike, sums-alike, wrong-alike, wrong-alone}
 use Rattle.numeric.proofs.Writer as numeric-writer
 use Rattle.pseudo_binary.proofs.Makers as pseudo-makers
 use Rattle.shef.proofs.Writer as shef-writer
@@ -31,7 +32,7 @@ use Rattle.reader.specs.declared.ExamineAnswer.the-variants.{Readable, Refused 
 use Rattle.reader.specs.declared.ReadAnswer.{ReadAnswer}
 use Rattle.reader.specs.declared.ReadAnswer.the-variants.{Accepted, Refused as NotRead}
 use Rattle.reader.specs.Examine.{Fault, Refuses, Allowed, readingOf, Accepts, Examines}
-use Rattle.packet.specs.Packet.{received, dataIn, sumIn}
+use Rattle.packet.specs.Packet.{wholeLength, received, dataIn, FirstUnsummed}
 use Rattle.reader.specs.Reader.{ReadFault, Reads}
 use Rattle.terms.specs.Terms.{OnePacket, MayBeNamed}
 use Rattle.reader.proofs.ExamineOnce.{examined-too-many, examines-one}
@@ -82,10 +83,10 @@ module _ (terms : Terms) (bytes : OnePacket (terms .most)) where
 
 -- ---- bytes after the checksum
 
--- two slices that hold whole packets under one header, with the same data and the same two bytes behind it, meet the same conditions
+-- two slices that hold whole packets under one header, with the same data and the same checksums, meet the same conditions
 module _ (terms : Terms) (named : MayBeNamed terms) (p q : List ℕ) (header : ℕ) (near : ValidWithin (terms .mend) (received p) header)
-    (near′ : ValidWithin (terms .mend) (received q) header) (whole : lengthIn header + 6 ≤ length p) (same-data : dataIn header q ≡ dataIn header p)
-    (same-sum : sumIn header q ≡ sumIn header p) where
+    (near′ : ValidWithin (terms .mend) (received q) header) (whole : wholeLength (lengthIn header) ≤ length p) (same-data : dataIn header q ≡ dataIn header p)
+    (same-wrong : (k : ℕ) → FirstUnsummed header p k → FirstUnsummed header q k) where
   moves : (r : ExamineRefusal) → Fault terms p r → Fault terms q r
   moves TooManyBits f = f
   moves Short f = absurd (let no′ : ⊥ = omega arith in no′)
@@ -93,13 +94,8 @@ module _ (terms : Terms) (named : MayBeNamed terms) (p q : List ℕ) (header : �
   moves OtherType f = (header, near′, under terms named p (λ (h : ℕ). (k : Format) → HasFormat (fieldsIn h) k → ⊥) header near f)
   moves OtherLength f = (header, near′, under terms named p (λ (h : ℕ). (lengthIn h ≡ 0) ⊎ (terms .most < lengthIn h)) header near f)
   moves CutOff f =
-      let short = under terms named p (λ (h : ℕ). length p < lengthIn h + 6) header near f in absurd (let no′ : ⊥ = omega arith in no′)
-  moves Checksum f = (
-    header,
-    near′,
-    λ e.
-        under terms named p (λ (h : ℕ). sumIn h p ≡ checksumBytes (dataIn h p) → ⊥) header near f (sym same-sum ∙ e ∙ ap checksumBytes same-data),
-  )
+      let short = under terms named p (λ (h : ℕ). length p < wholeLength (lengthIn h)) header near f in absurd (let no′ : ⊥ = omega arith in no′)
+  moves (Checksum k) f = (header, near′, same-wrong k (under terms named p (λ (h : ℕ). FirstUnsummed h p k) header near f))
   moves (Malformed i codes) f =
       let u = under terms named p (λ (h : ℕ). (k : Format) × HasFormat (fieldsIn h) k × UnreadableAfter k (dataIn h p) i codes) header near f in
       (header, near′, (u .0, u .1, subst (λ (l : List ℕ). UnreadableAfter (u .0) l i codes) (sym same-data) (u .2)))
@@ -113,7 +109,7 @@ module _ (terms : Terms) (named : MayBeNamed terms) (p q : List ℕ) (header : �
       (header, near′, (u .0, u .1, (u .2 .0, subst (Carries (u .0) (u .2 .0)) (sym same-data) (u .2 .1), u .2 .2, u .2 .3)))
 
 module _ (terms : Terms) (named : MayBeNamed terms) (packet after : List ℕ) (header : ℕ) (near : ValidWithin (terms .mend) (received packet) header)
-    (whole : lengthIn header + 6 ≤ length packet) where
+    (whole : wholeLength (lengthIn header) ≤ length packet) where
   same-byte : (i : ℕ) → i < length packet → getD (packet ++ after) i 0 ≡ getD packet i 0
   same-byte i lt = List·getD-append packet after 0 i lt
 
@@ -126,16 +122,22 @@ module _ (terms : Terms) (named : MayBeNamed terms) (packet after : List ℕ) (h
       let fourth = same-byte 3 (omega arith) in
       λ i. wordOf (first i) (second i) (third i) (fourth i)
 
+  -- what stands behind the header, with what follows
+  rest : drop 4 (packet ++ after) ≡ drop 4 packet ++ after
+  rest = drop-append-le 4 packet after (omega arith)
+
+  all-there : sentLength (lengthIn header) ≤ length (drop 4 packet)
+  all-there = omega (arith, length-drop 4 packet)
+
   same-data : dataIn header (packet ++ after) ≡ dataIn header packet
   unfolding dataIn
-  same-data =
-      ap (take (lengthIn header)) (drop-append-le 4 packet after (omega arith))
-      ∙ take-append-le (lengthIn header) (drop 4 packet) after (omega (arith, length-drop 4 packet))
+  same-data = ap (joined (lengthIn header)) rest ∙ joined-alike (lengthIn header) (drop 4 packet) after all-there
 
-  same-sum : sumIn header (packet ++ after) ≡ sumIn header packet
-  unfolding sumIn
-  same-sum =
-      ap₂ (λ (x y : ℕ). x ∷ y ∷ []) (same-byte (4 + lengthIn header) (omega arith)) (same-byte (5 + lengthIn header) (omega arith))
+  wrong-behind : (k : ℕ) → FirstUnsummed header packet k → FirstUnsummed header (packet ++ after) k
+  wrong-behind k f = subst (λ (l : List ℕ). FirstWrong (lengthIn header) l k) (sym rest) (wrong-alike (lengthIn header) (drop 4 packet) after all-there k f)
+
+  wrong-before : (k : ℕ) → FirstUnsummed header (packet ++ after) k → FirstUnsummed header packet k
+  wrong-before k f = wrong-alone (lengthIn header) (drop 4 packet) after all-there k (subst (λ (l : List ℕ). FirstWrong (lengthIn header) l k) rest f)
 
   near-behind : ValidWithin (terms .mend) (received (packet ++ after)) header
   near-behind = subst (λ (w : ℕ). ValidWithin (terms .mend) w header) (sym same-received) near
@@ -144,10 +146,10 @@ module _ (terms : Terms) (named : MayBeNamed terms) (packet after : List ℕ) (h
   longer = omega (arith, length-append packet after)
 
   there : (r : ExamineRefusal) → Fault terms packet r → Fault terms (packet ++ after) r
-  there = moves terms named packet (packet ++ after) header near near-behind whole same-data same-sum
+  there = moves terms named packet (packet ++ after) header near near-behind whole same-data wrong-behind
 
   back : (r : ExamineRefusal) → Fault terms (packet ++ after) r → Fault terms packet r
-  back = moves terms named (packet ++ after) packet header near-behind near (omega (arith, longer)) (sym same-data) (sym same-sum)
+  back = moves terms named (packet ++ after) packet header near-behind near (omega (arith, longer)) (sym same-data) wrong-before
 
   allowed-behind : (format : Format) (text : List ℕ) → Allowed terms packet format header text → Allowed terms (packet ++ after) format header text
   allowed-behind format text a =
@@ -160,7 +162,7 @@ module _ (terms : Terms) (named : MayBeNamed terms) (packet after : List ℕ) (h
           few = a .framed .few;
           whole = omega (arith, longer);
         };
-        summed = same-sum ∙ a .summed ∙ ap checksumBytes (sym same-data);
+        summed = subst (RightSums (lengthIn header)) (sym rest) (sums-alike (lengthIn header) (drop 4 packet) after all-there (a .summed));
         carries = subst (Carries format text) (sym same-data) (a .carries);
       }
 
@@ -189,10 +191,10 @@ module _ (terms : Terms) (named : MayBeNamed terms) (packet after : List ℕ) (h
   read-behind entry exit (Accepted reading) (text, a, held, e) = (text, accepts-behind reading text a, held, e)
   read-behind entry exit (NotRead r) (p, e) = (
     record {
-      fault = read-moves terms named packet (packet ++ after) header near near-behind whole same-data same-sum (length entry) r (p .fault);
+      fault = read-moves terms named packet (packet ++ after) header near near-behind whole same-data wrong-behind (length entry) r (p .fault);
       first = λ other lt f.
           p .first other lt
-          (read-moves terms named (packet ++ after) packet header near-behind near (omega (arith, longer)) (sym same-data) (sym same-sum) (length entry) other f);
+          (read-moves terms named (packet ++ after) packet header near-behind near (omega (arith, longer)) (sym same-data) wrong-before (length entry) other f);
     },
     e,
   )

@@ -1,4 +1,4 @@
--- A packet that is accepted: the four bytes of its header, the data, the two checksum bytes, and what follows; and its valid header is the one that is sent
+-- A packet that is accepted: the four bytes of its header, the data in its sections, and what follows; and its valid header is the one that is sent
 -- with its format, sync bit and length.
 -- Assumes nothing.
 use mathlib.Core.Bool.{Bool}
@@ -6,15 +6,16 @@ use mathlib.Core.List.{List, [], _∷_, _++_}
 use mathlib.Core.Path.{_≡_, sym, ap, _∙_}
 use Prim.Native.Nat.{ℕ, suc, _+_, _/_, _%_, _^_, _≤_, _<_}
 use native.Mathlib.Omega.{arith}
-use lib.ListN.{length, getD, take, drop, take-append-drop, length-drop}
-use lib.Seq.{drop-cons, drop-drop, length-take-le}
+use lib.ListN.{length, drop, length-drop}
 use Rattle.bits.specs.Row.{Bytes}
 use Rattle.header.specs.declared.Format.{Format}
 use Rattle.header.specs.Fields.{fieldsIn, headerOf, sentFields, wordOf, bytesOf}
 use Rattle.header.specs.Formats.{HasFormat, formatNumber}
 use Rattle.header.specs.Valid.{Valid, lengthIn}
 use Rattle.header.proofs.Made.{valid-made}
-use Rattle.packet.specs.Packet.{received, dataIn, sumIn, headerFor}
+use Rattle.sections.specs.Sections.{sentLength, inSections}
+use Rattle.sections.proofs.Found.{joined-length, sent-back}
+use Rattle.packet.specs.Packet.{wholeLength, received, dataIn, Summed, headerFor}
 
 -- ---- the header
 
@@ -73,20 +74,14 @@ head-and-rest [] four bytes = absurd (let no′ : ⊥ = omega arith in no′)
 
 -- ---- what is behind it
 
-module _ (packet : List ℕ) (header : ℕ) (whole : lengthIn header + 6 ≤ length packet) where
+module _ (packet : List ℕ) (header : ℕ) (whole : wholeLength (lengthIn header) ≤ length packet) where
+  all-there : sentLength (lengthIn header) ≤ length (drop 4 packet)
+  all-there = omega (arith, length-drop 4 packet)
+
   pub data-size : length (dataIn header packet) ≡ lengthIn header
   unfolding dataIn
-  data-size = length-take-le (lengthIn header) (drop 4 packet) (omega (arith, length-drop 4 packet))
+  data-size = joined-length (lengthIn header) (drop 4 packet) all-there
 
-  pub behind-header : drop 4 packet ≡ dataIn header packet ++ (sumIn header packet ++ drop (6 + lengthIn header) packet)
-  unfolding dataIn sumIn
-  behind-header =
-      let n = lengthIn header in
-      sym (take-append-drop n (drop 4 packet))
-      ∙ ap (λ (l : List ℕ). take n (drop 4 packet) ++ l)
-      (drop-drop n 4 packet
-      ∙ drop-cons packet (4 + n) 0 (omega arith)
-      ∙ ap (λ (l : List ℕ). getD packet (4 + n) 0 ∷ l)
-      (ap (λ (k : ℕ). drop k packet) (let next : suc (4 + n) ≡ 5 + n = omega arith in next)
-      ∙ drop-cons packet (5 + n) 0 (omega arith)
-      ∙ ap (λ (k : ℕ). getD packet (5 + n) 0 ∷ drop k packet) (let next : suc (5 + n) ≡ 6 + n = omega arith in next)))
+  pub behind-header : Summed header packet → drop 4 packet ≡ inSections (dataIn header packet) ++ drop (sentLength (lengthIn header)) (drop 4 packet)
+  unfolding dataIn
+  behind-header = sent-back (lengthIn header) (drop 4 packet) all-there

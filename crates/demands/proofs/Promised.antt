@@ -1,9 +1,10 @@
--- What was promised holds whatever number of bits is named, and so where none is named.
+-- What was promised holds at either rate and whatever number of bits is named, and so where none is named.
 -- Assumes nothing.
+use mathlib.Core.Bool.{Bool}
 use Prim.Native.Nat.{ℕ}
-use native.Mathlib.Omega.{arith}
 use Rattle.terms.specs.declared.Terms.{Terms}
 use Rattle.terms.specs.Terms.{OnePacket, naming, usual}
+use Rattle.terms.proofs.Usual.{most-few}
 use Rattle.demands.specs.Promised.{Promised}
 use Rattle.demands.proofs.Demand1 as first
 use Rattle.demands.proofs.Demand2 as second
@@ -27,8 +28,8 @@ kept terms bytes = record {
   how-many-codes = counted.how-many-codes terms bytes;
 }
 
-pub kept-naming : (mend : ℕ) → Promised (naming mend)
-kept-naming mend = kept (naming mend) (omega arith)
+pub kept-naming : (mend : ℕ) (rate-1200 : Bool) → Promised (naming mend rate-1200)
+kept-naming mend rate-1200 = kept (naming mend rate-1200) (most-few rate-1200)
 
-pub kept-usually : Promised usual
+pub kept-usually : (rate-1200 : Bool) → Promised (usual rate-1200)
 kept-usually = kept-naming 1

@@ -2,14 +2,14 @@
 -- for character with both (as what it comes back as: RULES, Formats); empty text is refused. A packet is accepted exactly when its header is at
 -- most the named number of bits from a valid one, the document and our limits allow the packet with that header in one of our formats, and the buffer holds
 -- its text. Writing that text again in its format gives a packet that reads the same in text and format, room given.
--- The first sentence is what the definitions say, held against the document, and what the published packets show. The rest holds for each number of bits
--- that may be named.
+-- The first sentence is what the definitions say, held against the document, and what the published packets show. The rest holds at either rate and for each
+-- number of bits that may be named.
 -- Assumes nothing.
 use mathlib.Core.Bool.{Bool}
 use mathlib.Core.List.{List, [], _++_}
 use mathlib.Core.Logic.{_↔_}
 use mathlib.Core.Path.{_≡_}
-use Prim.Native.Nat.{ℕ, _+_, _≤_, _<_}
+use Prim.Native.Nat.{ℕ, _≤_, _<_}
 use lib.Bits.{bitXor}
 use lib.ListN.{length, drop}
 use Rattle.bits.specs.Row.{Bytes}
@@ -27,7 +27,7 @@ use Rattle.reader.specs.declared.ReadAnswer.the-variants.{Accepted}
 use Rattle.writer.specs.declared.WriteAnswer.{WriteAnswer}
 use Rattle.writer.specs.declared.WriteAnswer.the-variants.{Written, Refused as NotWritten}
 use Rattle.reader.specs.Examine.{Allowed, readingOf, Accepts, Examines}
-use Rattle.packet.specs.Packet.{received, dataIn}
+use Rattle.packet.specs.Packet.{wholeLength, received, dataIn}
 use Rattle.reader.specs.Reader.{Reads}
 use Rattle.writer.specs.Writer.{ourPacket, Writes}
 use Rattle.demands.specs.Makers.{Made, Flipped, arriving, readingWith}
@@ -40,7 +40,7 @@ pub record Writable (terms : Terms) (format : Format) (text : List ℕ) : Type 0
 
 -- the length of the packet that our writer makes of it
 abbrev pub packetLength : Format → List ℕ → ℕ
-packetLength format text = length (dataOf format text) + 6
+packetLength format text = wholeLength (length (dataOf format text))
 
 -- the reading of that packet as it was written: no bit mended
 abbrev pub cleanReading : Format → Bool → List ℕ → Reading

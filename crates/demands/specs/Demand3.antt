@@ -1,15 +1,15 @@
 -- Demand 3. Take a packet that any maker could have built under our rules, runs and line ends cut as that maker liked, and flip up to the named number of
 -- its 32 header bits. With data and checksum intact and room for the text, the reader returns exactly the sent text (as what it comes back as:
--- RULES, Formats), format and sync bit, with the true number of mended bits, and the mask is exactly the bits that were flipped. If instead only one data
--- byte or two neighbouring ones changed, or only one or both checksum bytes, it refuses by checksum and hands out nothing. And with more header bits flipped
--- than named, but together with the named number at most four, the answer is refusal 2, never another reading. All this holds for each number that may be
--- named.
+-- RULES, Formats), format and sync bit, with the true number of mended bits, and the mask is exactly the bits that were flipped. If behind the
+-- header only one data byte or two neighbouring ones of one section changed, or only one or both bytes of one section's checksum, it refuses by checksum with
+-- that section's number and hands out nothing. And with more header bits flipped than named, but together with the named number at most four, the answer is
+-- refusal 2, never another reading. All this holds at either rate and for each number that may be named.
 -- Assumes nothing.
 use mathlib.Core.Bool.{Bool}
 use mathlib.Core.List.{List, [], _∷_, _++_}
 use mathlib.Core.Logic.{_≢_, _↔_}
 use mathlib.Core.Path.{_≡_}
-use Prim.Native.Nat.{ℕ, _≤_}
+use Prim.Native.Nat.{ℕ, _≤_, _<_}
 use lib.Bits.{bitXor}
 use lib.ListN.{length, drop}
 use Rattle.bits.specs.Row.{Bytes}
@@ -29,13 +29,14 @@ use Rattle.reader.specs.declared.ExamineAnswer.the-variants.{Refused as NotRead
 use Rattle.reader.specs.declared.ReadAnswer.{ReadAnswer}
 use Rattle.reader.specs.declared.ReadAnswer.the-variants.{Accepted, Refused}
 use Rattle.packet.specs.Packet.{received}
+use Rattle.sections.specs.Sections.{sectionCount, section, besides}
 use Rattle.reader.specs.Examine.{Accepts, Examines}
 use Rattle.reader.specs.Reader.{Reads}
 use Rattle.demands.specs.Makers.{Made, Flipped, FlippedBeyond, arriving, readingWith}
 
--- what the reader does with the packet in its slice: it refuses by checksum, and the buffer is as it was
-abbrev pub RefusedByChecksum : List ℕ → ReadAnswer → List ℕ → Type 0
-RefusedByChecksum entry answer exit = (answer ≡ Refused (Packet Checksum)) × (exit ≡ entry)
+-- what the reader does with the packet in its slice: it refuses by the checksum of this section, and the buffer is as it was
+abbrev pub RefusedByChecksum : ℕ → List ℕ → ReadAnswer → List ℕ → Type 0
+RefusedByChecksum k entry answer exit = (answer ≡ Refused (Packet (Checksum k))) × (exit ≡ entry)
 
 -- of a packet that was made, and of 32 bits that came for its header, whatever follows it
 pub record Demand3 (terms : Terms) : Type 0 where
@@ -54,17 +55,19 @@ pub record Demand3 (terms : Terms) : Type 0 where
   pub flipped-told : (format : Format) (sync : Bool) (text packet : List ℕ) → Made terms format sync text packet → (word : ℕ) → Flipped terms packet word
       → (after : List ℕ) (reading : Reading) (read : List ℕ) → Accepts terms (arriving word packet after) reading read
       → (k : ℕ) → (bit k (reading .mask) ≡ 1) ↔ (bit k word ≢ bit k (received packet))
-  -- If only one data byte or two neighbouring ones changed, and what was sent and what came are bytes: refused by checksum.
+  -- If one data byte of section k or two neighbouring ones changed, and what was sent and what came are bytes: refused by checksum, with k.
   pub damaged-data : (format : Format) (sync : Bool) (text packet : List ℕ) (made : Made terms format sync text packet) (word : ℕ)
-      → Flipped terms packet word → (after entry exit : List ℕ) (answer : ReadAnswer) (place : ℕ) (other : List ℕ)
-      → Bytes (made .carried) → Bytes other → AlikeBut place other (made .carried) → other ≢ made .carried
-      → Reads terms (bytesOf word ++ (other ++ (checksumBytes (made .carried) ++ after))) entry answer exit
-      → RefusedByChecksum entry answer exit
-  -- If only one or both checksum bytes: refused by checksum.
+      → Flipped terms packet word → (after entry exit : List ℕ) (answer : ReadAnswer) (k : ℕ) → k < sectionCount (length (made .carried))
+      → (place : ℕ) (other : List ℕ) → Bytes (section (made .carried) k) → Bytes other → AlikeBut place other (section (made .carried) k)
+      → other ≢ section (made .carried) k
+      → Reads terms (bytesOf word ++ (besides (made .carried) k (other ++ checksumBytes (section (made .carried) k)) ++ after)) entry answer exit
+      → RefusedByChecksum k entry answer exit
+  -- If one or both bytes of its checksum: refused by checksum, with k.
   pub damaged-sum : (format : Format) (sync : Bool) (text packet : List ℕ) (made : Made terms format sync text packet) (word : ℕ)
-      → Flipped terms packet word → (after entry exit : List ℕ) (answer : ReadAnswer) (low high : ℕ) → low ∷ high ∷ [] ≢ checksumBytes (made .carried)
-      → Reads terms (bytesOf word ++ (made .carried ++ (low ∷ high ∷ after))) entry answer exit
-      → RefusedByChecksum entry answer exit
+      → Flipped terms packet word → (after entry exit : List ℕ) (answer : ReadAnswer) (k : ℕ) → k < sectionCount (length (made .carried))
+      → (low high : ℕ) → low ∷ high ∷ [] ≢ checksumBytes (section (made .carried) k)
+      → Reads terms (bytesOf word ++ (besides (made .carried) k (section (made .carried) k ++ (low ∷ high ∷ [])) ++ after)) entry answer exit
+      → RefusedByChecksum k entry answer exit
   -- With more header bits flipped than named, but together with the named number at most four, whatever stands behind the header: refusal 2, and nothing
   -- handed out;
   pub beyond : (format : Format) (sync : Bool) (text packet : List ℕ) → Made terms format sync text packet → (word : ℕ) → FlippedBeyond terms packet word

@@ -1,9 +1,9 @@
 -- Both sides of each edge (RULES, Edges): the table, a row a line, in literal numbers, and what a row says. `edges-hold` proves every row.
 -- Assumes nothing.
-use mathlib.Core.Bool.{Bool, false}
+use mathlib.Core.Bool.{Bool, true, false}
 use mathlib.Core.List.{List, [], _∷_, _++_}
 use mathlib.Core.Path.{_≡_}
-use Prim.Native.Nat.{ℕ}
+use Prim.Native.Nat.{ℕ, _≤_}
 use lib.ListN.{length, replicate}
 use Rattle.header.specs.declared.Format.{Format}
 use Rattle.header.specs.declared.Format.the-variants.{Open, PseudoBinary, Numeric, Shef, FullAscii}
@@ -13,14 +13,15 @@ use Rattle.header.specs.Valid.{Valid, flagIn, lengthIn, checkIn}
 use Rattle.mending.specs.declared.Mending.the-variants.{Mended}
 use Rattle.mending.specs.Mends.{MendsWithin}
 use Rattle.formats.specs.Ceiling.{ceiling}
-use Rattle.formats.specs.Data.{CarriesIn, UnreadableAfter, Uncoded, dataOf, comesBack}
+use Rattle.formats.specs.Data.{Carries, CarriesIn, UnreadableAfter, Uncoded, dataOf, comesBack}
 use Rattle.refusals.specs.declared.ExamineRefusal.{ExamineRefusal}
-use Rattle.refusals.specs.declared.ExamineRefusal.the-variants.{TooManyBits, NoHeader, OtherType}
+use Rattle.refusals.specs.declared.ExamineRefusal.the-variants.{TooManyBits, NoHeader, OtherType, OtherLength}
 use Rattle.refusals.specs.declared.ReadRefusal.the-variants.{Packet}
-use Rattle.packet.specs.Packet.{received, headerFor}
+use Rattle.sections.specs.Sections.{sectionCount}
+use Rattle.packet.specs.Packet.{wholeLength, received, headerFor}
 use Rattle.reader.specs.Examine.{readingOf}
 use Rattle.reader.specs.Reader.{ReadRefuses}
-use Rattle.terms.specs.Terms.{naming}
+use Rattle.terms.specs.Terms.{mostAt, naming}
 
 pub data Edge : Type 0 where
   -- the check bits of a flag and a length, and the three bytes that follow the flag
@@ -45,15 +46,27 @@ pub data Edge : Type 0 where
   fullest : Format → (text carried : List ℕ) (codes : ℕ) → Edge
   -- the first character of the text that has no code is this one
   lacks : Format → (text : List ℕ) (index : ℕ) → Edge
+  -- so many data bytes are sent in so many sections, and the packet has so many bytes
+  divides : (length sections whole : ℕ) → Edge
+  -- so many data bytes are not too many at this rate
+  fits : (rate-1200 : Bool) (length : ℕ) → Edge
+  -- these are the header's bytes for so many data bytes, which are too many at this rate: refusal 4, whichever number of bits is named and whatever follows
+  overlong : (rate-1200 : Bool) (numbers : List ℕ) → List ℕ → Format → (sync : Bool) (length : ℕ) → Edge
+  -- no Pseudo Binary data of so many bytes carries a text of more characters, and ours of as many slashes has just so many bytes
+  longest : (length characters : ℕ) → Edge
 
 -- it is so whichever of the numbers is named
 abbrev pub Naming : List ℕ → (ℕ → Type 0) → Type 0
 Naming [] Said = Unit {0}
 Naming (mend ∷ numbers) Said = Said mend × Naming numbers Said
 
--- a packet that starts with these bytes is refused, whatever follows and whatever the room
+-- a packet that starts with these bytes is refused at this rate, whatever follows and whatever the room
+abbrev pub RefusesAt : Bool → ℕ → List ℕ → ExamineRefusal → Type 0
+RefusesAt rate-1200 mend head refusal = (after : List ℕ) (room : ℕ) → ReadRefuses (naming mend rate-1200) (head ++ after) room (Packet refusal)
+
+-- and so at either
 abbrev pub RefusesAll : ℕ → List ℕ → ExamineRefusal → Type 0
-RefusesAll mend head refusal = (after : List ℕ) (room : ℕ) → ReadRefuses (naming mend) (head ++ after) room (Packet refusal)
+RefusesAll mend head refusal = RefusesAt false mend head refusal × RefusesAt true mend head refusal
 
 abbrev pub Holds : Edge → Type 0
 Holds (checks flag length check bytes) =
@@ -73,6 +86,13 @@ Holds (carries format text carried codes) = CarriesIn format carried text codes
 Holds (stops format carried bit codes) = UnreadableAfter format carried bit codes
 Holds (fullest format text carried codes) = CarriesIn format carried text codes × (codes ≡ ceiling format (length carried))
 Holds (lacks format text index) = Uncoded format text index
+Holds (divides length sections whole) = (sectionCount length ≡ sections) × (wholeLength length ≡ whole)
+Holds (fits rate-1200 length) = length ≤ mostAt rate-1200
+Holds (overlong rate-1200 numbers head format sync length) =
+    (bytesOf (headerFor format sync length) ≡ head) × Naming numbers (λ mend. RefusesAt rate-1200 mend head OtherLength)
+Holds (longest bytes characters) =
+    ((text carried : List ℕ) → length carried ≤ bytes → Carries PseudoBinary text carried → length text ≤ characters)
+    × (length (dataOf PseudoBinary (replicate characters 47)) ≡ bytes)
 
 -- text in ASCII: A 65, B 66, E 69, a 97, > 62, ? 63, ~ 126, DEL 127, 0 48, 1 49, 2 50, space 32, # 35, + 43, - 45, . 46, slash 47, : 58, ; 59, = 61, CR 13, LF 10
 abbrev pub edges : List Edge
@@ -175,6 +195,25 @@ edges =
     -- C5
     ∷ stops PseudoBinary (0x82 ∷ 0x00 ∷ 0x0F ∷ []) 20 3
     ∷ carries PseudoBinary (64 ∷ 64 ∷ 64 ∷ []) (0x82 ∷ 0x00 ∷ 0x00 ∷ 0x3F ∷ []) 4
+    -- R1
+    ∷ divides 1 1 7
+    ∷ divides 4000 1 4006
+    ∷ divides 4001 2 4009
+    ∷ divides 8000 2 8008
+    ∷ divides 8001 3 8011
+    ∷ divides 12000 3 12010
+    ∷ divides 12001 4 12013
+    ∷ divides 16000 4 16012
+    -- R2
+    ∷ fits false 4000
+    ∷ overlong false (0 ∷ 1 ∷ 2 ∷ []) (0x40 ∷ 0x3E ∷ 0x87 ∷ 0xB8 ∷ []) Open false 4001
+    ∷ fits true 4001
+    ∷ fits true 16000
+    ∷ heads Open false 16000 (0x40 ∷ 0xFA ∷ 0x00 ∷ 0xF2 ∷ [])
+    ∷ overlong true (0 ∷ 1 ∷ 2 ∷ []) (0x40 ∷ 0xFA ∷ 0x07 ∷ 0x9B ∷ []) Open false 16001
+    -- R3
+    ∷ longest 4000 85328
+    ∷ longest 16000 341328
     ∷ []
 
 abbrev pub Every : List Edge → Type 0

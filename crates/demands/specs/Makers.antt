@@ -11,11 +11,11 @@ use Rattle.distance.specs.Distance.{distance}
 use Rattle.formats.specs.Data.{Carries, AllCoded, comesBack}
 use Rattle.reader.specs.declared.Reading.{Reading}
 use Rattle.terms.specs.declared.Terms.{Terms}
-use Rattle.packet.specs.Packet.{received, packetOf, headerFor}
+use Rattle.packet.specs.Packet.{wholeLength, received, packetOf, headerFor}
 
 -- a packet that a maker could have built: of a text that has codes, in a format, with a sync bit. Its data is what a maker may build of what the text
--- comes back as, runs and line ends cut as that maker liked, one byte or more and no more than may be; before it the header of its length, behind it its
--- checksum
+-- comes back as, runs and line ends cut as that maker liked, one byte or more and no more than may be, in sections with a checksum behind each; before
+-- it the header of its length
 pub record Made (terms : Terms) (format : Format) (sync : Bool) (text packet : List ℕ) : Type 0 where
   pub carried : List ℕ
   pub coded : AllCoded format text
@@ -50,5 +50,5 @@ readingWith format sync mended mask codes carried text =
       codes = codes;
       «data_length» = carried;
       «text_length» = text;
-      used = carried + 6;
+      used = wholeLength carried;
     }

@@ -1,12 +1,12 @@
 -- For every input the promises of the entry points leave one answer and one content of the lent buffer (RULES, What a promise says); what `examine` and the
 -- reader say of one packet agrees; no text has two buildings in Numeric or SHEF; what any maker may build of a text in Pseudo Binary; and bytes after the
--- checksum are not looked at (RULES, Packet).
+-- last checksum are not looked at (RULES, Packet).
 -- Assumes nothing.
 use mathlib.Core.Bool.{Bool}
 use mathlib.Core.List.{List, _++_}
 use mathlib.Core.Logic.{_↔_}
 use mathlib.Core.Path.{_≡_}
-use Prim.Native.Nat.{ℕ, _+_, _≤_, _<_}
+use Prim.Native.Nat.{ℕ, _≤_, _<_}
 use lib.ListN.{length}
 use Rattle.bits.specs.Row.{Bytes}
 use Rattle.header.specs.declared.Format.the-variants.{PseudoBinary, Numeric, Shef}
@@ -24,7 +24,7 @@ use Rattle.reader.specs.declared.ReadAnswer.{ReadAnswer}
 use Rattle.reader.specs.declared.ReadAnswer.the-variants.{Accepted, Refused as NotRead}
 use Rattle.writer.specs.declared.WriteAnswer.{WriteAnswer}
 use Rattle.reader.specs.Examine.{Examines}
-use Rattle.packet.specs.Packet.{received}
+use Rattle.packet.specs.Packet.{wholeLength, received}
 use Rattle.reader.specs.Reader.{Reads}
 use Rattle.writer.specs.Writer.{Writes}
 
@@ -55,7 +55,7 @@ pub record Agreement (terms : Terms) : Type 0 where
 
 -- a slice that holds the whole packet is read as the packet alone, whatever follows
 pub record NothingAfter (terms : Terms) : Type 0 where
-  pub examined-alone : (packet after : List ℕ) (header : ℕ) → ValidWithin (terms .mend) (received packet) header → lengthIn header + 6 ≤ length packet
+  pub examined-alone : (packet after : List ℕ) (header : ℕ) → ValidWithin (terms .mend) (received packet) header → wholeLength (lengthIn header) ≤ length packet
       → (a b : ExamineAnswer) → Examines terms packet a → Examines terms (packet ++ after) b → a ≡ b
-  pub read-alone : (packet after : List ℕ) (header : ℕ) → ValidWithin (terms .mend) (received packet) header → lengthIn header + 6 ≤ length packet
+  pub read-alone : (packet after : List ℕ) (header : ℕ) → ValidWithin (terms .mend) (received packet) header → wholeLength (lengthIn header) ≤ length packet
       → (entry x y : List ℕ) (a b : ReadAnswer) → Reads terms packet entry a x → Reads terms (packet ++ after) entry b y → (a ≡ b) × (x ≡ y)

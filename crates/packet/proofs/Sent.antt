@@ -1,12 +1,11 @@
 -- A packet that was sent, as it is received: its header, and its parts, found again.
 -- Assumes nothing.
 use mathlib.Core.Bool.{Bool}
-use mathlib.Core.List.{List, [], _∷_, _++_}
-use mathlib.Core.Path.{_≡_, refl, sym, ap, ap₂, _∙_, subst}
+use mathlib.Core.List.{List, _++_}
+use mathlib.Core.Path.{_≡_, refl, sym, ap, _∙_, subst}
 use Prim.Native.Nat.{ℕ, _+_, _^_, _≤_, _<_}
 use native.Mathlib.Omega.{arith}
-use lib.ListN.{length, getD, take, drop, length-append}
-use lib.Seq.{take-at, getD-drop, getD-append-add}
+use lib.ListN.{length, drop, length-append}
 use Rattle.header.specs.declared.Format.{Format}
 use Rattle.header.specs.declared.Header.{Header}
 use Rattle.header.specs.Fields.{Fit, fieldsIn, sentFields, bytesOf}
@@ -15,7 +14,9 @@ use Rattle.header.specs.Valid.{Valid, lengthIn}
 use Rattle.header.proofs.Bytes.{word-bytes}
 use Rattle.header.proofs.Formats.{number-lt}
 use Rattle.header.proofs.Made.{made-valid, made-reads-back}
-use Rattle.packet.specs.Packet.{received, dataIn, sumIn, headerFor}
+use Rattle.sections.specs.Sections.{inSections, joined, RightSums}
+use Rattle.sections.proofs.Found.{sent-length, sent-joined, sent-sums}
+use Rattle.packet.specs.Packet.{wholeLength, received, dataIn, Summed, headerFor}
 
 -- ---- the header of a packet of n data bytes
 
@@ -47,39 +48,35 @@ pub received-front : (word : ℕ) (behind : List ℕ) → word < 2 ^ 32 → rece
 unfolding received bytesOf
 received-front word behind bits = word-bytes word bits
 
--- ---- the parts of a received packet: a header's four bytes, data, two bytes, and whatever follows
+-- ---- what is received: a header's four bytes, what was sent behind them, and whatever follows
 
-module _ (word : ℕ) (carried : List ℕ) (low high : ℕ) (after : List ℕ) where
+module _ (word : ℕ) (sent after : List ℕ) where
   abbrev pub arrived : List ℕ
-  arrived = bytesOf word ++ (carried ++ (low ∷ high ∷ after))
+  arrived = bytesOf word ++ (sent ++ after)
 
   pub received-is : word < 2 ^ 32 → received arrived ≡ word
-  received-is = received-front word (carried ++ (low ∷ high ∷ after))
+  received-is = received-front word (sent ++ after)
 
-  body-is : drop 4 arrived ≡ carried ++ (low ∷ high ∷ after)
+  pub body-is : drop 4 arrived ≡ sent ++ after
   unfolding bytesOf
   body-is = refl
 
-  pub long-enough : length carried + 6 ≤ length arrived
+  pub long-enough : length sent + 4 ≤ length arrived
   unfolding bytesOf
-  long-enough = omega (arith, length-append (bytesOf word) (carried ++ (low ∷ high ∷ after)), length-append carried (low ∷ high ∷ after))
+  long-enough = omega (arith, length-append (bytesOf word) (sent ++ after), length-append sent after)
 
-  behind : (k : ℕ) → getD arrived (4 + (length carried + k)) 0 ≡ getD (low ∷ high ∷ after) k 0
-  behind k =
-      sym (getD-drop 4 arrived (length carried + k) 0)
-      ∙ ap (λ (l : List ℕ). getD l (length carried + k) 0) body-is
-      ∙ getD-append-add carried (low ∷ high ∷ after) k 0
+-- ---- the parts of a packet whose data was sent in sections, under a header whose length is the data's
 
-  -- under a header whose length is the data's
-  module _ (header : ℕ) (long : lengthIn header ≡ length carried) where
-    pub data-is : dataIn header arrived ≡ carried
-    unfolding dataIn
-    data-is = ap₂ take long body-is ∙ take-at carried (low ∷ high ∷ after) (length carried) refl
+module _ (word : ℕ) (carried after : List ℕ) (header : ℕ) (long : lengthIn header ≡ length carried) where
+  abbrev packet : List ℕ
+  packet = arrived word (inSections carried) after
 
-    pub sum-is : sumIn header arrived ≡ low ∷ high ∷ []
-    unfolding sumIn
-    sum-is =
-        ap₂ (λ (i j : ℕ). getD arrived i 0 ∷ getD arrived j 0 ∷ [])
-        (let first : 4 + lengthIn header ≡ 4 + (length carried + 0) = omega arith in first)
-        (let second : 5 + lengthIn header ≡ 4 + (length carried + 1) = omega arith in second)
-        ∙ ap₂ (λ (x y : ℕ). x ∷ y ∷ []) (behind 0) (behind 1)
+  pub whole-is : wholeLength (lengthIn header) ≤ length packet
+  whole-is = omega (arith, long, sent-length carried, long-enough word (inSections carried) after)
+
+  pub data-is : dataIn header packet ≡ carried
+  unfolding dataIn
+  data-is = ap (joined (lengthIn header)) (body-is word (inSections carried) after) ∙ sent-joined carried (lengthIn header) long after
+
+  pub sums-right : Summed header packet
+  sums-right = subst (RightSums (lengthIn header)) (sym (body-is word (inSections carried) after)) (sent-sums carried (lengthIn header) long after)

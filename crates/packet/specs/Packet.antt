@@ -1,14 +1,18 @@
--- The parts of a packet: four bytes of header, the data, two checksum bytes; and the packet that carries a text.
+-- The parts of a packet: four bytes of header, and the data in sections, each with two checksum bytes; and the packet that carries a text.
 -- Assumes nothing.
 use mathlib.Core.Bool.{Bool}
-use mathlib.Core.List.{List, [], _∷_, _++_}
-use Prim.Native.Nat.{ℕ, _+_}
-use lib.ListN.{length, getD, take, drop}
+use mathlib.Core.List.{List, _++_}
+use Prim.Native.Nat.{ℕ, _+_, _*_}
+use lib.ListN.{getD, drop}
 use Rattle.header.specs.declared.Format.{Format}
 use Rattle.header.specs.Fields.{wordOf, bytesOf, headerOf, sentFields}
 use Rattle.header.specs.Formats.{formatNumber}
 use Rattle.header.specs.Valid.{lengthIn}
-use Rattle.checksum.specs.Checksum.{checksumBytes}
+use Rattle.sections.specs.Sections.{sectionCount, inSections, joined, RightSums, FirstWrong}
+
+-- how many bytes a packet of n data bytes has: 4 for the header, and 2 for the checksum of each section
+abbrev pub wholeLength : ℕ → ℕ
+wholeLength n = n + 4 + 2 * sectionCount n
 
 -- ---- of a received slice, whose first byte is the flag
 
@@ -16,19 +20,23 @@ use Rattle.checksum.specs.Checksum.{checksumBytes}
 unfoldable pub received : List ℕ → ℕ
 received packet = wordOf (getD packet 0 0) (getD packet 1 0) (getD packet 2 0) (getD packet 3 0)
 
--- under a header: the data, as many bytes as the header's length, from byte 4 on
+-- under a header: the data, as many bytes as the header's length, in sections from byte 4 on
 unfoldable pub dataIn : ℕ → List ℕ → List ℕ
-dataIn header packet = take (lengthIn header) (drop 4 packet)
+dataIn header packet = joined (lengthIn header) (drop 4 packet)
 
--- and the two bytes after it
-unfoldable pub sumIn : ℕ → List ℕ → List ℕ
-sumIn header packet = getD packet (4 + lengthIn header) 0 ∷ getD packet (5 + lengthIn header) 0 ∷ []
+-- the checksum behind each section is that of its bytes
+abbrev pub Summed : ℕ → List ℕ → Type 0
+Summed header packet = RightSums (lengthIn header) (drop 4 packet)
+
+-- section k, counted from 0, is the first of which it is not
+abbrev pub FirstUnsummed : ℕ → List ℕ → ℕ → Type 0
+FirstUnsummed header packet = FirstWrong (lengthIn header) (drop 4 packet)
 
 -- ---- of a packet that is sent
 
--- the header's bytes, the data, the checksum of the data
+-- the header's bytes, and the data in sections, each with its checksum
 unfoldable pub packetOf : ℕ → List ℕ → List ℕ
-packetOf header carried = bytesOf header ++ (carried ++ checksumBytes carried)
+packetOf header carried = bytesOf header ++ inSections carried
 
 -- the header of data of this length
 unfoldable pub headerFor : Format → Bool → ℕ → ℕ

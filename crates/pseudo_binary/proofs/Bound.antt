@@ -28,12 +28,9 @@ all-sized (suc m) = tt
 pub built-entries : {text : List ℕ} (sent : List ℕ) (b : Built scheme text sent) → countIn b ≤ 8 * length sent / 6
 built-entries sent b = omega (arith, few-codes scheme 6 16 all-sized sent b)
 
--- how long its text is: for 4,000 bytes at most 85,328 characters
+-- how long its text is
 pub built-bound : {text : List ℕ} (sent : List ℕ) → Built scheme text sent → length text ≤ 16 * (8 * length sent / 6)
 built-bound sent b = omega (arith, built-entries sent b, short-text scheme 6 16 all-sized sent b)
-
-pub built-most : {text : List ℕ} (sent : List ℕ) → length sent ≤ 4000 → Built scheme text sent → length text ≤ 85328
-built-most sent h b = omega (arith, built-bound sent b)
 
 -- and it may reach that: slashes alone, sixteen to an indicator
 slashes-bits : (n : ℕ) → length (codes (ours (replicate n SLASH))) ≡ 6 * ((n + 15) / 16)
@@ -47,6 +44,3 @@ slashes-bits n =
 
 pub slashes-bytes : (n : ℕ) → length (written (ours (replicate n SLASH))) ≡ (6 * ((n + 15) / 16) + 7) / 8
 slashes-bytes n = omega (arith, length-written (ours (replicate n SLASH)), slashes-bits n)
-
-pub most-reached : length (written (ours (replicate 85328 SLASH))) ≡ 4000
-most-reached = slashes-bytes 85328

@@ -14,6 +14,7 @@ use Rattle.header.specs.Fields.{bytesOf, headerOf, lowFlag}
 use Rattle.header.specs.Flag.{parityFor}
 use Rattle.distance.specs.Distance.{distance}
 use Rattle.checksum.specs.Checksum.{checksumBytes}
+use Rattle.sections.specs.Sections.{inTurn, section, sentSection, inSections}
 use Rattle.packet.specs.Packet.{received, packetOf, headerFor}
 use Rattle.reader.specs.declared.ReadAnswer.the-variants.{Accepted}
 use Rattle.reader.specs.Reader.{Reads}
@@ -31,10 +32,10 @@ printed =
 -- what comes: two bits of the header turned over
 arrives : (byte : ℕ) (after : List ℕ)
     → 0xC1 ∷ 0x00 ∷ 0x04 ∷ 0xDD ∷ byte ∷ (checksumBytes (byte ∷ []) ++ after) ≡ arriving 0xC10004DD (packetOf (headerFor Open false 1) (byte ∷ [])) after
-unfolding arriving packetOf bytesOf
+unfolding arriving packetOf bytesOf inSections inTurn sentSection section
 arrives byte after = refl
 
-abbrev made : (byte : ℕ) → Made (naming 2) Open false (byte ∷ []) (packetOf (headerFor Open false 1) (byte ∷ []))
+abbrev made : (byte : ℕ) → Made (naming 2 false) Open false (byte ∷ []) (packetOf (headerFor Open false 1) (byte ∷ []))
 made byte = record { carried = byte ∷ []; coded = λ i lt. tt; carries = refl; some = omega arith; few = omega arith; is = refl }
 
 -- its header, and the two bits in which what comes differs from it
@@ -46,7 +47,7 @@ two : distance 0xC10004DD 0x400004DD ≡ 2
 unfolding distance differences onesIn
 two = refl
 
-flipped : (byte : ℕ) → Flipped (naming 2) (packetOf (headerFor Open false 1) (byte ∷ [])) 0xC10004DD
+flipped : (byte : ℕ) → Flipped (naming 2 false) (packetOf (headerFor Open false 1) (byte ∷ [])) 0xC10004DD
 flipped byte =
     record {
       bits = omega arith;
@@ -64,7 +65,7 @@ pub five : {line : List ℕ} (byte : ℕ) (after : List ℕ) → Prints (0xC1 �
 five byte after p =
     let packet = packetOf (headerFor Open false 1) (byte ∷ []) in
     let once =
-    kept-naming 2 .demand-3 (omega arith) .intact Open false (byte ∷ []) packet (made byte) 0xC10004DD (flipped byte) after (p .entry) (p .exit) (p .answer) (omega (arith, p .lent))
-    (subst (λ (l : List ℕ). Reads (naming 2) l (p .entry) (p .answer) (p .exit)) (arrives byte after) (p .reads)) in
+    kept-naming 2 false .demand-3 (omega arith) .intact Open false (byte ∷ []) packet (made byte) 0xC10004DD (flipped byte) after (p .entry) (p .exit) (p .answer) (omega (arith, p .lent))
+    (subst (λ (l : List ℕ). Reads (naming 2 false) l (p .entry) (p .answer) (p .exit)) (arrives byte after) (p .reads)) in
     p .is ∙ ap lineOf (once .0)
     ∙ read-so (distance 0xC10004DD (received packet)) (bitXor 0xC10004DD (received packet)) (ap (distance 0xC10004DD) (sent byte) ∙ two) (ap (bitXor 0xC10004DD) (sent byte))

@@ -11,4 +11,4 @@ use Rattle.report.proofs.Once.{prints-refused, refused-two}
 
 pub six : {line : List ℕ} → Prints (0x40 ∷ 0x00 ∷ 0x04 ∷ 0xDA ∷ []) line
     → line ≡ 114 ∷ 101 ∷ 102 ∷ 117 ∷ 115 ∷ 101 ∷ 100 ∷ 32 ∷ 50 ∷ 10 ∷ []
-six p = prints-refused (Packet NoHeader) (edges-hold .1 .1 .1 .1 .1 .1 .0 .1 .1 .0 []) p ∙ refused-two
+six p = prints-refused (Packet NoHeader) (edges-hold .1 .1 .1 .1 .1 .1 .0 .1 .1 .0 .0 []) p ∙ refused-two

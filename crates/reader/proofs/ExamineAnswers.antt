@@ -1,15 +1,16 @@
--- What is answered under a header that is found, by what the checksum and the data say.
+-- What is answered under a header that is found, by what the checksums and the data say.
 -- Assumes nothing.
-use mathlib.Core.Bool.{Bool}
-use mathlib.Core.List.{List, [], _∷_}
-use mathlib.Core.Path.{_≡_, sym, ap, ap₂, subst₂, _∙_}
-use Prim.Native.Nat.{ℕ, _+_, _-_, _^_, _≤_, _<_}
+use mathlib.Core.List.{List}
+use mathlib.Core.Path.{_≡_, sym, ap, ap₂, subst, subst₂, _∙_}
+use Prim.Native.Nat.{ℕ, _-_, _≤_}
 use native.Mathlib.Omega.{arith}
-use lib.ListN.{length, getD, take, drop, length-take}
-use Rattle.bits.specs.Says.{Says}
+use lib.ListN.{length, take, drop, length-drop}
+use lib.Seq.{take-all}
 use Rattle.header.specs.declared.Format.{Format}
 use Rattle.header.specs.Valid.{lengthIn}
-use Rattle.checksum.specs.Checksum.{checksumBytes}
+use Rattle.sections.specs.declared.Sums.{Sums}
+use Rattle.sections.specs.Sections.{sentLength, joined}
+use Rattle.sections.specs.Steps.Sums.{Judges}
 use Rattle.codes.specs.Steps.Measure.{countable, TakesApart}
 use Rattle.codes.specs.declared.Outcome.{Outcome}
 use Rattle.formats.specs.Data.{CarriesIn, UnreadableAfter}
@@ -17,74 +18,66 @@ use Rattle.refusals.specs.declared.ExamineRefusal.the-variants.{Checksum, Malfo
 use Rattle.terms.specs.declared.Terms.{Terms}
 use Rattle.reader.specs.declared.Reading.{Reading}
 use Rattle.reader.specs.Examine.{Refuses, Accepts}
-use Rattle.packet.specs.Packet.{dataIn, sumIn}
+use Rattle.packet.specs.Packet.{wholeLength, dataIn, Summed, FirstUnsummed}
 use Rattle.reader.specs.Steps.Reading.{HeaderFound}
 use Rattle.terms.specs.Terms.{MayBeNamed}
 use Rattle.reader.proofs.ExamineStages.{clear-six, clear-seven}
 
--- the data, as the code takes it
-pub part-of : (packet : List ℕ) (header n : ℕ) → n ≡ lengthIn header → take (n + 4 - 4) (drop 4 packet) ≡ dataIn header packet
-unfolding dataIn
-part-of packet header n e = ap (λ (k : ℕ). take k (drop 4 packet)) (let same : n + 4 - 4 ≡ lengthIn header = omega arith in same)
+-- all behind the header, as the code takes it
+pub rest-is : (packet : List ℕ) → take (length packet - 4) (drop 4 packet) ≡ drop 4 packet
+rest-is packet = take-all (length packet - 4) (drop 4 packet) (omega (arith, length-drop 4 packet))
 
--- and it is short
-pub data-few : (packet : List ℕ) (header most : ℕ) → lengthIn header ≤ most → length (dataIn header packet) ≤ most
+pub rest-long : (packet : List ℕ) (n : ℕ) → wholeLength n ≤ length packet → sentLength n ≤ length (take (length packet - 4) (drop 4 packet))
+rest-long packet n whole = omega (arith, ap length (rest-is packet), length-drop 4 packet)
+
+-- and the data in it
+pub data-there : (packet : List ℕ) (header n : ℕ) → n ≡ lengthIn header → joined n (take (length packet - 4) (drop 4 packet)) ≡ dataIn header packet
 unfolding dataIn
-data-few packet header most few = simp length-take (omega (arith, few))
+data-there packet header n e = ap₂ joined e (rest-is packet)
 
 module _ (terms : Terms) (named : MayBeNamed terms) (packet : List ℕ) (found : Reading) (h : HeaderFound terms packet found) where
   pub long : found .«data_length» ≡ lengthIn (h .header)
   long = ap (λ (r : Reading). r .«data_length») (h .is)
 
-  pub whole : found .«data_length» + 6 ≤ length packet
+  pub whole : wholeLength (found .«data_length») ≤ length packet
   whole = omega (arith, long, h .framed .whole)
 
-  pub short : found .«data_length» < 2 ^ 14
+  pub short : found .«data_length» ≤ 16000
   short = omega (arith, long, h .framed .few, named .bytes)
 
-  -- ---- the parts of the packet as the code takes them
+  abbrev rest : List ℕ
+  rest = take (length packet - 4) (drop 4 packet)
 
-  part-is : take (found .«data_length» + 4 - 4) (drop 4 packet) ≡ dataIn (h .header) packet
-  part-is = part-of packet (h .header) (found .«data_length») long
+  pub all-there : sentLength (found .«data_length») ≤ length rest
+  all-there = rest-long packet (found .«data_length») whole
 
-  sum-is : getD packet (found .«data_length» + 4) 0 ∷ getD packet (found .«data_length» + 4 + 1) 0 ∷ [] ≡ sumIn (h .header) packet
-  unfolding sumIn
-  sum-is =
-      ap₂ (λ (i j : ℕ). getD packet i 0 ∷ getD packet j 0 ∷ [])
-      (let low : found .«data_length» + 4 ≡ 4 + lengthIn (h .header) = omega (arith, long) in low)
-      (let high : found .«data_length» + 4 + 1 ≡ 5 + lengthIn (h .header) = omega (arith, long) in high)
-
-  -- what the test of the checksum says
-  pub tested : (answer : Bool)
-      → Says answer (getD packet (found .«data_length» + 4) 0 ∷ getD packet (found .«data_length» + 4 + 1) 0 ∷ [] ≡ checksumBytes (take (found .«data_length» + 4 - 4) (drop 4 packet)))
-      → Says answer (sumIn (h .header) packet ≡ checksumBytes (dataIn (h .header) packet))
-  tested answer says = subst₂ (λ (x y : List ℕ). Says answer (x ≡ checksumBytes y)) sum-is part-is says
+  -- what is judged of the checksums, said under the header
+  pub judged : (sums : Sums) → Judges (found .«data_length») rest sums → Judges (lengthIn (h .header)) (drop 4 packet) sums
+  judged sums = subst₂ (λ (n : ℕ) (l : List ℕ). Judges n l sums) long (rest-is packet)
 
   -- what the data comes to, said under the header
   pub apart : (outcome : Outcome)
-      → (let carried = take (found .«data_length» + 4 - 4) (drop 4 packet) in
-      TakesApart (CarriesIn (found .format) carried) (UnreadableAfter (found .format) carried) (length carried) outcome)
-      → (let carried = dataIn (h .header) packet in
-      TakesApart (CarriesIn (h .format) carried) (UnreadableAfter (h .format) carried) (length carried) outcome)
+      → TakesApart (CarriesIn (found .format) (joined (found .«data_length») rest)) (UnreadableAfter (found .format) (joined (found .«data_length») rest)) (found .«data_length») outcome
+      → TakesApart (CarriesIn (h .format) (dataIn (h .header) packet)) (UnreadableAfter (h .format) (dataIn (h .header) packet)) (found .«data_length») outcome
   apart outcome taken =
       subst₂
-      (λ (k : Format) (l : List ℕ). TakesApart (CarriesIn k l) (UnreadableAfter k l) (length l) outcome)
-      (ap (λ (r : Reading). r .format) (h .is)) part-is taken
+      (λ (k : Format) (l : List ℕ). TakesApart (CarriesIn k l) (UnreadableAfter k l) (found .«data_length») outcome)
+      (ap (λ (r : Reading). r .format) (h .is)) (data-there packet (h .header) (found .«data_length») long) taken
 
   -- a packet's data can be counted
-  pub counted : countable ≤ length (dataIn (h .header) packet) → ⊥
-  counted many = omega (arith, many, data-few packet (h .header) (terms .most) (h .framed .few), named .bytes)
+  pub counted : countable ≤ found .«data_length» → ⊥
+  counted many = omega (arith, many, short)
 
   -- ---- the answers
 
-  pub refused-sum : (sumIn (h .header) packet ≡ checksumBytes (dataIn (h .header) packet) → ⊥) → Refuses terms packet Checksum
-  refused-sum bad =
+  pub refused-sum : (k : ℕ) → FirstUnsummed (h .header) packet k → (section : ℕ) → section ≡ k → Refuses terms packet (Checksum section)
+  refused-sum k bad section e =
       record {
-        fault = (h .header, h .framed .near, bad);
+        fault = (h .header, h .framed .near, subst (FirstUnsummed (h .header) packet) (sym e) bad);
         first = clear-six terms packet named (h .header) (h .format) (h .framed);
       }
 
-  module _ (summed : sumIn (h .header) packet ≡ checksumBytes (dataIn (h .header) packet)) where
+  module _ (summed : Summed (h .header) packet) where
     pub refused-place : (i k : ℕ) → UnreadableAfter (h .format) (dataIn (h .header) packet) i k → (bit codes : ℕ) → bit ≡ i → codes ≡ k
         → Refuses terms packet (Malformed bit codes)
     refused-place i k stuck bit codes e d =

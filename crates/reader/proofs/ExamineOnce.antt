@@ -3,11 +3,14 @@
 use mathlib.Core.List.{List}
 use mathlib.Core.Path.{_≡_, refl, sym, ap, ap₂, _∙_, subst, subst₂}
 use Prim.Native.Nat.{ℕ, _≤_}
+use lib.ListN.{drop}
 use native.Mathlib.Decide.{decLe}
 use Rattle.header.specs.declared.Format.{Format}
 use Rattle.header.specs.Fields.{fieldsIn}
 use Rattle.header.specs.Formats.{HasFormat}
+use Rattle.header.specs.Valid.{lengthIn}
 use Rattle.header.proofs.Formats.{one-format}
+use Rattle.sections.proofs.Once.{one-wrong}
 use Rattle.formats.specs.Data.{codesIn, CarriesIn, UnreadableAfter}
 use Rattle.formats.proofs.Codes.{carries-in-one, unreadable-after-one}
 use Rattle.refusals.specs.declared.ExamineRefusal.{ExamineRefusal}
@@ -21,7 +24,7 @@ use Rattle.reader.specs.declared.Reading.{Reading}
 use Rattle.reader.specs.declared.ExamineAnswer.{ExamineAnswer}
 use Rattle.reader.specs.declared.ExamineAnswer.the-variants.{Readable, Refused}
 use Rattle.reader.specs.Examine.{Fault, Refuses, readingOf, Accepts, Examines}
-use Rattle.packet.specs.Packet.{received, dataIn}
+use Rattle.packet.specs.Packet.{received, dataIn, FirstUnsummed}
 use Rattle.terms.specs.Terms.{MayMend, OnePacket, MayBeNamed}
 use Rattle.reader.proofs.ExamineStages.{clear-seventeen, clear-eight}
 use Rattle.reader.proofs.Headers.{one-header, under}
@@ -33,7 +36,11 @@ module _ (terms : Terms) (named : MayBeNamed terms) (packet : List ℕ) where
       unreadable-after-one format i j (dataIn header packet) stuck
       (subst (λ (f : Format). UnreadableAfter f (dataIn header packet) j l) (one-format (other .1) typed) (other .2))
 
-  -- a refusal of one number is told one way: 7 with the bit and the codes, the others with none
+  sections : (j k : ℕ) → Fault terms packet (Checksum j) → Fault terms packet (Checksum k) → j ≡ k
+  sections j k (header, near, bad) g =
+      one-wrong (lengthIn header) (drop 4 packet) j k bad (under terms named packet (λ (h : ℕ). FirstUnsummed h packet k) header near g)
+
+  -- a refusal of one number is told one way: 6 with the section, 7 with the bit and the codes, the others with none
   one-told : (r : ExamineRefusal) (v c : ℕ) → Fault terms packet r → Fault terms packet (examineFrom (numberIn (examineTold r), v, c))
       → r ≡ examineFrom (numberIn (examineTold r), v, c)
   unfolding examineFrom
@@ -43,7 +50,7 @@ module _ (terms : Terms) (named : MayBeNamed terms) (packet : List ℕ) where
   one-told OtherType v c f g = refl
   one-told OtherLength v c f g = refl
   one-told CutOff v c f g = refl
-  one-told Checksum v c f g = refl
+  one-told (Checksum section) v c f g = ap {B = ExamineRefusal} Checksum (sections section v f g)
   one-told (Malformed i k) v c f g = let same = places i k v c f g in ap₂ {C = ExamineRefusal} Malformed (same .0) (same .1)
 
   pub refuses-one : (r s : ExamineRefusal) → Refuses terms packet r → Refuses terms packet s → r ≡ s

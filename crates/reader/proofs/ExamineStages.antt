@@ -5,14 +5,14 @@ use mathlib.Core.Logic.{_⊎_, ⊎-elim}
 use mathlib.Core.Path.{_≡_, refl, _∙_, subst}
 use Prim.Native.Nat.{ℕ, suc, _+_, _≤_, _<_}
 use native.Mathlib.Omega.{arith}
-use lib.ListN.{length, getD}
+use lib.ListN.{length, getD, drop}
 use Rattle.header.specs.declared.Format.{Format}
 use Rattle.header.specs.Fields.{fieldsIn}
 use Rattle.header.specs.Formats.{HasFormat}
 use Rattle.header.specs.Valid.{lengthIn}
 use Rattle.header.proofs.Formats.{one-format}
 use Rattle.distance.specs.Distance.{ValidWithin}
-use Rattle.checksum.specs.Checksum.{checksumBytes}
+use Rattle.sections.proofs.Once.{never-both}
 use Rattle.formats.specs.Data.{Carries, Unreadable, UnreadableAfter}
 use Rattle.formats.proofs.Formats.{never-unreadable}
 use Rattle.refusals.specs.Match.{turnIn, readerOrder, readerTurn}
@@ -20,7 +20,7 @@ use Rattle.refusals.proofs.Known.{examineFrom, examineKnown, examine-at-turn}
 use Rattle.refusals.proofs.Refused as refused
 use Rattle.terms.specs.declared.Terms.{Terms}
 use Rattle.reader.specs.Examine.{Fault, Framed}
-use Rattle.packet.specs.Packet.{received, dataIn, sumIn}
+use Rattle.packet.specs.Packet.{wholeLength, received, dataIn, Summed, FirstUnsummed}
 use Rattle.terms.specs.Terms.{MayMend, MayBeNamed}
 use Rattle.reader.proofs.Headers.{under}
 
@@ -75,16 +75,16 @@ module _ (terms : Terms) (packet : List ℕ) where
       clear-six =
           next 5 6 refl refl (clear-five header (framed .near) (omega (arith, framed .whole)) format (framed .typed) (framed .some) (framed .few))
           (λ v c f.
-          let short = under terms named packet (λ (h : ℕ). length packet < lengthIn h + 6) header (framed .near) f in omega (arith, framed .whole))
+          let short = under terms named packet (λ (h : ℕ). length packet < wholeLength (lengthIn h)) header (framed .near) f in omega (arith, framed .whole))
 
-      pub clear-seven : sumIn header packet ≡ checksumBytes (dataIn header packet) → Clear 7
+      pub clear-seven : Summed header packet → Clear 7
       unfolding examineFrom turnIn
       clear-seven summed =
           next 6 7 refl refl clear-six
           (λ v c f.
-          under terms named packet (λ (h : ℕ). sumIn h packet ≡ checksumBytes (dataIn h packet) → ⊥) header (framed .near) f summed)
+          never-both (lengthIn header) (drop 4 packet) v summed (under terms named packet (λ (h : ℕ). FirstUnsummed h packet v) header (framed .near) f))
 
-      pub clear-eight : sumIn header packet ≡ checksumBytes (dataIn header packet) → (text : List ℕ) → Carries format text (dataIn header packet) → Clear 8
+      pub clear-eight : Summed header packet → (text : List ℕ) → Carries format text (dataIn header packet) → Clear 8
       unfolding examineFrom turnIn
       clear-eight summed text carries =
           next 7 8 refl refl (clear-seven summed)

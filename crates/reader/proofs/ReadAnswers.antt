@@ -2,12 +2,11 @@
 -- Assumes nothing.
 use mathlib.Core.List.{List, _++_}
 use mathlib.Core.Path.{_≡_, refl, sym, ap, ap₂, subst₂, _∙_}
-use Prim.Native.Nat.{ℕ, _+_, _-_, _^_, _≤_, _<_}
+use Prim.Native.Nat.{ℕ, _-_, _≤_, _<_}
 use native.Mathlib.Omega.{arith}
 use lib.ListN.{length, take, drop}
 use Rattle.header.specs.declared.Format.{Format}
 use Rattle.header.specs.Valid.{lengthIn}
-use Rattle.codes.specs.Steps.Measure.{countable}
 use Rattle.formats.specs.Data.{Carries}
 use Rattle.formats.specs.Steps.Text.{HasRoom, PutsText}
 use Rattle.formats.proofs.Formats.{carries-one}
@@ -19,10 +18,11 @@ use Rattle.terms.specs.declared.Terms.{Terms}
 use Rattle.reader.specs.declared.Reading.{Reading}
 use Rattle.reader.specs.declared.ReadAnswer.the-variants.{Accepted, Refused}
 use Rattle.reader.specs.Examine.{Accepts}
-use Rattle.packet.specs.Packet.{dataIn}
+use Rattle.packet.specs.Packet.{wholeLength, dataIn}
+use Rattle.sections.specs.Sections.{sentLength, joined}
 use Rattle.reader.specs.Reader.{ReadFault, Reads}
 use Rattle.terms.specs.Terms.{MayBeNamed}
-use Rattle.reader.proofs.ExamineAnswers.{part-of, data-few}
+use Rattle.reader.proofs.ExamineAnswers.{rest-long, data-there}
 use Rattle.reader.proofs.ExamineOnce.{accepts-no-fault}
 
 module _ (terms : Terms) (packet : List ℕ) where
@@ -58,33 +58,34 @@ module _ (terms : Terms) (packet : List ℕ) where
     data-long : reading .«data_length» ≡ lengthIn (a .header)
     data-long = ap (λ (r : Reading). r .«data_length») (a .is)
 
-    pub whole : reading .«data_length» + 6 ≤ length packet
+    pub whole : wholeLength (reading .«data_length») ≤ length packet
     whole = omega (arith, data-long, a .allowed .framed .whole)
 
-    pub short : reading .«data_length» < 2 ^ 14
+    pub short : reading .«data_length» ≤ 16000
     short = omega (arith, data-long, a .allowed .framed .few, named .bytes)
 
-    abbrev part : List ℕ
-    part = take (reading .«data_length» + 4 - 4) (drop 4 packet)
+    abbrev rest : List ℕ
+    rest = take (length packet - 4) (drop 4 packet)
 
-    same-part : part ≡ dataIn (a .header) packet
-    same-part = part-of packet (a .header) (reading .«data_length») data-long
+    pub all-there : sentLength (reading .«data_length») ≤ length rest
+    all-there = rest-long packet (reading .«data_length») whole
 
-    carried : Carries (reading .format) text part
+    abbrev data-in : List ℕ
+    data-in = joined (reading .«data_length») rest
+
+    carried : Carries (reading .format) text data-in
     carried =
-        subst₂ (λ (k : Format) (l : List ℕ). Carries k text l) (ap (λ (r : Reading). r .format) (sym (a .is))) (sym same-part) (a .allowed .carries)
+        subst₂ (λ (k : Format) (l : List ℕ). Carries k text l) (ap (λ (r : Reading). r .format) (sym (a .is)))
+        (sym (data-there packet (a .header) (reading .«data_length») data-long)) (a .allowed .carries)
 
     module _ (entry : List ℕ) (held : reading .«text_length» ≤ length entry) where
-      pub room : (length part < countable) × HasRoom (reading .format) part (length entry)
-      room = (
-        omega (arith, ap length same-part, data-few packet (a .header) (terms .most) (a .allowed .framed .few), named .bytes),
-        record { text = text; carries = carried; fits = omega (arith, long reading text a) },
-      )
+      pub room : HasRoom (reading .format) data-in (length entry)
+      room = record { text = text; carries = carried; fits = omega (arith, long reading text a) }
 
       -- what was put into the buffer is the text
-      pub put-in : (exit : List ℕ) (r : ℕ) → PutsText (reading .format) part entry exit r → Reads terms packet entry (Accepted reading) exit
+      pub put-in : (exit : List ℕ) (r : ℕ) → PutsText (reading .format) data-in entry exit r → Reads terms packet entry (Accepted reading) exit
       put-in exit r p =
-          let same = carries-one (reading .format) (p .text) text part (p .carries) carried in (
+          let same = carries-one (reading .format) (p .text) text data-in (p .carries) carried in (
             text,
             a,
             omega (arith, long reading text a),

@@ -4,7 +4,7 @@
 use mathlib.Core.List.{List}
 use mathlib.Core.Logic.{_⊎_}
 use mathlib.Core.Path.{_≡_}
-use Prim.Native.Nat.{ℕ, _+_, _≤_, _<_}
+use Prim.Native.Nat.{ℕ, _≤_, _<_}
 use lib.Bits.{bitXor}
 use lib.ListN.{length}
 use Rattle.header.specs.declared.Format.{Format}
@@ -12,7 +12,6 @@ use Rattle.header.specs.Fields.{fieldsIn}
 use Rattle.header.specs.Formats.{HasFormat}
 use Rattle.header.specs.Valid.{lengthIn}
 use Rattle.distance.specs.Distance.{ValidWithin, distance}
-use Rattle.checksum.specs.Checksum.{checksumBytes}
 use Rattle.formats.specs.Data.{Carries, codesIn, UnreadableAfter}
 use Rattle.refusals.specs.declared.ExamineRefusal.{ExamineRefusal}
 use Rattle.refusals.specs.declared.ExamineRefusal.the-variants.{TooManyBits, Short, NoHeader, OtherType, OtherLength, CutOff, Checksum, Malformed}
@@ -23,7 +22,7 @@ use Rattle.terms.specs.Terms.{MayMend}
 use Rattle.reader.specs.declared.Reading.{Reading}
 use Rattle.reader.specs.declared.ExamineAnswer.{ExamineAnswer}
 use Rattle.reader.specs.declared.ExamineAnswer.the-variants.{Readable, Refused}
-use Rattle.packet.specs.Packet.{received, dataIn, sumIn}
+use Rattle.packet.specs.Packet.{wholeLength, received, dataIn, Summed, FirstUnsummed}
 
 -- the valid header that the packet is read as, no further away than the bits to mend, with what the condition says of it
 abbrev pub UnderHeader : Terms → List ℕ → (ℕ → Type 0) → Type 0
@@ -36,8 +35,8 @@ Fault terms packet Short = length packet < 4
 Fault terms packet NoHeader = (header : ℕ) → ValidWithin (terms .mend) (received packet) header → ⊥
 Fault terms packet OtherType = UnderHeader terms packet (λ header. (format : Format) → HasFormat (fieldsIn header) format → ⊥)
 Fault terms packet OtherLength = UnderHeader terms packet (λ header. (lengthIn header ≡ 0) ⊎ (terms .most < lengthIn header))
-Fault terms packet CutOff = UnderHeader terms packet (λ header. length packet < lengthIn header + 6)
-Fault terms packet Checksum = UnderHeader terms packet (λ header. sumIn header packet ≡ checksumBytes (dataIn header packet) → ⊥)
+Fault terms packet CutOff = UnderHeader terms packet (λ header. length packet < wholeLength (lengthIn header))
+Fault terms packet (Checksum section) = UnderHeader terms packet (λ header. FirstUnsummed header packet section)
 Fault terms packet (Malformed bit codes) =
     UnderHeader terms packet (λ header. (format : Format) × HasFormat (fieldsIn header) format × UnreadableAfter format (dataIn header packet) bit codes)
 
@@ -52,13 +51,13 @@ pub record Framed (terms : Terms) (packet : List ℕ) (format : Format) (header 
   pub typed : HasFormat (fieldsIn header) format
   pub some : 1 ≤ lengthIn header
   pub few : lengthIn header ≤ terms .most
-  pub whole : lengthIn header + 6 ≤ length packet
+  pub whole : wholeLength (lengthIn header) ≤ length packet
 
--- the document and our limits allow the packet with this header, in this format, with this text: it is framed so; the checksum is right; and the data is
--- what a maker may build of the text
+-- the document and our limits allow the packet with this header, in this format, with this text: it is framed so; the checksum of each section is
+-- right; and the data is what a maker may build of the text
 pub record Allowed (terms : Terms) (packet : List ℕ) (format : Format) (header : ℕ) (text : List ℕ) : Type 0 where
   pub framed : Framed terms packet format header
-  pub summed : sumIn header packet ≡ checksumBytes (dataIn header packet)
+  pub summed : Summed header packet
   pub carries : Carries format text (dataIn header packet)
 
 -- the answer: out of the format, the header that the packet is read as, the header as it was received, the text, and how many codes the data has
@@ -72,7 +71,7 @@ readingOf format header word text codes =
       codes = codes;
       «data_length» = lengthIn header;
       «text_length» = length text;
-      used = lengthIn header + 6;
+      used = wholeLength (lengthIn header);
     }
 
 -- the packet is accepted with this reading and this text

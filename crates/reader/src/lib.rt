@@ -6,12 +6,13 @@ use header::WhichFormat;
 use mending::Mending;
 use refusals::ExamineRefusal;
 use refusals::ReadRefusal;
+use sections::Sums;
 use terms::Terms;
 ghost use Rattle.terms.specs.Terms.{OnePacket, MayBeNamed, naming, usual};
 ghost use Rattle.reader.specs.declared.ExamineAnswer.the-variants.{Readable};
 ghost use Rattle.reader.specs.Examine.{Examines};
 ghost use Rattle.reader.specs.Reader.{Reads};
-ghost use Rattle.reader.specs.Steps.Reading.{HeaderFound, FindsHeader};
+ghost use Rattle.reader.specs.Steps.Reading.{HeaderFound, FindsHeader, SumsRight};
 
 // An accepted packet: its format and sync bit, how many header bits were mended and which, how many codes were read, the lengths of data and text, and the
 // bytes used. Why the mask does not stand beside the count: docs/DECISIONS.md.
@@ -67,13 +68,13 @@ fn find_header(terms: Terms, packet: &[u8]) -> HeaderAnswer
     let length = fields.length as usize;
     let sync = fields.sync;
     let most = terms.most as usize;
-    let used = length + 6;
     if length == 0 {
         return HeaderAnswer::Refused(ExamineRefusal::OtherLength); // no data
     }
     if most < length {
         return HeaderAnswer::Refused(ExamineRefusal::OtherLength); // too much
     }
+    let used = packet::whole_length(length);
     if packet.len() < used {
         return HeaderAnswer::Refused(ExamineRefusal::CutOff); // too few bytes
     }
@@ -89,17 +90,13 @@ fn find_header(terms: Terms, packet: &[u8]) -> HeaderAnswer
     })
 }
 
-// Tests 6 and 7, under a header that is found. The terms are those that it was found under; the contract names them.
-fn examine_data(terms: Terms, found: Reading, packet: &[u8]) -> ExamineAnswer
-    requires { ⌜ MayBeNamed terms × HeaderFound terms (now packet) found ⌝ }
+// Test 7, under a header that is found and with every checksum right. The terms are those that it was found under; the contract names them.
+fn examine_text(terms: Terms, found: Reading, packet: &[u8]) -> ExamineAnswer
+    requires { ⌜ MayBeNamed terms × SumsRight terms (now packet) found ⌝ }
     ensures { λ r. ⌜ Examines terms (now (packet .entry)) r ⌝ }
 {
     let format = found.format;
-    let end = found.data_length + 4;
-    if !checksum::agrees(&packet[4..end], packet[end], packet[end + 1]) {
-        return ExamineAnswer::Refused(ExamineRefusal::Checksum);
-    }
-    let outcome = formats::take_apart(format, &packet[4..end]);
+    let outcome = section_data::take_apart(format, found.data_length, &packet[4..]);
     match outcome {
         Outcome::Text(n, codes) => {
             let mut reading = found;
@@ -111,6 +108,18 @@ fn examine_data(terms: Terms, found: Reading, packet: &[u8]) -> ExamineAnswer
             ExamineAnswer::Refused(ExamineRefusal::Malformed(bit, codes))
         }
         Outcome::TooLong => ExamineAnswer::Refused(ExamineRefusal::OtherLength), // never: a packet's data is short
+    }
+}
+
+// Tests 6 and 7, under a header that is found.
+fn examine_data(terms: Terms, found: Reading, packet: &[u8]) -> ExamineAnswer
+    requires { ⌜ MayBeNamed terms × HeaderFound terms (now packet) found ⌝ }
+    ensures { λ r. ⌜ Examines terms (now (packet .entry)) r ⌝ }
+{
+    let sums = sections::judge(found.data_length, &packet[4..]);
+    match sums {
+        Sums::Right => examine_text(terms, found, packet),
+        Sums::Wrong(section) => ExamineAnswer::Refused(ExamineRefusal::Checksum(section)),
     }
 }
 
@@ -133,11 +142,10 @@ fn read_text(terms: Terms, reading: Reading, packet: &[u8], text: &mut [u8]) -> 
 {
     let format = reading.format;
     let needed = reading.text_length;
-    let end = reading.data_length + 4;
     if text.len() < needed {
         return ReadAnswer::Refused(ReadRefusal::NoRoom(needed));
     }
-    formats::put_text(format, &packet[4..end], text);
+    section_data::put_text(format, reading.data_length, &packet[4..], text);
     ReadAnswer::Accepted(reading)
 }
 
@@ -153,31 +161,31 @@ fn read_under(terms: Terms, packet: &[u8], text: &mut [u8]) -> ReadAnswer
     }
 }
 
-// Finds out about the packet at the front of a slice all but its text, at most so many header bits mended. Bytes after the packet's checksum are not
-// looked at.
-pub fn examine_mending(mend: u32, packet: &[u8]) -> ExamineAnswer
-    ensures { λ r. ⌜ Examines (naming mend) (now (packet .entry)) r ⌝ }
+// Finds out about the packet at the front of a slice all but its text, at most so many header bits mended, at 1200 bps or else at 300. Bytes after the
+// packet's last checksum are not looked at.
+pub fn examine_mending(mend: u32, rate_1200: bool, packet: &[u8]) -> ExamineAnswer
+    ensures { λ r. ⌜ Examines (naming mend «rate_1200») (now (packet .entry)) r ⌝ }
 {
-    examine_under(Terms::naming(mend), packet)
+    examine_under(Terms::naming(mend, rate_1200), packet)
 }
 
 // The same, at most one header bit mended.
-pub fn examine(packet: &[u8]) -> ExamineAnswer
-    ensures { λ r. ⌜ Examines usual (now (packet .entry)) r ⌝ }
+pub fn examine(rate_1200: bool, packet: &[u8]) -> ExamineAnswer
+    ensures { λ r. ⌜ Examines (usual «rate_1200») (now (packet .entry)) r ⌝ }
 {
-    examine_under(Terms::usual(), packet)
+    examine_under(Terms::usual(rate_1200), packet)
 }
 
 // Reads the packet at the front of a slice into a text buffer, at most so many header bits mended.
-pub fn read_mending(mend: u32, packet: &[u8], text: &mut [u8]) -> ReadAnswer
-    ensures { λ r. ⌜ Reads (naming mend) (now (packet .entry)) (now (text .entry)) r (now (text .exit)) ⌝ }
+pub fn read_mending(mend: u32, rate_1200: bool, packet: &[u8], text: &mut [u8]) -> ReadAnswer
+    ensures { λ r. ⌜ Reads (naming mend «rate_1200») (now (packet .entry)) (now (text .entry)) r (now (text .exit)) ⌝ }
 {
-    read_under(Terms::naming(mend), packet, text)
+    read_under(Terms::naming(mend, rate_1200), packet, text)
 }
 
 // The same, at most one header bit mended.
-pub fn read(packet: &[u8], text: &mut [u8]) -> ReadAnswer
-    ensures { λ r. ⌜ Reads usual (now (packet .entry)) (now (text .entry)) r (now (text .exit)) ⌝ }
+pub fn read(rate_1200: bool, packet: &[u8], text: &mut [u8]) -> ReadAnswer
+    ensures { λ r. ⌜ Reads (usual «rate_1200») (now (packet .entry)) (now (text .entry)) r (now (text .exit)) ⌝ }
 {
-    read_under(Terms::usual(), packet, text)
+    read_under(Terms::usual(rate_1200), packet, text)
 }

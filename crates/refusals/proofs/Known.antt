@@ -22,7 +22,7 @@ examineFrom (number, value, codes) =
     (cond (eqb number 1) Short
     (cond (eqb number 2) NoHeader
     (cond (eqb number 3) OtherType
-    (cond (eqb number 4) OtherLength (cond (eqb number 5) CutOff (cond (eqb number 6) Checksum (Malformed value codes)))))))
+    (cond (eqb number 4) OtherLength (cond (eqb number 5) CutOff (cond (eqb number 6) (Checksum value) (Malformed value codes)))))))
 
 pub examine-back : (r : ExamineRefusal) → examineFrom (examineTold r) ≡ r
 unfolding examineFrom
@@ -32,7 +32,7 @@ examine-back NoHeader = refl
 examine-back OtherType = refl
 examine-back OtherLength = refl
 examine-back CutOff = refl
-examine-back Checksum = refl
+examine-back (Checksum section) = refl
 examine-back (Malformed bit codes) = refl
 
 abbrev pub examineKnown : Known ExamineRefusal examineTold
@@ -50,7 +50,7 @@ examineOrdered = record { stands = stands }
     stands OtherType = refl
     stands OtherLength = refl
     stands CutOff = refl
-    stands Checksum = refl
+    stands (Checksum section) = refl
     stands (Malformed bit codes) = refl
 
 pub examine-at-turn : (r : ExamineRefusal) (turn : ℕ) → readerTurn (numberIn (examineTold r)) ≡ turn → numberIn (examineTold r) ≡ getD readerOrder turn 0
@@ -69,7 +69,7 @@ before-room NoHeader = omega arith
 before-room OtherType = omega arith
 before-room OtherLength = omega arith
 before-room CutOff = omega arith
-before-room Checksum = omega arith
+before-room (Checksum section) = omega arith
 before-room (Malformed bit codes) = omega arith
 
 -- ---- of the writer

@@ -22,7 +22,8 @@ abbrev pub codesTold : Told → ℕ
 codesTold told = told .2
 
 -- of a packet: more header bits to mend than may be named; fewer than 4 bytes; no valid header within the named number of bits; another type; another
--- length; fewer bytes than the length asks for; the checksum; malformed data, with the bit and the codes before it
+-- length; fewer bytes than the length asks for; a checksum, with the number of the first section whose it is; malformed data, with the bit and the codes
+-- before it
 abbrev pub examineTold : ExamineRefusal → Told
 examineTold TooManyBits = (17, 0, 0)
 examineTold Short = (1, 0, 0)
@@ -30,7 +31,7 @@ examineTold NoHeader = (2, 0, 0)
 examineTold OtherType = (3, 0, 0)
 examineTold OtherLength = (4, 0, 0)
 examineTold CutOff = (5, 0, 0)
-examineTold Checksum = (6, 0, 0)
+examineTold (Checksum section) = (6, section, 0)
 examineTold (Malformed bit codes) = (7, bit, codes)
 
 -- of the text buffer: too short, with the text's length

@@ -9,7 +9,7 @@ pub enum ExamineRefusal {
     OtherType,
     OtherLength,
     CutOff,
-    Checksum,
+    Checksum(usize),
     Malformed(usize, usize),
 }
 
@@ -39,7 +39,7 @@ impl ExamineRefusal {
             ExamineRefusal::OtherType => 3,
             ExamineRefusal::OtherLength => 4,
             ExamineRefusal::CutOff => 5,
-            ExamineRefusal::Checksum => 6,
+            ExamineRefusal::Checksum(_) => 6,
             ExamineRefusal::Malformed(_, _) => 7,
         }
     }
@@ -49,6 +49,7 @@ impl ExamineRefusal {
         ensures { λ r. ⌜ r ≡ valueIn (examineTold self) ⌝ }
     {
         match self {
+            ExamineRefusal::Checksum(section) => section,
             ExamineRefusal::Malformed(bit, _) => bit,
             ExamineRefusal::TooManyBits => 0,
             ExamineRefusal::Short => 0,
@@ -56,7 +57,6 @@ impl ExamineRefusal {
             ExamineRefusal::OtherType => 0,
             ExamineRefusal::OtherLength => 0,
             ExamineRefusal::CutOff => 0,
-            ExamineRefusal::Checksum => 0,
         }
     }
 
@@ -72,7 +72,7 @@ impl ExamineRefusal {
             ExamineRefusal::OtherType => 0,
             ExamineRefusal::OtherLength => 0,
             ExamineRefusal::CutOff => 0,
-            ExamineRefusal::Checksum => 0,
+            ExamineRefusal::Checksum(_) => 0,
         }
     }
 }

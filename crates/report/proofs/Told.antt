@@ -1,7 +1,8 @@
 -- The line of an answer, piece by piece and number by number, so that a wrong one is refused where it stands; and what the line and the reading say together.
 -- Assumes nothing.
+use mathlib.Core.Bool.{false}
 use mathlib.Core.List.{List, [], _∷_, _++_, append-assoc}
-use mathlib.Core.Path.{_≡_, refl, sym, ap, ap₂, _∙_, subst}
+use mathlib.Core.Path.{_≡_, refl, sym, ap, ap₂, _∙_, subst, subst₂}
 use Prim.Native.Nat.{ℕ, _+_, _≤_, _<_}
 use native.Mathlib.Omega.{arith}
 use lib.ListN.{length, length-append}
@@ -14,7 +15,7 @@ use Rattle.reader.specs.declared.ReadAnswer.{ReadAnswer}
 use Rattle.reader.specs.declared.ReadAnswer.the-variants.{Accepted, Refused}
 use Rattle.refusals.specs.Refusals.{numberIn, readTold}
 use Rattle.reader.specs.Reader.{Reads}
-use Rattle.terms.specs.Terms.{naming}
+use Rattle.terms.specs.Terms.{mostAt}
 use Rattle.report.specs.Line.{ok, refused, decimal, decimals, hexadecimal, spaced, line, lineOf}
 use Rattle.report.specs.Steps.Put.{room, PutsRow, PutsLine}
 use Rattle.report.proofs.Decimal.{spaced-within, hexadecimal-length}
@@ -141,12 +142,20 @@ told-refused refusal number e = ap (λ (n : ℕ). line refused (decimal n ∷ []
 
 -- ---- a packet's line
 
-pub reported : {packet out out′ : List ℕ} {r : ℕ} (entry exit : List ℕ) (answer : ReadAnswer) (long mend : ℕ)
-    → Reads (naming mend) packet entry answer exit → mend ≡ 2
+pub reported : {packet out out′ : List ℕ} {r : ℕ} (entry exit : List ℕ) (answer : ReadAnswer) (long mend most : ℕ)
+    → Reads (record { mend = mend; most = most }) packet entry answer exit → mend ≡ 2 → most ≡ mostAt false
     → Fronted (lineOf answer) out out′ long → length entry ≡ 65536 → r ≡ long → PutsLine packet out out′ r
-reported {packet} {out} {out′} {r} entry exit answer long mend reads named fronted lent e =
+reported {packet} {out} {out′} {r} entry exit answer long mend most reads named at-300 fronted lent e =
     record {
       line = lineOf answer;
-      prints = record { entry = entry; exit = exit; answer = answer; lent = lent; reads = subst (λ (m : ℕ). Reads (naming m) packet entry answer exit) named reads; is = refl };
+      prints =
+          record {
+            entry = entry;
+            exit = exit;
+            answer = answer;
+            lent = lent;
+            reads = subst₂ (λ (m n : ℕ). Reads (record { mend = m; most = n }) packet entry answer exit) named at-300 reads;
+            is = refl;
+          };
       front = subst (λ (n : ℕ). Fronted (lineOf answer) out out′ n) (sym e) fronted;
     }

@@ -1,6 +1,7 @@
--- What the reading program prints of a packet (RULES, Reading program): the line of the reader's answer where two header bits are named, for a text buffer
--- of 65,536 bytes, whatever these bytes are.
+-- What the reading program prints of a packet (RULES, Reading program): the line of the reader's answer where two header bits and 300 bps are named, for a
+-- text buffer of 65,536 bytes, whatever these bytes are.
 -- Assumes nothing.
+use mathlib.Core.Bool.{false}
 use mathlib.Core.Path.{_≡_}
 use mathlib.Core.List.{List}
 use Prim.Native.Nat.{ℕ}
@@ -15,5 +16,5 @@ pub record Prints (packet line : List ℕ) : Type 0 where
   pub exit : List ℕ
   pub answer : ReadAnswer
   pub lent : length entry ≡ 65536
-  pub reads : Reads (naming 2) packet entry answer exit
+  pub reads : Reads (naming 2 false) packet entry answer exit
   pub is : line ≡ lineOf answer

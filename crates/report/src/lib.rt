@@ -11,8 +11,10 @@ ghost use Rattle.report.specs.Line.{decimal, decimals, hexadecimalDigit,
 ghost use Rattle.codes.specs.Steps.Laid.{Fronted};
 ghost use Rattle.report.specs.Steps.Put.{room, PutsRow, PutsLine};
 
-// The header bits to mend at most, and the room for the text (RULES, Reading program).
+// The header bits to mend at most, the rate, which is 300 bps, and the room for the text (RULES, Reading program).
 const MEND: u32 = 2;
+
+const RATE_1200: bool = false;
 
 const TEXT: usize = 65536;
 
@@ -141,5 +143,8 @@ pub fn packet_line(packet: &[u8], out: &mut [u8]) -> usize
     ensures { λ r. ⌜ PutsLine (now (packet .entry)) (now (out .entry)) (now (out .exit)) r ⌝ }
 {
     let mut text = [0u8; TEXT];
-    line(reader::read_mending(MEND, packet, &mut text), out)
+    line(
+        reader::read_mending(MEND, RATE_1200, packet, &mut text),
+        out,
+    )
 }

@@ -58,28 +58,34 @@ fn reply(answer: ReadAnswer) -> ReadReply
 }
 
 #[no_mangle]
-pub extern "C" fn rosopyat_read_mending(mend: u32, packet: &[u8], text: &mut [u8]) -> ReadReply
-    ensures { λ r. ⌜ RepliesToRead (naming mend) (now (packet .entry)) (now (text .entry)) r (now (text .exit)) ⌝ }
+pub extern "C" fn rosopyat_read_mending(
+    mend: u32,
+    rate_1200: bool,
+    packet: &[u8],
+    text: &mut [u8],
+) -> ReadReply
+    ensures { λ r. ⌜ RepliesToRead (naming mend «rate_1200») (now (packet .entry)) (now (text .entry)) r (now (text .exit)) ⌝ }
 {
-    reply(reader::read_mending(mend, packet, text))
+    reply(reader::read_mending(mend, rate_1200, packet, text))
 }
 
 #[no_mangle]
-pub extern "C" fn rosopyat_read(packet: &[u8], text: &mut [u8]) -> ReadReply
-    ensures { λ r. ⌜ RepliesToRead usual (now (packet .entry)) (now (text .entry)) r (now (text .exit)) ⌝ }
+pub extern "C" fn rosopyat_read(rate_1200: bool, packet: &[u8], text: &mut [u8]) -> ReadReply
+    ensures { λ r. ⌜ RepliesToRead (usual «rate_1200») (now (packet .entry)) (now (text .entry)) r (now (text .exit)) ⌝ }
 {
-    reply(reader::read(packet, text))
+    reply(reader::read(rate_1200, packet, text))
 }
 
 // As for loggers.
 #[no_mangle]
 pub extern "C" fn rosopyat_write(
+    rate_1200: bool,
     format: u32,
     sync: bool,
     text: &[u8],
     packet: &mut [u8],
 ) -> WriteReply
-    ensures { λ r. ⌜ RepliesToWrite format sync (now (text .entry)) (now (packet .entry)) r (now (packet .exit)) ⌝ }
+    ensures { λ r. ⌜ RepliesToWrite «rate_1200» format sync (now (text .entry)) (now (packet .entry)) r (now (packet .exit)) ⌝ }
 {
-    rosopyat_logger::rosopyat_write(format, sync, text, packet)
+    rosopyat_logger::rosopyat_write(rate_1200, format, sync, text, packet)
 }

@@ -9,8 +9,8 @@ use Rattle.writer.proofs.WriteOnce.{writes-one}
 use Rattle.rosopyat_logger.specs.Replies.{writeReply, RepliesToWrite}
 use Rattle.rosopyat_logger.specs.declared.WriteReply.{WriteReply}
 
-pub write-once : (number : ℕ) (sync : Bool) (text entry : List ℕ) (a b : WriteReply) (x y : List ℕ)
-    → RepliesToWrite number sync text entry a x → RepliesToWrite number sync text entry b y → (a ≡ b) × (x ≡ y)
-write-once number sync text entry a b x y p q =
-    let same = writes-one usual number sync text entry (p .answer) (q .answer) x y (p .writes) (q .writes) in
+pub write-once : (rate-1200 : Bool) (number : ℕ) (sync : Bool) (text entry : List ℕ) (a b : WriteReply) (x y : List ℕ)
+    → RepliesToWrite rate-1200 number sync text entry a x → RepliesToWrite rate-1200 number sync text entry b y → (a ≡ b) × (x ≡ y)
+write-once rate-1200 number sync text entry a b x y p q =
+    let same = writes-one (usual rate-1200) number sync text entry (p .answer) (q .answer) x y (p .writes) (q .writes) in
     (p .is ∙ ap writeReply (same .0) ∙ sym (q .is), same .1)

@@ -17,7 +17,7 @@ writeReply (Written length) = record { refusal = 0; number = 0; length = length 
 writeReply (Refused refusal) = record { refusal = numberIn (writeTold refusal); number = valueIn (writeTold refusal); length = 0 }
 
 -- the reply is that of an answer that the entry point may give
-pub record RepliesToWrite (number : ℕ) (sync : Bool) (text entry : List ℕ) (reply : WriteReply) (exit : List ℕ) : Type 0 where
+pub record RepliesToWrite (rate-1200 : Bool) (number : ℕ) (sync : Bool) (text entry : List ℕ) (reply : WriteReply) (exit : List ℕ) : Type 0 where
   pub answer : WriteAnswer
-  pub writes : Writes usual number sync text entry answer exit
+  pub writes : Writes (usual rate-1200) number sync text entry answer exit
   pub is : reply ≡ writeReply answer

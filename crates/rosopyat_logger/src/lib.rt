@@ -12,14 +12,15 @@ pub struct WriteReply {
 
 #[no_mangle]
 pub extern "C" fn rosopyat_write(
+    rate_1200: bool,
     format: u32,
     sync: bool,
     text: &[u8],
     packet: &mut [u8],
 ) -> WriteReply
-    ensures { λ r. ⌜ RepliesToWrite format sync (now (text .entry)) (now (packet .entry)) r (now (packet .exit)) ⌝ }
+    ensures { λ r. ⌜ RepliesToWrite «rate_1200» format sync (now (text .entry)) (now (packet .entry)) r (now (packet .exit)) ⌝ }
 {
-    let answer = writer::write(format, sync, text, packet);
+    let answer = writer::write(rate_1200, format, sync, text, packet);
     match answer {
         WriteAnswer::Written(length) => WriteReply {
             refusal: 0,

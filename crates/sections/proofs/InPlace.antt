@@ -6,12 +6,13 @@ use mathlib.Core.Path.{_≡_, refl, sym, ap, ap₂, _∙_, subst₂}
 use Prim.Native.Nat.{ℕ, zero, suc, _+_, _-_, _*_, _/_, _<_, _≤_, min}
 use native.Mathlib.Numerals.{add-one}
 use native.Mathlib.Omega.{arith}
-use lib.ListN.{length, take, drop, getD, length-append, length-take, length-drop, take-append-drop, drop-of-length-le}
-use lib.Seq.{take-at, take-all, take-length, take-append-le, take-take, take-add, drop-at, drop-drop, drop-append-le, length-take-le}
+use lib.ListN.{length, take, drop, getD, set, length-append, length-take, length-drop, take-append-drop, drop-of-length-le}
+use lib.Seq.{take-at, take-all, take-length, take-append-le, take-take, take-add, drop-at, drop-cons, drop-drop, drop-append-le, getD-drop, set-split, sets-eq, length-take-le}
 use Rattle.bits.specs.Says.{Says}
 use Rattle.checksum.specs.Checksum.{checksumBytes}
 use Rattle.checksum.proofs.Row.{checksum-bytes-length}
 use Rattle.sections.specs.Sections.{sectionCount, sentLength, inTurn, section, sentSection, inSections, sizeOf, sectionIn, sumBehind, RightSum}
+use Rattle.sections.specs.Steps.Moved.{movedUp}
 use Rattle.sections.proofs.Found.{section-length, section-in-length, joined-front-length}
 use Rattle.sections.proofs.Turns.{no-turns, turns-alike, turns-from}
 use Rattle.sections.proofs.OneSection.{two-bytes}
@@ -84,36 +85,59 @@ within (suc a) b zero s fits = absurd (omega arith)
 within (suc a) b (suc m) [] fits = refl
 within (suc a) b (suc m) (x ∷ s) fits = within a b m s (omega arith)
 
--- ---- a few bytes moved, by way of a buffer
+-- ---- eight bytes, and one
 
-pub few-moved : (s few zeros x : List ℕ) (from to count : ℕ) → from + count ≤ length s → to + count ≤ length s
-    → (let src = take (from + count - from) (drop from s) in few ≡ take (length src) src ++ drop (length src) zeros)
-    → (let part = take (count - 0) few in x ≡ take (length part) part ++ drop (length part) (take (length s - to) (drop to s)))
-    → take to s ++ (x ++ drop (length s - to) (drop to s)) ≡ take to s ++ (take count (drop from s) ++ drop (to + count) s)
-few-moved s few zeros x from to count there room out back =
-    let row = take count (drop from s) in
-    let src = take (from + count - from) (drop from s) in
-    let src-is : src ≡ row = ap (λ (m : ℕ). take m (drop from s)) (let same : from + count - from ≡ count = omega arith in same) in
-    let long : length row ≡ count = length-take-le count (drop from s) (omega (arith, length-drop from s)) in
-    let few-is : few ≡ row ++ drop count zeros =
-    out ∙ ap (λ (l : List ℕ). take (length l) l ++ drop (length l) zeros) src-is
-    ∙ ap₂ (λ (l : List ℕ) (m : ℕ). l ++ drop m zeros) (take-length row) long in
-    let part-is : take (count - 0) few ≡ row = ap (take (count - 0)) few-is ∙ take-at row (drop count zeros) (count - 0) (omega (arith, long)) in
-    let x-is : x ≡ row ++ drop count (take (length s - to) (drop to s)) =
-    back ∙ ap (λ (l : List ℕ). take (length l) l ++ drop (length l) (take (length s - to) (drop to s))) part-is
-    ∙ ap₂ (λ (l : List ℕ) (m : ℕ). l ++ drop m (take (length s - to) (drop to s))) (take-length row) long in
-    put-next (take to s) row s s x to count (length-take-le to s (omega arith)) (sym (take-append-drop to s)) x-is
-    ∙ append-assoc (take to s) row (drop (to + count) s)
+first-eight : (l : List ℕ) → 8 ≤ length l
+    → getD l 0 0 ∷ getD l 1 0 ∷ getD l 2 0 ∷ getD l 3 0 ∷ getD l 4 0 ∷ getD l 5 0 ∷ getD l 6 0 ∷ getD l 7 0 ∷ [] ≡ take 8 l
+first-eight (a ∷ b ∷ c ∷ d ∷ e ∷ f ∷ g ∷ h ∷ l) enough = refl
+first-eight (a ∷ b ∷ c ∷ d ∷ e ∷ f ∷ g ∷ []) enough = absurd (let no′ : ⊥ = omega arith in no′)
+first-eight (a ∷ b ∷ c ∷ d ∷ e ∷ f ∷ []) enough = absurd (let no′ : ⊥ = omega arith in no′)
+first-eight (a ∷ b ∷ c ∷ d ∷ e ∷ []) enough = absurd (let no′ : ⊥ = omega arith in no′)
+first-eight (a ∷ b ∷ c ∷ d ∷ []) enough = absurd (let no′ : ⊥ = omega arith in no′)
+first-eight (a ∷ b ∷ c ∷ []) enough = absurd (let no′ : ⊥ = omega arith in no′)
+first-eight (a ∷ b ∷ []) enough = absurd (let no′ : ⊥ = omega arith in no′)
+first-eight (a ∷ []) enough = absurd (let no′ : ⊥ = omega arith in no′)
+first-eight [] enough = absurd (let no′ : ⊥ = omega arith in no′)
+
+-- eight bytes from a place on
+pub eight-from : (s : List ℕ) (p : ℕ) → p + 8 ≤ length s
+    → getD s p 0 ∷ getD s (p + 1) 0 ∷ getD s (p + 2) 0 ∷ getD s (p + 3) 0 ∷ getD s (p + 4) 0 ∷ getD s (p + 5) 0 ∷ getD s (p + 6) 0 ∷ getD s (p + 7) 0 ∷ []
+    ≡ take 8 (drop p s)
+eight-from s p fits =
+    let at : (k : ℕ) → getD (drop p s) k 0 ≡ getD s (p + k) 0 = λ k. getD-drop p s k 0 in
+    let first : getD (drop p s) 0 0 ≡ getD s p 0 = at 0 ∙ ap (λ (k : ℕ). getD s k 0) (let same : p + 0 ≡ p = omega arith in same) in
+    (λ i.
+    sym first i ∷ sym (at 1) i ∷ sym (at 2) i ∷ sym (at 3) i ∷ sym (at 4) i ∷ sym (at 5) i ∷ sym (at 6) i ∷ sym (at 7) i ∷ [])
+    ∙ first-eight (drop p s) (omega (arith, length-drop p s))
+
+-- and eight put there
+pub eight-put : (s : List ℕ) (p a b c d e f g h : ℕ) → p + 8 ≤ length s
+    → set (set (set (set (set (set (set (set s p a) (p + 1) b) (p + 2) c) (p + 3) d) (p + 4) e) (p + 5) f) (p + 6) g) (p + 7) h
+    ≡ take p s ++ ((a ∷ b ∷ c ∷ d ∷ e ∷ f ∷ g ∷ h ∷ []) ++ drop (p + 8) s)
+eight-put s p a b c d e f g h fits =
+    let p1 : p + 1 ≡ suc p = omega arith in
+    let p2 : p + 2 ≡ suc (suc p) = omega arith in
+    let p3 : p + 3 ≡ suc (suc (suc p)) = omega arith in
+    let p4 : p + 4 ≡ suc (suc (suc (suc p))) = omega arith in
+    let p5 : p + 5 ≡ suc (suc (suc (suc (suc p)))) = omega arith in
+    let p6 : p + 6 ≡ suc (suc (suc (suc (suc (suc p))))) = omega arith in
+    let p7 : p + 7 ≡ suc (suc (suc (suc (suc (suc (suc p)))))) = omega arith in
+    (λ i. set (set (set (set (set (set (set (set s p a) (p1 i) b) (p2 i) c) (p3 i) d) (p4 i) e) (p5 i) f) (p6 i) g) (p7 i) h)
+    ∙ sets-eq (a ∷ b ∷ c ∷ d ∷ e ∷ f ∷ g ∷ h ∷ []) s p fits
+    ∙ append-assoc (take p s) (a ∷ b ∷ c ∷ d ∷ e ∷ f ∷ g ∷ h ∷ []) (drop (p + 8) s)
+
+-- one byte, read at one place and put at another
+pub one-moved : (s : List ℕ) (from to : ℕ) → from < length s → to < length s
+    → set s to (getD s from 0) ≡ take to s ++ (take 1 (drop from s) ++ drop (to + 1) s)
+one-moved s from to there room =
+    set-split s to (getD s from 0) room
+    ∙ ap₂ (λ (l : List ℕ) (m : ℕ). take to s ++ (l ++ drop m s)) (sym (ap (take 1) (drop-cons s from 0 there))) (sym (add-one to))
 
 -- ---- bytes moved up, the last first
 
--- all but the first so many are moved
-abbrev pub moving : List ℕ → (from to count left : ℕ) → List ℕ
-moving s from to count left = take (to + left) s ++ (drop left (take count (drop from s)) ++ drop (to + count) s)
-
 module _ (s : List ℕ) (from to count : ℕ) (up : from ≤ to) (room : to + count ≤ length s) where
   abbrev moved : ℕ → List ℕ
-  moved = moving s from to count
+  moved = movedUp s from to count
 
   row-length : length (take count (drop from s)) ≡ count
   row-length = length-take-le count (drop from s) (omega (arith, length-drop from s))
@@ -161,9 +185,16 @@ module _ (s : List ℕ) (from to count : ℕ) (up : from ≤ to) (room : to + co
         length-drop (to + count) s,
       )
 
-  pub all-moved : (left : ℕ) → left ≡ 0 → moved left ≡ take to s ++ (take count (drop from s) ++ drop (to + count) s)
-  all-moved left none =
-      ap moved none ∙ ap (λ (m : ℕ). take m s ++ (take count (drop from s) ++ drop (to + count) s)) (let same : to + 0 ≡ to = omega arith in same)
+  -- the rest moved after some
+  pub rest-moved : (left : ℕ) → left ≤ count → (body after : List ℕ) → body ≡ moved left → after ≡ movedUp body from to left 0
+      → after ≡ take to s ++ (take count (drop from s) ++ drop (to + count) s)
+  rest-moved left le body after is moves =
+      moved-next left 0 left (omega arith) le body after is
+      (moves
+      ∙ (let none : from ≡ from + 0 = omega arith in
+      let end : to + left ≡ to + 0 + left = omega arith in
+      λ i. take (to + 0) body ++ (take left (drop (none i) body) ++ drop (end i) body)))
+      ∙ ap (λ (m : ℕ). take m s ++ (take count (drop from s) ++ drop (to + count) s)) (let same : to + 0 ≡ to = omega arith in same)
 
 -- ---- data that lies in one piece, divided from its end on
 

@@ -34,6 +34,11 @@ sentSection carried k = section carried k ++ checksumBytes (section carried k)
 unfoldable pub inSections : List ℕ → List ℕ
 inSections carried = inTurn (sentSection carried) (sectionCount (length carried))
 
+-- the same, but that something else came for section k and its checksum
+unfoldable pub besides : List ℕ → ℕ → List ℕ → List ℕ
+besides carried k came =
+    inTurn (sentSection carried) k ++ (came ++ inTurn (λ j. sentSection carried (suc k + j)) (sectionCount (length carried) - suc k))
+
 -- ---- bytes that came behind a header of n data bytes
 
 -- section k has 4,000 of them, and the last what is left

@@ -3,10 +3,11 @@
 
 ghost use mathlib.Core.List.{_++_};
 ghost use mathlib.Core.Path.{_≡_};
-ghost use Prim.Native.Nat.{_+_, _-_, _*_, _^_, _≤_, _<_, min};
+ghost use Prim.Native.Nat.{_+_, _-_, _*_, _%_, _^_, _≤_, _<_};
 ghost use lib.ListN.{length, take, drop};
 ghost use Rattle.checksum.specs.Checksum.{checksumBytes};
 ghost use Rattle.sections.specs.Sections.{sectionCount, sentLength, sizeOf, inSections, joined};
+ghost use Rattle.sections.specs.Steps.Moved.{movedUp};
 ghost use Rattle.sections.specs.Steps.Sums.{Judges};
 
 // The checksums of all sections: right, or the first section whose is not.
@@ -81,38 +82,60 @@ pub fn join(n: usize, came: &[u8], out: &mut [u8])
     }
 }
 
-// A few bytes moved from one place to another, by way of the stack, since the two may overlap.
-fn move_few(from: usize, to: usize, count: usize, body: &mut [u8])
-    requires { ⌜ (count ≤ 64) × (from + count ≤ length (now body)) × (to + count ≤ length (now body)) ⌝ }
-    ensures { λ r. ⌜ now (body .exit) ≡ take to (now (body .entry)) ++ (take count (drop from (now (body .entry))) ++ drop (to + count) (now (body .entry))) ⌝ }
+// Eight bytes moved from one place to another, which it may overlap: all are read before one is put.
+fn move_eight(from: usize, to: usize, body: &mut [u8])
+    requires { ⌜ (from + 8 ≤ length (now body)) × (to + 8 ≤ length (now body)) ⌝ }
+    ensures { λ r. ⌜ now (body .exit) ≡ take to (now (body .entry)) ++ (take 8 (drop from (now (body .entry))) ++ drop (to + 8) (now (body .entry))) ⌝ }
 {
-    let mut few = [0u8; 64];
-    let end = from + count;
-    bytes::copy(&body[from..end], &mut few);
-    bytes::copy(&few[0..count], &mut body[to..]);
+    let first = body[from];
+    let second = body[from + 1];
+    let third = body[from + 2];
+    let fourth = body[from + 3];
+    let fifth = body[from + 4];
+    let sixth = body[from + 5];
+    let seventh = body[from + 6];
+    let eighth = body[from + 7];
+    body[to] = first;
+    body[to + 1] = second;
+    body[to + 2] = third;
+    body[to + 3] = fourth;
+    body[to + 4] = fifth;
+    body[to + 5] = sixth;
+    body[to + 6] = seventh;
+    body[to + 7] = eighth;
 }
 
-// How many are moved at once where so many are left.
-fn lesser(left: usize) -> usize
-    ensures { λ r. ⌜ r ≡ min left 64 ⌝ }
+// Bytes moved up from one place to another, the last eight first, until fewer than eight are left.
+fn move_by_eight(from: usize, to: usize, count: usize, body: &mut [u8])
+    requires { ⌜ (from ≤ to) × (to + count ≤ length (now body)) ⌝ }
+    ensures { λ r. ⌜ now (body .exit) ≡ movedUp (now (body .entry)) from to count (count % 8) ⌝ }
 {
-    if left < 64 {
-        return left;
+    let mut left = count;
+    while 8 <= left {
+        left -= 8;
+        move_eight(from + left, to + left, body);
     }
-    64
 }
 
-// Bytes moved up from one place to another, the last first.
+// The same, the last byte first, until none is left.
+fn move_by_one(from: usize, to: usize, count: usize, body: &mut [u8])
+    requires { ⌜ (from ≤ to) × (to + count ≤ length (now body)) ⌝ }
+    ensures { λ r. ⌜ now (body .exit) ≡ movedUp (now (body .entry)) from to count 0 ⌝ }
+{
+    let mut left = count;
+    while 0 < left {
+        left -= 1;
+        body[to + left] = body[from + left];
+    }
+}
+
+// Bytes moved up from one place to another, which it may overlap.
 fn move_up(from: usize, to: usize, count: usize, body: &mut [u8])
     requires { ⌜ (from ≤ to) × (to + count ≤ length (now body)) ⌝ }
     ensures { λ r. ⌜ now (body .exit) ≡ take to (now (body .entry)) ++ (take count (drop from (now (body .entry))) ++ drop (to + count) (now (body .entry))) ⌝ }
 {
-    let mut left = count;
-    while 0 < left {
-        let few = lesser(left);
-        left -= few;
-        move_few(from + left, to + left, few, body);
-    }
+    move_by_eight(from, to, count, body);
+    move_by_one(from, to, count % 8, body);
 }
 
 // The checksum of the bytes from one place to another, behind them.

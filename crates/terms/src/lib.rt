@@ -1,6 +1,6 @@
 // What a caller sets of reading and writing.
 ghost use mathlib.Core.Path.{_≡_};
-ghost use Rattle.terms.specs.Terms.{naming, usual};
+ghost use Rattle.terms.specs.Terms.{mostAt, naming, usual};
 
 // The most header bits to mend, and the most data bytes.
 pub struct Terms {
@@ -13,23 +13,33 @@ impl Terms {
     pub const MEND: u32 = 1;
     // The most that a caller may name.
     pub const MOST_MENDED: u32 = 2;
-    // The most data bytes of one packet.
+    // The most data bytes of one packet at 300 bps.
     pub const MOST: u16 = 4000;
+    // The same at 1200 bps.
+    pub const MOST_1200: u16 = 16000;
 
-    // Those of a call that names the number of bits, which need not be one that may be named.
-    pub fn naming(mend: u32) -> Self
-        ensures { λ r. ⌜ r ≡ naming mend ⌝ }
+    // The most data bytes at a rate.
+    pub fn most_at(rate_1200: bool) -> u16
+        ensures { λ r. ⌜ r ≡ mostAt «rate_1200» ⌝ }
     {
-        Terms {
-            mend,
-            most: Terms::MOST,
+        if rate_1200 {
+            return Terms::MOST_1200;
         }
+        Terms::MOST
     }
 
-    // Those of a call that names none.
-    pub fn usual() -> Self
-        ensures { λ r. ⌜ r ≡ usual ⌝ }
+    // Those of a call that names the number of bits, which need not be one that may be named, and the rate.
+    pub fn naming(mend: u32, rate_1200: bool) -> Self
+        ensures { λ r. ⌜ r ≡ naming mend «rate_1200» ⌝ }
     {
-        Terms::naming(Terms::MEND)
+        let most = Terms::most_at(rate_1200);
+        Terms { mend, most }
+    }
+
+    // Those of a call that names the rate alone.
+    pub fn usual(rate_1200: bool) -> Self
+        ensures { λ r. ⌜ r ≡ usual «rate_1200» ⌝ }
+    {
+        Terms::naming(Terms::MEND, rate_1200)
     }
 }

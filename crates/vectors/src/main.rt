@@ -1,9 +1,9 @@
-// Runs packets through the reader and texts through the writer. Standard input is a row of cases: `r`, `d` or `w`; the writer's sync bit; the number that is
-// named, the length of the lent buffer and that of the packet or text (three bytes each, high byte first); and the packet or text. In a case `r` the number is
-// that of the header bits to mend, in a case `w` that of the writer's format, and in a case `d` the reader is called without one. For each packet it prints
-// what is found out without a buffer: `readable` and the eight numbers of the answer, or `refused` with the refusal's number, the one that comes with it and
-// the codes. Then for each packet or text the answer's line; for a packet `codes` and how many were read; and the number that comes with a refusal, or the
-// bytes used, then the lent buffer's Adler-32, and its first 512 bytes.
+// Runs packets through the reader and texts through the writer. Standard input is a row of cases: `r`, `d` or `w`; the writer's sync bit, to which 1200 bps
+// adds two; the number that is named, the length of the lent buffer and that of the packet or text (three bytes each, high byte first); and the packet or text.
+// In a case `r` the number is that of the header bits to mend, in a case `w` that of the writer's format, and in a case `d` the reader is called without one.
+// For each packet it prints what is found out without a buffer: `readable` and the eight numbers of the answer, or `refused` with the refusal's number, the
+// one that comes with it and the codes. Then for each packet or text the answer's line; for a packet `codes` and how many were read; and the number that
+// comes with a refusal, or the bytes used, then the lent buffer's Adler-32, and its first 512 bytes.
 use header::Header;
 use libc::STDIN_FILENO;
 use libc::STDOUT_FILENO;
@@ -13,11 +13,11 @@ use writer::WriteAnswer;
 ghost use mathlib.Core.Path.{_≡_};
 ghost use lib.ListN.{length};
 
-// The longest text of a packet has 85,328 characters.
-const LARGEST: usize = 85504;
+// The longest text of a packet has 341,328 characters.
+const LARGEST: usize = 341504;
 
 fn buffer() -> [u8; LARGEST]
-    ensures { λ r. ⌜ 85504 ≡ length r ⌝ }
+    ensures { λ r. ⌜ 341504 ≡ length r ⌝ }
 {
     [0; LARGEST]
 }
@@ -121,20 +121,20 @@ fn print_read(answer: ReadAnswer, text: &[u8]) {
     print_buffer(read_with(answer), text);
 }
 
-fn run_reader(mend: u32, packet: &[u8], text: &mut [u8]) {
-    print_examined(reader::examine_mending(mend, packet));
-    let answer = reader::read_mending(mend, packet, text);
+fn run_reader(mend: u32, rate_1200: bool, packet: &[u8], text: &mut [u8]) {
+    print_examined(reader::examine_mending(mend, rate_1200, packet));
+    let answer = reader::read_mending(mend, rate_1200, packet, text);
     print_read(answer, text);
 }
 
-fn run_usual_reader(packet: &[u8], text: &mut [u8]) {
-    print_examined(reader::examine(packet));
-    let answer = reader::read(packet, text);
+fn run_usual_reader(rate_1200: bool, packet: &[u8], text: &mut [u8]) {
+    print_examined(reader::examine(rate_1200, packet));
+    let answer = reader::read(rate_1200, packet, text);
     print_read(answer, text);
 }
 
-fn run_writer(format: u32, sync: bool, text: &[u8], packet: &mut [u8]) {
-    let answer = writer::write(format, sync, text, packet);
+fn run_writer(rate_1200: bool, format: u32, sync: bool, text: &[u8], packet: &mut [u8]) {
+    let answer = writer::write(rate_1200, format, sync, text, packet);
     match answer {
         WriteAnswer::Written(length) => {
             print_line(b"written", &[length]);
@@ -152,18 +152,18 @@ fn number(high: u8, middle: u8, low: u8) -> u32 {
 }
 
 // The packet or text of a case, and the calls.
-fn run_case(kind: u8, named: u32, sync: bool, given: &mut [u8], lent: &mut [u8]) {
+fn run_case(kind: u8, rate_1200: bool, named: u32, sync: bool, given: &mut [u8], lent: &mut [u8]) {
     io::read_full(STDIN_FILENO, given);
     fill(lent);
     if kind == b'r' {
-        run_reader(named, given, lent);
+        run_reader(named, rate_1200, given, lent);
         return;
     }
     if kind == b'd' {
-        run_usual_reader(given, lent);
+        run_usual_reader(rate_1200, given, lent);
         return;
     }
-    run_writer(named, sync, given, lent);
+    run_writer(rate_1200, named, sync, given, lent);
 }
 
 // Runs the next case; whether there was one.
@@ -185,8 +185,9 @@ fn run_next() -> bool {
     let mut lent = buffer();
     run_case(
         head[0],
+        head[1] / 2 == 1,
         named,
-        head[1] == 1,
+        head[1] % 2 == 1,
         &mut given[..length],
         &mut lent[..room],
     );

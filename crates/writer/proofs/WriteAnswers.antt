@@ -3,7 +3,7 @@
 use mathlib.Core.Bool.{Bool}
 use mathlib.Core.List.{List, _++_}
 use mathlib.Core.Path.{_≡_, refl, ap, subst⁻¹, _∙_}
-use Prim.Native.Nat.{ℕ, _+_, _≤_, _<_}
+use Prim.Native.Nat.{ℕ, _≤_, _<_}
 use native.Mathlib.Omega.{arith}
 use lib.ListN.{length, drop}
 use Rattle.header.specs.declared.Format.{Format}
@@ -11,6 +11,7 @@ use Rattle.header.specs.Formats.{formatNumber}
 use Rattle.codes.specs.Steps.Size.{Needs}
 use Rattle.codes.specs.declared.Needed.{Needed}
 use Rattle.codes.specs.declared.Needed.the-variants as Needed
+use Rattle.packet.specs.Packet.{wholeLength}
 use Rattle.refusals.specs.declared.WriteRefusal.the-variants.{NoCode, TooLong, NoRoom}
 use Rattle.terms.specs.declared.Terms.{Terms}
 use Rattle.writer.specs.declared.WriteAnswer.the-variants.{Written, Refused}
@@ -38,16 +39,16 @@ module _ (terms : Terms) (number : ℕ) (sync : Bool) (text entry : List ℕ) (f
   refused-many p = (record { fault = (format, is, p .1); first = clear-eleven terms number text (length entry) format is some (p .0) }, refl)
 
   module _ (n : ℕ) (p : NeedsIn (terms .most) format text (Needed.Bytes n)) (after : List ℕ) where
-    pub refused-room : length entry < n + 6 → (needed : ℕ) → needed ≡ n + 6 → after ≡ entry → Writes terms number sync text entry (Refused (NoRoom needed)) after
+    pub refused-room : length entry < wholeLength n → (needed : ℕ) → needed ≡ wholeLength n → after ≡ entry → Writes terms number sync text entry (Refused (NoRoom needed)) after
     refused-room short needed e same = (
       record {
-        fault = (format, is, (e ∙ ap (λ (m : ℕ). m + 6) (p .1), omega arith));
+        fault = (format, is, (e ∙ ap wholeLength (p .1), omega arith));
         first = clear-eight terms number text (length entry) format is some (p .0) (omega (arith, p .1, p .2));
       },
       same,
     )
 
-    pub written : n + 6 ≤ length entry → (long : ℕ) → long ≡ n + 6 → after ≡ ourPacket format sync text ++ drop (n + 6) entry
+    pub written : wholeLength n ≤ length entry → (long : ℕ) → long ≡ wholeLength n → after ≡ ourPacket format sync text ++ drop (wholeLength n) entry
         → Writes terms number sync text entry (Written long) after
     written room long e there = (
       format,
@@ -56,8 +57,8 @@ module _ (terms : Terms) (number : ℕ) (sync : Bool) (text entry : List ℕ) (f
         some = some;
         coded = p .0;
         few = omega (arith, p .1, p .2);
-        fits = e ∙ ap (λ (m : ℕ). m + 6) (p .1);
+        fits = e ∙ ap wholeLength (p .1);
         held = omega arith;
       },
-      there ∙ ap (λ (m : ℕ). ourPacket format sync text ++ drop m entry) (let same : n + 6 ≡ long = omega arith in same),
+      there ∙ ap (λ (m : ℕ). ourPacket format sync text ++ drop m entry) (let same : wholeLength n ≡ long = omega arith in same),
     )

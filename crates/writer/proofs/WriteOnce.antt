@@ -3,13 +3,14 @@
 use mathlib.Core.Bool.{Bool}
 use mathlib.Core.List.{List, _++_}
 use mathlib.Core.Path.{_≡_, refl, sym, ap, ap₂, _∙_}
-use Prim.Native.Nat.{ℕ, _+_, _<_}
+use Prim.Native.Nat.{ℕ, _<_}
 use native.Mathlib.Omega.{arith}
 use lib.ListN.{length, drop}
 use Rattle.header.specs.declared.Format.{Format}
 use Rattle.header.proofs.Formats.{one-number}
 use Rattle.codes.proofs.OneAnswer.{first-one}
 use Rattle.formats.specs.Data.{coded, Uncoded, dataOf}
+use Rattle.packet.specs.Packet.{wholeLength}
 use Rattle.refusals.specs.declared.WriteRefusal.{WriteRefusal}
 use Rattle.refusals.specs.declared.WriteRefusal.the-variants.{OtherFormat, Empty, NoCode, TooLong, NoRoom}
 use Rattle.refusals.specs.Match.{writerTurn}
@@ -34,7 +35,7 @@ module _ (terms : Terms) (number : ℕ) (text : List ℕ) (room : ℕ) where
   one-told TooLong v c f g = refl
   one-told (NoRoom n) v c f g =
       ap {B = WriteRefusal} NoRoom
-      (f .2 .0 ∙ sym (in-format number (λ (k : Format). (v ≡ length (dataOf k text) + 6) × (room < v)) (f .0) (f .1) g .0))
+      (f .2 .0 ∙ sym (in-format number (λ (k : Format). (v ≡ wholeLength (length (dataOf k text))) × (room < v)) (f .0) (f .1) g .0))
 
   pub write-refuses-one : (r s : WriteRefusal) → WriteRefuses terms number text room r → WriteRefuses terms number text room s → r ≡ s
   write-refuses-one = match-one writeKnown (WriteFault terms number text room) writerTurn write-one-number one-told
@@ -48,7 +49,7 @@ module _ (terms : Terms) (number : ℕ) (text : List ℕ) (room : ℕ) where
   writes-no-fault format n a TooLong f =
       let long = in-format number (λ (k : Format). terms .most < length (dataOf k text)) format (a .named) f in omega (arith, a .few)
   writes-no-fault format n a (NoRoom m) f =
-      let short = in-format number (λ (k : Format). (m ≡ length (dataOf k text) + 6) × (room < m)) format (a .named) f in
+      let short = in-format number (λ (k : Format). (m ≡ wholeLength (length (dataOf k text))) × (room < m)) format (a .named) f in
       omega (arith, a .fits, a .held, short .0, short .1)
 
 -- one answer and one content
@@ -56,7 +57,7 @@ pub writes-one : (terms : Terms) (number : ℕ) (sync : Bool) (text entry : List
     → Writes terms number sync text entry a x → Writes terms number sync text entry b y → (a ≡ b) × (x ≡ y)
 writes-one terms number sync text entry (Written m) (Written n) x y (k, p, e) (l, q, f) =
     let same : k ≡ l = one-number k l (p .named ∙ sym (q .named)) in
-    let long : m ≡ n = p .fits ∙ ap (λ (format : Format). length (dataOf format text) + 6) same ∙ sym (q .fits) in
+    let long : m ≡ n = p .fits ∙ ap (λ (format : Format). wholeLength (length (dataOf format text))) same ∙ sym (q .fits) in
     (ap {B = WriteAnswer} Written long, e ∙ ap₂ (λ (format : Format) (length′ : ℕ). ourPacket format sync text ++ drop length′ entry) same long ∙ sym f)
 writes-one terms number sync text entry (Written m) (Refused s) x y (k, p, e) (q, f) =
     absurd (writes-no-fault terms number text (length entry) k m p s (q .fault))

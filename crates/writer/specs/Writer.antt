@@ -3,7 +3,7 @@
 use mathlib.Core.Bool.{Bool}
 use mathlib.Core.List.{List, [], _++_}
 use mathlib.Core.Path.{_≡_}
-use Prim.Native.Nat.{ℕ, _+_, _≤_, _<_}
+use Prim.Native.Nat.{ℕ, _≤_, _<_}
 use lib.ListN.{length, drop}
 use Rattle.header.specs.declared.Format.{Format}
 use Rattle.header.specs.Formats.{formatNumber}
@@ -15,7 +15,7 @@ use Rattle.refusals.specs.Refusals.{writeTold}
 use Rattle.terms.specs.declared.Terms.{Terms}
 use Rattle.writer.specs.declared.WriteAnswer.{WriteAnswer}
 use Rattle.writer.specs.declared.WriteAnswer.the-variants.{Written, Refused}
-use Rattle.packet.specs.Packet.{packetOf, headerFor}
+use Rattle.packet.specs.Packet.{wholeLength, packetOf, headerFor}
 
 -- the format of this number, with what the condition says of it
 abbrev pub InFormat : ℕ → (Format → Type 0) → Type 0
@@ -31,7 +31,7 @@ WriteFault terms number text room OtherFormat = (format : Format) → formatNumb
 WriteFault terms number text room Empty = text ≡ []
 WriteFault terms number text room (NoCode index) = InFormat number (λ format. Uncoded format text index)
 WriteFault terms number text room TooLong = InFormat number (λ format. terms .most < length (dataOf format text))
-WriteFault terms number text room (NoRoom needed) = InFormat number (λ format. (needed ≡ length (dataOf format text) + 6) × (room < needed))
+WriteFault terms number text room (NoRoom needed) = InFormat number (λ format. (needed ≡ wholeLength (length (dataOf format text))) × (room < needed))
 
 -- tested in the order 12, 10, 9, 11, 8
 abbrev pub WriteRefuses : Terms → ℕ → List ℕ → ℕ → WriteRefusal → Type 0
@@ -43,7 +43,7 @@ pub record WriteAccepts (terms : Terms) (number : ℕ) (text : List ℕ) (room :
   pub some : 0 < length text
   pub coded : AllCoded format text
   pub few : length (dataOf format text) ≤ terms .most
-  pub fits : written ≡ length (dataOf format text) + 6
+  pub fits : written ≡ wholeLength (length (dataOf format text))
   pub held : written ≤ room
 
 -- the answer, and the packet buffer afterwards

@@ -10,9 +10,8 @@ ghost use mathlib.Core.Path.{_≡_};
 ghost use Prim.Native.Nat.{_+_, _^_, _≤_, _<_};
 ghost use lib.ListN.{length, take, drop};
 ghost use Rattle.header.specs.Fields.{bytesOf};
-ghost use Rattle.checksum.specs.Checksum.{checksumBytes};
 ghost use Rattle.formats.specs.Data.{AllCoded, dataOf};
-ghost use Rattle.packet.specs.Packet.{packetOf, headerFor};
+ghost use Rattle.packet.specs.Packet.{wholeLength, packetOf, headerFor};
 ghost use Rattle.terms.specs.Terms.{MayBeNamed, usual};
 ghost use Rattle.writer.specs.Writer.{ourPacket, Writes};
 
@@ -32,23 +31,12 @@ fn put_header(header: u32, packet: &mut [u8])
     packet[3] = (header % 256) as u8;
 }
 
-// The two checksum bytes of the n data bytes, behind them.
-fn put_sum(n: usize, packet: &mut [u8])
-    requires { ⌜ n + 6 ≤ length (now packet) ⌝ }
-    ensures { λ r. ⌜ now (packet .exit) ≡ take (n + 4) (now (packet .entry)) ++ (checksumBytes (take n (drop 4 (now (packet .entry)))) ++ drop (n + 6) (now (packet .entry))) ⌝ }
-{
-    let end = n + 4;
-    let sum = checksum::checksum(&packet[4..end]);
-    packet[end] = checksum::low_byte(sum);
-    packet[end + 1] = checksum::high_byte(sum);
-}
-
-// The checksum of the n data bytes behind them, and the header in front.
+// The n data bytes in sections, each with its checksum behind it, and the header in front.
 fn put_frame(format: Format, sync: bool, n: usize, packet: &mut [u8])
-    requires { ⌜ (n < 2 ^ 14) × (n + 6 ≤ length (now packet)) ⌝ }
-    ensures { λ r. ⌜ now (packet .exit) ≡ packetOf (headerFor format sync n) (take n (drop 4 (now (packet .entry)))) ++ drop (n + 6) (now (packet .entry)) ⌝ }
+    requires { ⌜ (n < 2 ^ 14) × (wholeLength n ≤ length (now packet)) ⌝ }
+    ensures { λ r. ⌜ now (packet .exit) ≡ packetOf (headerFor format sync n) (take n (drop 4 (now (packet .entry)))) ++ drop (wholeLength n) (now (packet .entry)) ⌝ }
 {
-    put_sum(n, packet);
+    sections::divide(n, &mut packet[4..]);
     put_header(
         Header::from_fields(Header::number(format), sync, n as u16).to_bits(),
         packet,
@@ -57,8 +45,8 @@ fn put_frame(format: Format, sync: bool, n: usize, packet: &mut [u8])
 
 // The packet of a text with codes, whose data has n bytes, at the front of the packet buffer: the data in its place, then the frame around it.
 fn put_packet(format: Format, sync: bool, text: &[u8], n: usize, packet: &mut [u8])
-    requires { ⌜ AllCoded format (now text) × (n ≡ length (dataOf format (now text))) × (n < 2 ^ 14) × (n + 6 ≤ length (now packet)) ⌝ }
-    ensures { λ r. ⌜ now (packet .exit) ≡ ourPacket format sync (now (text .entry)) ++ drop (n + 6) (now (packet .entry)) ⌝ }
+    requires { ⌜ AllCoded format (now text) × (n ≡ length (dataOf format (now text))) × (n < 2 ^ 14) × (wholeLength n ≤ length (now packet)) ⌝ }
+    ensures { λ r. ⌜ now (packet .exit) ≡ ourPacket format sync (now (text .entry)) ++ drop (wholeLength n) (now (packet .entry)) ⌝ }
 {
     let end = n + 4;
     formats::put_data(format, text, &mut packet[4..end]);
@@ -82,18 +70,25 @@ fn write_under(terms: Terms, format: u32, sync: bool, text: &[u8], packet: &mut 
         Needed::NoCode(index) => WriteAnswer::Refused(WriteRefusal::NoCode(index)),
         Needed::TooMany => WriteAnswer::Refused(WriteRefusal::TooLong),
         Needed::Bytes(n) => {
-            if packet.len() < n + 6 {
-                return WriteAnswer::Refused(WriteRefusal::NoRoom(n + 6));
+            let whole = packet::whole_length(n);
+            if packet.len() < whole {
+                return WriteAnswer::Refused(WriteRefusal::NoRoom(whole));
             }
             put_packet(named, sync, text, n, packet);
-            WriteAnswer::Written(n + 6)
+            WriteAnswer::Written(whole)
         }
     }
 }
 
-// Writes a text as a packet into a packet buffer.
-pub fn write(format: u32, sync: bool, text: &[u8], packet: &mut [u8]) -> WriteAnswer
-    ensures { λ r. ⌜ Writes usual format sync (now (text .entry)) (now (packet .entry)) r (now (packet .exit)) ⌝ }
+// Writes a text as a packet into a packet buffer, at 1200 bps or else at 300.
+pub fn write(
+    rate_1200: bool,
+    format: u32,
+    sync: bool,
+    text: &[u8],
+    packet: &mut [u8],
+) -> WriteAnswer
+    ensures { λ r. ⌜ Writes (usual «rate_1200») format sync (now (text .entry)) (now (packet .entry)) r (now (packet .exit)) ⌝ }
 {
-    write_under(Terms::usual(), format, sync, text, packet)
+    write_under(Terms::usual(rate_1200), format, sync, text, packet)
 }

@@ -21,7 +21,7 @@ use Rattle.mending.specs.declared.Mending.the-variants.{Mended, Hopeless}
 use Rattle.distance.specs.Distance.{ValidWithin, distance}
 use Rattle.mending.specs.Mends.{MendsWithin}
 use Rattle.reader.specs.Examine.{Framed}
-use Rattle.packet.specs.Packet.{received}
+use Rattle.packet.specs.Packet.{wholeLength, received}
 use Rattle.reader.specs.Steps.Reading.{HeaderFound}
 use Rattle.terms.specs.declared.Terms.{Terms}
 use Rattle.terms.specs.Terms.{MayMend, MayBeNamed}
@@ -56,7 +56,7 @@ length-is bits fields e = ap (λ (f : Header). f .length) e
 -- each number of the reading with what it must be, so that a wrong one is refused where it stands
 found : (header word : ℕ) (format : Format) (terms : Terms) (packet : List ℕ) → Framed terms packet format header → word ≡ received packet
     → (sync : Bool) (mended mask codes carried text used : ℕ) → sync ≡ fieldsIn header .sync → mended ≡ distance word header → mask ≡ bitXor word header → codes ≡ 0
-    → carried ≡ lengthIn header → text ≡ 0 → used ≡ lengthIn header + 6
+    → carried ≡ lengthIn header → text ≡ 0 → used ≡ wholeLength (lengthIn header)
     → HeaderFound terms packet
     (record {
       format = format;
@@ -207,9 +207,6 @@ cast-length c = search needs
 cast-most : tie.Need-cast-most
 cast-most c = search needs
 
-add-used : tie.Need-add-used
-add-used c = search needs
-
 -- no condition of a number below 4 holds; and none below 5, where the length is ours
 below-four : (c : tie.After-known-told2) → Clear (terms-at (word-at c)) (packet-at (word-at c)) 4
 below-four c =
@@ -235,33 +232,36 @@ returns-6 c =
     let near = near-at (told-at k) .0 in
     record { fault = (h, near, inr (omega (arith, long-at k, c .if4 .taken))); first = below-four k }
 
+whole-length-requires : tie.Need-whole-length-requires
+whole-length-requires c κs = search needs
+
 returns-7 : tie.Need-returns-7
 returns-7 c =
-    let k = c .before .before .before .before .before in
+    let k = c .before .before .before .before .before .before in
     let h = bits-at (told-at k) in
     let near = near-at (told-at k) .0 in
     record {
-      fault = (h, near, omega (arith, long-at k, c .if5 .taken));
-      first = below-five k (omega (arith, long-at k, c .before .before .if3 .left)) (omega (arith, long-at k, c .before .if4 .left));
+      fault = (h, near, omega (arith, long-at k, c .before .whole-length .ensures, c .if5 .taken));
+      first = below-five k (omega (arith, long-at k, c .before .before .before .if3 .left)) (omega (arith, long-at k, c .before .before .if4 .left));
     }
 
 returns-8 : tie.Need-returns-8
 unfolding fieldsIn
 returns-8 c =
-    let k = c .before .before .before .before .before in
+    let k = c .before .before .before .before .before .before in
     let h = bits-at (told-at k) in
     found h (received (packet-at (word-at k))) (k .before .which .given .0 .0) (terms-at (word-at k)) (packet-at (word-at k))
     (record {
       bits = bits-few (word-at k);
       near = near-at (told-at k) .0;
       typed = typed-at k;
-      some = omega (arith, long-at k, c .before .before .if3 .left);
-      few = omega (arith, long-at k, c .before .if4 .left);
-      whole = omega (arith, long-at k, c .if5 .left);
+      some = omega (arith, long-at k, c .before .before .before .if3 .left);
+      few = omega (arith, long-at k, c .before .before .if4 .left);
+      whole = omega (arith, long-at k, c .before .whole-length .ensures, c .if5 .left);
     })
     refl _ _ _ _ _ _ _ (ap (λ (f : Header). f .sync) (k .before .before .before .before .from-bits .ensures)) (omega (arith, near-at (told-at k) .1))
     (omega (arith, ap (λ (w : ℕ). bitXor w h) (word-is (word-at k)))) (omega arith) (omega (arith, long-at k)) (omega arith)
-    (omega (arith, long-at k))
+    (omega (arith, long-at k, c .before .whole-length .ensures))
 
 pub find-header-spec : {M : Type 1} → statement M
 find-header-spec =
@@ -285,8 +285,8 @@ find-header-spec =
     returns-4
     cast-length
     cast-most
-    add-used
     returns-5
     returns-6
+    whole-length-requires
     returns-7
     returns-8)

@@ -1,4 +1,4 @@
--- Tests 17 and 1 to 5, as a function answers them.
+-- Tests 17 and 1 to 6, as functions answer them.
 -- Assumes nothing.
 use mathlib.Core.List.{List, []}
 use mathlib.Core.Path.{_≡_}
@@ -9,7 +9,7 @@ use Rattle.reader.specs.declared.Reading.{Reading}
 use Rattle.reader.specs.declared.HeaderAnswer.{HeaderAnswer}
 use Rattle.reader.specs.declared.HeaderAnswer.the-variants.{Found, Refused}
 use Rattle.reader.specs.Examine.{Framed, Refuses, readingOf}
-use Rattle.packet.specs.Packet.{received}
+use Rattle.packet.specs.Packet.{received, Summed}
 
 -- they are passed: the header that the packet is read as, and its reading, with no text and no codes yet
 pub record HeaderFound (terms : Terms) (packet : List ℕ) (reading : Reading) : Type 0 where
@@ -21,3 +21,8 @@ pub record HeaderFound (terms : Terms) (packet : List ℕ) (reading : Reading) :
 abbrev pub FindsHeader : Terms → List ℕ → HeaderAnswer → Type 0
 FindsHeader terms packet (Found reading) = HeaderFound terms packet reading
 FindsHeader terms packet (Refused refusal) = Refuses terms packet refusal
+
+-- they and the test of the checksums are passed
+pub record SumsRight (terms : Terms) (packet : List ℕ) (reading : Reading) : Type 0 where
+  pub found : HeaderFound terms packet reading
+  pub summed : Summed (found .header) packet

@@ -23,7 +23,7 @@ returns : tie.Need-returns
 returns c =
     let put = c .before .before .line in
     let read = c .before .before .before .before .before .read-mending in
-    reported _ _ (read .result) (put .result) _ (read .ensures) (omega arith) (put .ensures) (omega arith) (omega arith)
+    reported _ _ (read .result) (put .result) _ _ (read .ensures) (omega arith) (omega arith) (put .ensures) (omega arith) (omega arith)
 
 pub packet-line-spec : {M : Type 1} → statement M
 packet-line-spec = tie.close (tie.spec slice-aggregate-read-mending read-mending-requires line-requires same-length returns)

@@ -34,7 +34,7 @@ returns c =
     record {
       answer = Written (c .before .answer .given .0 .0);
       writes =
-          subst (λ (answer : WriteAnswer). Writes usual (a .format) (a .sync) (a .text .now) (a .packet .now) answer (r .write .last .1 .1 .1 .0))
+          subst (λ (answer : WriteAnswer). Writes (usual (a .rate-1200)) (a .format) (a .sync) (a .text .now) (a .packet .now) answer (r .write .last .1 .1 .1 .1 .0))
           (c .before .answer .given .1) (r .write .ensures);
       is = refl;
     }
@@ -50,7 +50,7 @@ returns-2 c =
     record {
       answer = Refused (n .before .before .answer2 .given .0 .0);
       writes =
-          subst (λ (answer : WriteAnswer). Writes usual (a .format) (a .sync) (a .text .now) (a .packet .now) answer (r .write .last .1 .1 .1 .0))
+          subst (λ (answer : WriteAnswer). Writes (usual (a .rate-1200)) (a .format) (a .sync) (a .text .now) (a .packet .now) answer (r .write .last .1 .1 .1 .1 .0))
           (n .before .before .answer2 .given .1) (r .write .ensures);
       is = λ i. record { refusal = n .number .ensures i; number = c .value .ensures i; length = 0 };
     }

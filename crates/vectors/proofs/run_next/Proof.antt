@@ -76,6 +76,9 @@ array-read-run-case c = search needs
 array-read-run-case-2 : tie.Need-array-read-run-case-2
 array-read-run-case-2 c = search needs
 
+array-read-run-case-3 : tie.Need-array-read-run-case-3
+array-read-run-case-3 c = search needs
+
 array-borrow-prefix-given : tie.Need-array-borrow-prefix-given
 array-borrow-prefix-given c = search needs
 
@@ -121,6 +124,7 @@ run-next-spec =
     buffer-requires-2
     array-read-run-case
     array-read-run-case-2
+    array-read-run-case-3
     array-borrow-prefix-given
     slice-aggregate-run-case
     array-borrow-prefix-lent

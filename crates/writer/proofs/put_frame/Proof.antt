@@ -1,19 +1,18 @@
 -- `writer::put_frame` meets its contract.
 -- Assumes nothing.
 use mathlib.Core.Bool.{Bool}
-use mathlib.Core.List.{List, _++_}
+use mathlib.Core.List.{_++_}
 use mathlib.Core.Path.{_≡_, sym, ap, _∙_, subst}
-use Prim.Native.Nat.{ℕ, _+_, _^_, _≤_, _<_}
+use Prim.Native.Nat.{ℕ, _^_, _<_}
 use native.Mathlib.Omega.{arith}
 use borrow.Author.Needs.{needs}
-use lib.ListN.{length, take, drop}
+use lib.ListN.{take, drop}
 use Rattle.header.specs.declared.Format.{Format}
 use Rattle.header.specs.declared.Header.{Header}
-use Rattle.header.specs.Fields.{Fit, bytesOf, headerOf, sentFields}
+use Rattle.header.specs.Fields.{Fit, headerOf, sentFields}
 use Rattle.header.specs.Formats.{formatNumber}
 use Rattle.header.proofs.Formats.{number-lt}
-use Rattle.checksum.specs.Checksum.{checksumBytes}
-use Rattle.packet.specs.Packet.{packetOf, headerFor}
+use Rattle.packet.specs.Packet.{wholeLength, packetOf, headerFor}
 use Rattle.writer.proofs.InPlace.{framed}
 use Rattle.writer.proofs.put_frame.Statement.{statement}
 use Rattle.writer.proofs.put_frame.Tie as tie
@@ -23,17 +22,17 @@ sent-fit : (f : Header) (format : Format) (number n : ℕ) (sync : Bool) → n <
 sent-fit f format number n sync few e same =
     subst Fit (sym same) (record { «message_type» = omega arith; «extended_type» = omega (arith, number-lt format); length = omega arith })
 
--- the two steps, one after the other
-steps : (s after-sum after-header : List ℕ) (n header : ℕ) → n + 6 ≤ length s
-    → after-sum ≡ take (n + 4) s ++ (checksumBytes (take n (drop 4 s)) ++ drop (n + 6) s)
-    → after-header ≡ bytesOf header ++ drop 4 after-sum
-    → after-header ≡ packetOf header (take n (drop 4 s)) ++ drop (n + 6) s
-unfolding packetOf
-steps s after-sum after-header n header room es eh =
-    eh ∙ ap (λ (l : List ℕ). bytesOf header ++ drop 4 l) es ∙ framed s (bytesOf header) (checksumBytes (take n (drop 4 s))) n room
+sub-divide : tie.Need-sub-divide
+sub-divide c = search needs
 
-put-sum-requires : tie.Need-put-sum-requires
-put-sum-requires c κs = search needs
+part-divide-start : tie.Need-part-divide-start
+part-divide-start c = search needs
+
+part-divide-end : tie.Need-part-divide-end
+part-divide-end c = search needs
+
+divide-requires : tie.Need-divide-requires
+divide-requires c κs = search needs
 
 number-requires : tie.Need-number-requires
 number-requires c κs = search needs
@@ -61,12 +60,12 @@ returns c =
     let ph = c .before .before in
     let tb = ph .before .before in
     let nu = tb .before .before in
-    let ps = nu .before .before .before in
-    let a = ps .before .before .before in
+    let dv = nu .before .before .before in
+    let a = dv .before .before .before in
     let s = a .args .packet .now in
     let n = a .args .n in
-    steps s (ps .put-sum .last .1 .0) (ph .put-header .last .1 .0) n (tb .to-bits .result) (a .pre .1) (ps .put-sum .ensures) (ph .put-header .ensures)
-    ∙ ap (λ (h : ℕ). packetOf h (take n (drop 4 s)) ++ drop (n + 6) s)
+    framed s (dv .divide .last .1 .0) (ph .put-header .last .1 .0) n (tb .to-bits .result) (a .pre .1) (dv .divide .ensures) (ph .put-header .ensures)
+    ∙ ap (λ (h : ℕ). packetOf h (take n (drop 4 s)) ++ drop (wholeLength n) s)
     (tb .to-bits .ensures
     ∙ ap headerOf (tb .before .from-fields .ensures ∙ ap (λ (k : ℕ). sentFields k (a .args .sync) n) (nu .number .ensures)))
 
@@ -74,7 +73,10 @@ pub put-frame-spec : {M : Type 1} → statement M
 put-frame-spec =
     tie.close
     (tie.spec
-    put-sum-requires
+    sub-divide
+    part-divide-start
+    part-divide-end
+    divide-requires
     number-requires
     cast-from-fields
     from-fields-requires

@@ -12,7 +12,8 @@ usual-requires : tie.Need-usual-requires
 usual-requires c κs = search needs
 
 write-under-requires : tie.Need-write-under-requires
-write-under-requires c κs = named-so (c .before .usual .result) (c .before .usual .ensures)
+write-under-requires c κs =
+    named-so (c .before .usual .result) (c .before .before .before .before .args .rate-1200) (c .before .usual .ensures)
 
 same-length : tie.Need-same-length
 same-length c = search needs

@@ -2,7 +2,7 @@
 -- Assumes nothing.
 use mathlib.Core.List.{List, [], _∷_}
 use mathlib.Core.Path.{_≡_, refl, subst}
-use Prim.Native.Nat.{ℕ, _<_}
+use Prim.Native.Nat.{ℕ, _^_, _<_}
 use native.Mathlib.Omega.{arith}
 use borrow.Author.Needs.{needs}
 use lib.ListN.{length}
@@ -54,6 +54,13 @@ enough-at : (c : tie.After-known-told3)
     → NeedsIn (start (known (measured c)) .args .terms .most) (format-at (known (measured c))) (start (known (measured c)) .args .text .now) (Bytes (bytes-at c))
 enough-at c = needs-at (measured c) (Bytes (bytes-at c)) (c .before .needed2 .given .1)
 
+few-at : (c : tie.After-known-told3) → bytes-at c < 2 ^ 14
+few-at c = omega (arith, enough-at c .2, start (known (measured c)) .pre .bytes)
+
+-- and the packet's length is known
+abbrev counted : tie.After-whole-length → tie.After-known-told3
+counted c = c .before
+
 format-of-requires : tie.Need-format-of-requires
 format-of-requires c κs = search needs
 
@@ -96,28 +103,22 @@ enum-told-2 c = search needs
 enum-known-needed-2 : tie.Need-enum-known-needed-2
 enum-known-needed-2 c = search needs
 
-add-if2 : tie.Need-add-if2
-add-if2 c = omega (arith, enough-at c .2)
-
-add-t21 : tie.Need-add-t21
-add-t21 c = omega (arith, enough-at (c .before) .2)
+whole-length-requires : tie.Need-whole-length-requires
+whole-length-requires c κs = few-at c
 
 returns-3 : tie.Need-returns-3
 returns-3 c =
-    let passed = c .before in
-    let d = measured passed in
+    let k = counted (c .before) in
+    let d = measured k in
     let a = start (known d) .args in
-    refused-room (a .terms) (a .format) (a .sync) (a .text .now) (a .packet .now) (format-at (known d)) (named-at (known d)) (some-at d) (bytes-at passed) (enough-at passed) _
+    refused-room (a .terms) (a .format) (a .sync) (a .text .now) (a .packet .now) (format-at (known d)) (named-at (known d)) (some-at d) (bytes-at k) (enough-at k) _
     (omega (arith, c .if2 .taken)) _ (omega arith) refl
 
 put-packet-requires : tie.Need-put-packet-requires
 put-packet-requires c κs =
-    let k = c .before .before in
-    let enough = enough-at k in
-    (enough .0, enough .1, omega (arith, enough .2, start (known (measured k)) .pre .bytes), omega (arith, c .before .if2 .left))
-
-add-t18 : tie.Need-add-t18
-add-t18 c = search needs
+    let e = c .before in
+    let k = counted (e .before) in
+    (enough-at k .0, enough-at k .1, few-at k, omega (arith, e .if2 .left))
 
 returns-4 : tie.Need-returns-4
 returns-4 c =
@@ -141,7 +142,7 @@ returns-6 : tie.Need-returns-6
 returns-6 c =
     let p = c .before .before in
     let e = p .before .before in
-    let k = e .before in
+    let k = counted (e .before) in
     let d = measured k in
     let a = start (known d) .args in
     written (a .terms) (a .format) (a .sync) (a .text .now) (a .packet .now) (format-at (known d)) (named-at (known d)) (some-at d) (bytes-at k) (enough-at k)
@@ -160,11 +161,9 @@ write-under-spec =
     enum-known-needed
     enum-told-2
     enum-known-needed-2
-    add-if2
-    add-t21
+    whole-length-requires
     returns-3
     put-packet-requires
-    add-t18
     returns-4
     returns-5
     same-length

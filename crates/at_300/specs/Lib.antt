@@ -1,0 +1,2 @@
+pub mod At300
+pub mod OneSection
