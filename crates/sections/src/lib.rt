@@ -53,9 +53,8 @@ pub fn judge(n: usize, came: &[u8]) -> Sums
     requires { ⌜ (n < 2 ^ 14) × (sentLength n ≤ length (now came)) ⌝ }
     ensures { λ r. ⌜ Judges n (now (came .entry)) r ⌝ }
 {
-    let sections = count(n);
     let mut k: usize = 0;
-    while k < sections {
+    while k * Section::MOST < n {
         let start = k * Section::STEP;
         let end = start + size(n, k);
         if !checksum::agrees(&came[start..end], came[end], came[end + 1]) {
@@ -71,9 +70,8 @@ pub fn join(n: usize, came: &[u8], out: &mut [u8])
     requires { ⌜ (n < 2 ^ 14) × (sentLength n ≤ length (now came)) × (n ≤ length (now out)) ⌝ }
     ensures { λ r. ⌜ now (out .exit) ≡ joined n (now (came .entry)) ++ drop n (now (out .entry)) ⌝ }
 {
-    let sections = count(n);
     let mut k: usize = 0;
-    while k < sections {
+    while k * Section::MOST < n {
         let start = k * Section::STEP;
         let end = start + size(n, k);
         let place = k * Section::MOST;

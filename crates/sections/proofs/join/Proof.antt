@@ -13,23 +13,23 @@ use Rattle.sections.proofs.join.Statement.{statement}
 use Rattle.sections.proofs.join.Tie as tie
 
 abbrev Inv-loop : tie.InvT-loop
-Inv-loop n came out₀ sections k₀ out k =
+Inv-loop n came out₀ k₀ out k =
     (k ≤ sectionCount n) × (length out ≡ length out₀) × (out ≡ inTurn (sectionIn n came) k ++ drop (min n (k * 4000)) out₀)
 
 abbrev μ-loop : tie.MeasureT-loop
-μ-loop n came out₀ sections k₀ out k = sections - k
-
-count-requires : tie.Need-count-requires Inv-loop μ-loop
-count-requires c κs = search needs
+μ-loop n came out₀ k₀ out k = sectionCount n - k
 
 loop-holds : tie.Need-loop-holds Inv-loop μ-loop
 unfolding inTurn
 loop-holds c =
-    let a = c .before .before .before .args in (
+    let a = c .before .before .args in (
       omega arith,
       refl,
       ap (λ (m : ℕ). drop m (a .out .now)) (let none : 0 ≡ min (a .n) 0 = omega arith in none),
     )
+
+mul-loop : tie.Need-mul-loop Inv-loop μ-loop
+mul-loop c = search needs
 
 mul-start : tie.Need-mul-start Inv-loop μ-loop
 mul-start c = search needs
@@ -73,7 +73,7 @@ loop-less c = search needs
 loop-again : tie.Need-loop-again Inv-loop μ-loop
 loop-again c =
     let l = c .before .before .before .before .before .before .before in
-    let a = l .before .before .before .before in
+    let a = l .before .before .before in
     let s = c .before .before .before .before .before in
     let is = join-next (a .args .n) (a .args .came .now) (a .pre .1) (l .loop .k) (s .size .result) (omega arith) (s .size .ensures)
     (a .args .out .now) (l .loop .out) (c .before .before .copy .last .1 .0) (l .loop .inv .2) (c .before .before .copy .ensures .1) in
@@ -86,7 +86,7 @@ returns : tie.Need-returns Inv-loop μ-loop
 unfolding joined
 returns c =
     let l = c .before in
-    let a = c .before .before .before .before .before in
+    let a = c .before .before .before .before in
     l .loop .inv .2
     ∙ ap₂ (λ (k m : ℕ). inTurn (sectionIn (a .args .n) (a .args .came .now)) k ++ drop m (a .args .out .now))
     (let all : l .loop .k ≡ sectionCount (a .args .n) = omega arith in all) (let whole : min (a .args .n) (l .loop .k * 4000) ≡ a .args .n = omega arith in whole)
@@ -97,8 +97,8 @@ join-spec =
     (tie.spec
     Inv-loop
     μ-loop
-    count-requires
     loop-holds
+    mul-loop
     mul-start
     size-requires
     add-end

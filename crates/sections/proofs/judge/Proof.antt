@@ -18,10 +18,10 @@ use Rattle.sections.proofs.judge.Statement.{statement}
 use Rattle.sections.proofs.judge.Tie as tie
 
 abbrev Inv-loop : tie.InvT-loop
-Inv-loop n came sections k₀ k = (k ≤ sectionCount n) × ((j : ℕ) → j < k → RightSum n came j)
+Inv-loop n came k₀ k = (k ≤ sectionCount n) × ((j : ℕ) → j < k → RightSum n came j)
 
 abbrev μ-loop : tie.MeasureT-loop
-μ-loop n came sections k₀ k = sections - k
+μ-loop n came k₀ k = sectionCount n - k
 
 -- ---- the facts, by place
 
@@ -29,7 +29,7 @@ abbrev at : tie.After-agrees Inv-loop μ-loop → tie.At-loop Inv-loop μ-loop
 at c = c .before .before .before .before .before .before
 
 abbrev start : tie.After-agrees Inv-loop μ-loop → tie.Start Inv-loop μ-loop
-start c = at c .before .before .before
+start c = at c .before .before
 
 tested-at : (c : tie.After-agrees Inv-loop μ-loop) → Says (c .agrees .result) (RightSum (start c .args .n) (start c .args .came .now) (at c .loop .k))
 tested-at c =
@@ -44,11 +44,11 @@ one-more P k below here j lt = pick (decLt j k)
     pick (yes less) = below j less
     pick (no more) = subst P (let same : k ≡ j = omega arith in same) here
 
-count-requires : tie.Need-count-requires Inv-loop μ-loop
-count-requires c κs = search needs
-
 loop-holds : tie.Need-loop-holds Inv-loop μ-loop
 loop-holds c = (omega arith, λ j lt. absurd (omega (arith, lt)))
+
+mul-loop : tie.Need-mul-loop Inv-loop μ-loop
+mul-loop c = search needs
 
 mul-start : tie.Need-mul-start Inv-loop μ-loop
 mul-start c = search needs
@@ -113,8 +113,8 @@ judge-spec =
     (tie.spec
     Inv-loop
     μ-loop
-    count-requires
     loop-holds
+    mul-loop
     mul-start
     size-requires
     add-end
