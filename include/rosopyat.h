@@ -29,7 +29,7 @@
  * Whatever else is handed over gets an answer: any bytes, any lengths, any number for a format or of bits to mend.
  *
  * Nothing is allocated, kept or shared between calls: any number of threads may call at once, on buffers of their own. The reader joins
- * sections on the stack, at 1200 and for a packet of two or more, in 16,000 bytes; each call reserves them, so that one takes 17.4 KB of stack.
+ * sections on the stack, at 1200 and for a packet of two or more, in 16,000 bytes; each call reserves them, so that one takes 17.5 KB of stack.
  * Link with librosopyat_c.a (x86-64), which needs memcpy and memset and nothing else of the C library. A logger that only sends links librosopyat_logger.a instead: it has
  * rosopyat_write alone and needs nothing of the C library. Its code has 13,791 bytes, its one constant table 32, and the operands that vector instructions take
  * from memory 1,248; a call takes 184 bytes of stack.

@@ -2,13 +2,11 @@
 -- Assumes nothing.
 use mathlib.Core.Bool.{Bool, true, false}
 use mathlib.Core.List.{List}
-use mathlib.Core.Logic.{⊎-elim}
-use mathlib.Core.Path.{sym, subst}
 use Prim.Native.Nat.{ℕ, zero, suc, _≤_}
-use native.Mathlib.Nat.{eq-or-lt-of-le, le-of-suc-le-suc}
 use native.Mathlib.Omega.{arith}
 use lib.Dec.{T}
 use lib.ListN.{length, getD, take}
+use Rattle.bits.proofs.Below.{below-next}
 use Rattle.codes.specs.Coded.{CodedBelow, FirstUncoded}
 
 settled : (b : Bool) → ((T b → ⊥) → ⊥) → T b
@@ -17,11 +15,8 @@ settled false not-not = not-not (λ t. t)
 
 pub coded-below : (has : List ℕ → ℕ → Bool) (text : List ℕ) → ((index : ℕ) → FirstUncoded has text index → ⊥) → (n : ℕ) → n ≤ length text
     → CodedBelow has text n
-coded-below has text none zero le i lt = absurd (let no′ : ⊥ = omega arith in no′)
-coded-below has text none (suc n) le i lt =
+coded-below has text none zero le = λ i lt. absurd (let no′ : ⊥ = omega arith in no′)
+coded-below has text none (suc n) le =
     let below = coded-below has text none n (omega arith) in
-    ⊎-elim
-    (λ e.
-    subst (λ (k : ℕ). T (has (take k text) (getD text k 0))) (sym e)
-    (settled (has (take n text) (getD text n 0)) (λ no. none n (record { there = le; before = below; none = no }))))
-    (λ less. below i less) (eq-or-lt-of-le (le-of-suc-le-suc lt))
+    below-next (λ (k : ℕ). T (has (take k text) (getD text k 0))) n below
+    (settled (has (take n text) (getD text n 0)) (λ no. none n (record { there = le; before = below; none = no })))

@@ -7,13 +7,13 @@ use mathlib.Core.Path.{_≡_, sym, ap, _∙_, subst, subst⁻¹}
 use Prim.Native.Nat.{ℕ, _+_, _-_, _≤_}
 use native.Mathlib.Omega.{arith}
 use lib.ListN.{length}
-use lib.Seq.{take-all}
 use Rattle.bits.specs.Row.{Bytes}
 use Rattle.header.specs.declared.Format.{Format}
 use Rattle.header.specs.Fields.{bytesOf}
 use Rattle.checksum.specs.Alike.{AlikeBut}
 use Rattle.checksum.specs.Checksum.{checksumBytes}
 use Rattle.sections.specs.Sections.{sectionCount, inTurn, section, sentSection, besides}
+use Rattle.sections.proofs.OneSection.{only-section}
 use Rattle.packet.specs.Packet.{headerFor}
 use Rattle.terms.specs.declared.Terms.{Terms}
 use Rattle.terms.specs.Terms.{MayBeNamed}
@@ -26,10 +26,6 @@ use Rattle.at_300.proofs.Parts.{packet-same}
 use Rattle.at_300.proofs.Reading.{reads-same}
 
 module _ (carried : List ℕ) (some : 1 ≤ length carried) (few : length carried ≤ 4000) where
-  only-section : section carried 0 ≡ carried
-  unfolding section
-  only-section = take-all 4000 carried few
-
   pub all-that-came : (came : List ℕ) → besides carried 0 came ≡ came
   unfolding besides inTurn
   all-that-came came =

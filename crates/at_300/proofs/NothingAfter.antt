@@ -7,11 +7,11 @@ use mathlib.Core.Path.{_≡_, sym, subst}
 use Prim.Native.Nat.{ℕ, _+_, _≤_, _<_}
 use native.Mathlib.Decide.{decLe}
 use native.Mathlib.Omega.{arith}
-use lib.ListN.{length, getD, length-append, List·getD-append}
-use Rattle.header.specs.Fields.{wordOf}
+use lib.ListN.{length, length-append}
 use Rattle.header.specs.Valid.{lengthIn}
 use Rattle.distance.specs.Distance.{ValidWithin}
 use Rattle.packet.specs.Packet.{wholeLength, received}
+use Rattle.packet.proofs.Sent.{received-behind}
 use Rattle.refusals.specs.declared.ExamineRefusal.{ExamineRefusal}
 use Rattle.refusals.specs.declared.ExamineRefusal.the-variants.{TooManyBits, Short, NoHeader, OtherType, OtherLength, CutOff, Checksum, Malformed}
 use Rattle.refusals.specs.declared.ReadRefusal.the-variants.{Packet, NoRoom}
@@ -79,14 +79,7 @@ module _ (terms : Terms) (bytes : OnePacket (terms .most)) (p q : List ℕ) (sam
 -- ---- what follows
 
 received-alone : (packet after : List ℕ) → 4 ≤ length packet → received packet ≡ received (packet ++ after)
-unfolding received
-received-alone packet after four =
-    let byte : (i : ℕ) → i < 4 → getD packet i 0 ≡ getD (packet ++ after) i 0 = λ i lt. sym (List·getD-append packet after 0 i (omega arith)) in
-    let first = byte 0 (omega arith) in
-    let second = byte 1 (omega arith) in
-    let third = byte 2 (omega arith) in
-    let fourth = byte 3 (omega arith) in
-    λ i. wordOf (first i) (second i) (third i) (fourth i)
+received-alone packet after four = sym (received-behind packet after four)
 
 module _ (terms : Terms) (small : terms .most ≤ 4000) where
   bytes : OnePacket (terms .most)

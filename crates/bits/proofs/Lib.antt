@@ -1,4 +1,5 @@
 pub mod All
+pub mod Below
 pub mod First
 pub mod Listed
 pub mod Numbers

@@ -5,11 +5,12 @@ use mathlib.Core.List.{List, [], _∷_, _++_}
 use mathlib.Core.Logic.{_⊎_, inr, ⊎-elim, _↔_}
 use mathlib.Core.Path.{_≡_, refl, sym, ap, ap₂, _∙_, subst}
 use Prim.Native.Nat.{ℕ, zero, suc, _+_, _≤_, _<_}
-use native.Mathlib.Nat.{eq-or-lt-of-le, le-of-suc-le-suc}
+use native.Mathlib.Nat.{le-of-suc-le-suc}
 use native.Mathlib.Omega.{arith}
 use lib.Dec.{T}
 use lib.ListN.{length, getD, take, drop, length-append}
 use lib.Seq.{drop-at, length-take-le, getD-take}
+use Rattle.bits.proofs.Below.{below-next}
 use Rattle.header.specs.declared.Format.{Format}
 use Rattle.header.specs.declared.Format.the-variants.{Open, PseudoBinary, Numeric, Shef, FullAscii}
 use Rattle.header.specs.Fields.{bytesOf}
@@ -117,9 +118,7 @@ module _ (format : Format) (text : List ℕ) where
 
   one-more : (index : ℕ) → CodedBelow (coded format) text index → T (coded format (take index text) (getD text index 0))
       → CodedBelow (coded format) text (suc index)
-  one-more index before has i lt =
-      ⊎-elim (λ e. subst (λ (k : ℕ). T (coded format (take k text) (getD text k 0))) (sym e) has) (λ less. before i less)
-      (eq-or-lt-of-le (le-of-suc-le-suc lt))
+  one-more index = below-next (λ (k : ℕ). T (coded format (take k text) (getD text k 0))) index
 
   no-code-index : (index : ℕ)
       → Uncoded format text index ↔ ((index < length text) × AllCoded format (take index text) × (AllCoded format (take (suc index) text) → ⊥))

@@ -24,6 +24,7 @@ use Rattle.mending.proofs.Search.{search-mends}
 use Rattle.codes.proofs.EveryElement.{every, every-at}
 use Rattle.refusals.specs.declared.ExamineRefusal.the-variants.{NoHeader, OtherType, OtherLength}
 use Rattle.packet.specs.Packet.{received}
+use Rattle.packet.proofs.Sent.{received-behind}
 use Rattle.terms.specs.Terms.{mostAt, MayMend, naming}
 use Rattle.terms.proofs.Usual.{naming-named}
 use Rattle.reader.proofs.ExamineStages.{clear-two, clear-three, clear-four}
@@ -86,25 +87,18 @@ unfolding other
 other-none f t format typed =
     T-not (ours f format) (every-at (λ (k : Format). not (ours f k)) formats t format (format-in format)) (ours-test f format typed)
 
--- what starts with four bytes has their word
-front-word : (head after : List ℕ) → length head ≡ 4 → received (head ++ after) ≡ received head
-unfolding received
-front-word (a ∷ b ∷ c ∷ d ∷ []) after e = refl
-front-word (a ∷ b ∷ c ∷ d ∷ x ∷ l) after e = absurd (let no′ : ⊥ = omega arith in no′)
-front-word (a ∷ b ∷ c ∷ []) after e = absurd (let no′ : ⊥ = omega arith in no′)
-front-word (a ∷ b ∷ []) after e = absurd (let no′ : ⊥ = omega arith in no′)
-front-word (a ∷ []) after e = absurd (let no′ : ⊥ = omega arith in no′)
-front-word [] after e = absurd (let no′ : ⊥ = omega arith in no′)
-
 module _ (mend : ℕ) (bits : MayMend mend) (head : List ℕ) (four : length head ≡ 4) where
   enough : (after : List ℕ) → 4 ≤ length (head ++ after)
   enough after = omega (arith, length-append head after)
+
+  same-word : (after : List ℕ) → received (head ++ after) ≡ received head
+  same-word after = received-behind head after (omega arith)
 
   hopeless-at : (rate-1200 : Bool) → ((header : ℕ) → ValidWithin mend (received head) header → ⊥) → RefusesAt rate-1200 mend head NoHeader
   hopeless-at rate-1200 far after room =
       refused-packet (naming mend rate-1200) (head ++ after) room NoHeader
       (record {
-        fault = λ header near. far header (subst (λ (w : ℕ). ValidWithin mend w header) (front-word head after four) near);
+        fault = λ header near. far header (subst (λ (w : ℕ). ValidWithin mend w header) (same-word after) near);
         first = clear-two (naming mend rate-1200) (head ++ after) bits (enough after);
       })
 
@@ -113,7 +107,7 @@ module _ (mend : ℕ) (bits : MayMend mend) (head : List ℕ) (four : length hea
 
   module _ (header : ℕ) (near : ValidWithin mend (received head) header) where
     near-behind : (after : List ℕ) → ValidWithin mend (received (head ++ after)) header
-    near-behind after = subst (λ (w : ℕ). ValidWithin mend w header) (sym (front-word head after four)) near
+    near-behind after = subst (λ (w : ℕ). ValidWithin mend w header) (sym (same-word after)) near
 
     foreign-at : (rate-1200 : Bool) → ((format : Format) → HasFormat (fieldsIn header) format → ⊥) → RefusesAt rate-1200 mend head OtherType
     foreign-at rate-1200 none after room =

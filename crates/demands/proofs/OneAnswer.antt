@@ -7,10 +7,10 @@ use mathlib.Core.Path.{_≡_, refl, sym, ap, _∙_, subst}
 use Prim.Native.Nat.{ℕ, _+_, _≤_, _<_}
 use native.Mathlib.Decide.{decLe}
 use native.Mathlib.Omega.{arith}
-use lib.ListN.{length, getD, drop, length-append, length-drop, List·getD-append}
+use lib.ListN.{length, drop, length-append, length-drop}
 use lib.Seq.{drop-append-le}
 use Rattle.header.specs.declared.Format.{Format}
-use Rattle.header.specs.Fields.{fieldsIn, wordOf}
+use Rattle.header.specs.Fields.{fieldsIn}
 use Rattle.header.specs.Formats.{HasFormat}
 use Rattle.header.specs.Valid.{lengthIn}
 use Rattle.distance.specs.Distance.{ValidWithin}
@@ -33,6 +33,7 @@ use Rattle.reader.specs.declared.ReadAnswer.{ReadAnswer}
 use Rattle.reader.specs.declared.ReadAnswer.the-variants.{Accepted, Refused as NotRead}
 use Rattle.reader.specs.Examine.{Fault, Refuses, Allowed, readingOf, Accepts, Examines}
 use Rattle.packet.specs.Packet.{wholeLength, received, dataIn, FirstUnsummed}
+use Rattle.packet.proofs.Sent.{received-behind}
 use Rattle.reader.specs.Reader.{ReadFault, Reads}
 use Rattle.terms.specs.Terms.{OnePacket, MayBeNamed}
 use Rattle.reader.proofs.ExamineOnce.{examined-too-many, examines-one}
@@ -110,17 +111,8 @@ module _ (terms : Terms) (named : MayBeNamed terms) (p q : List ℕ) (header : �
 
 module _ (terms : Terms) (named : MayBeNamed terms) (packet after : List ℕ) (header : ℕ) (near : ValidWithin (terms .mend) (received packet) header)
     (whole : wholeLength (lengthIn header) ≤ length packet) where
-  same-byte : (i : ℕ) → i < length packet → getD (packet ++ after) i 0 ≡ getD packet i 0
-  same-byte i lt = List·getD-append packet after 0 i lt
-
   same-received : received (packet ++ after) ≡ received packet
-  unfolding received
-  same-received =
-      let first = same-byte 0 (omega arith) in
-      let second = same-byte 1 (omega arith) in
-      let third = same-byte 2 (omega arith) in
-      let fourth = same-byte 3 (omega arith) in
-      λ i. wordOf (first i) (second i) (third i) (fourth i)
+  same-received = received-behind packet after (omega arith)
 
   -- what stands behind the header, with what follows
   rest : drop 4 (packet ++ after) ≡ drop 4 packet ++ after

@@ -1,7 +1,7 @@
 -- Demand 1. Every entry point takes what it is handed, at any length, and ends. Each kind of bad input has one refusal number, given under its stated
 -- condition and under no other. A refusal changes no byte of a lent buffer; an accepted call writes only the bytes that it counts.
 -- The first sentence is what a check says of each function that requires nothing, as `reader::examine`, `reader::read`, `reader::examine_mending`,
--- `reader::read_mending` and `writer::write`. The rest holds whatever number of bits is named.
+-- `reader::read_mending` and `writer::write`. The rest holds at either rate and whatever number of bits is named.
 -- Assumes nothing.
 use mathlib.Core.Bool.{Bool}
 use mathlib.Core.List.{List}

@@ -5,10 +5,10 @@ use mathlib.Core.List.{List, _++_}
 use mathlib.Core.Path.{_≡_, refl, sym, ap, _∙_, subst}
 use Prim.Native.Nat.{ℕ, _+_, _^_, _≤_, _<_}
 use native.Mathlib.Omega.{arith}
-use lib.ListN.{length, drop, length-append}
+use lib.ListN.{length, getD, drop, length-append, List·getD-append}
 use Rattle.header.specs.declared.Format.{Format}
 use Rattle.header.specs.declared.Header.{Header}
-use Rattle.header.specs.Fields.{Fit, fieldsIn, sentFields, bytesOf}
+use Rattle.header.specs.Fields.{Fit, fieldsIn, sentFields, wordOf, bytesOf}
 use Rattle.header.specs.Formats.{HasFormat, formatNumber}
 use Rattle.header.specs.Valid.{Valid, lengthIn}
 use Rattle.header.proofs.Bytes.{word-bytes}
@@ -47,6 +47,17 @@ module _ (format : Format) (sync : Bool) (n : ℕ) (few : n < 2 ^ 14) where
 pub received-front : (word : ℕ) (behind : List ℕ) → word < 2 ^ 32 → received (bytesOf word ++ behind) ≡ word
 unfolding received bytesOf
 received-front word behind bits = word-bytes word bits
+
+-- and whatever stands behind four bytes or more
+pub received-behind : (packet after : List ℕ) → 4 ≤ length packet → received (packet ++ after) ≡ received packet
+unfolding received
+received-behind packet after four =
+    let byte : (i : ℕ) → i < 4 → getD (packet ++ after) i 0 ≡ getD packet i 0 = λ i lt. List·getD-append packet after 0 i (omega arith) in
+    let first = byte 0 (omega arith) in
+    let second = byte 1 (omega arith) in
+    let third = byte 2 (omega arith) in
+    let fourth = byte 3 (omega arith) in
+    λ i. wordOf (first i) (second i) (third i) (fourth i)
 
 -- ---- what is received: a header's four bytes, what was sent behind them, and whatever follows
 

@@ -19,7 +19,7 @@ fn take_apart_joined(format: Format, n: usize, came: &[u8]) -> Outcome
     requires { ⌜ (n ≤ 16000) × (sentLength n ≤ length (now came)) ⌝ }
     ensures { λ r. ⌜ TakesApart (CarriesIn format (joined n (now (came .entry)))) (UnreadableAfter format (joined n (now (came .entry)))) n r ⌝ }
 {
-    let mut data = [0u8; 16000];
+    let mut data = [0u8; Section::ALL];
     sections::join(n, came, &mut data);
     formats::take_apart(format, &data[0..n])
 }
@@ -55,7 +55,7 @@ fn put_text_joined(format: Format, n: usize, came: &[u8], out: &mut [u8]) -> usi
     requires { ⌜ (n ≤ 16000) × (sentLength n ≤ length (now came)) × HasRoom format (joined n (now came)) (length (now out)) ⌝ }
     ensures { λ r. ⌜ PutsText format (joined n (now (came .entry))) (now (out .entry)) (now (out .exit)) r ⌝ }
 {
-    let mut data = [0u8; 16000];
+    let mut data = [0u8; Section::ALL];
     sections::join(n, came, &mut data);
     formats::put_text(format, &data[0..n], out)
 }

@@ -1,7 +1,9 @@
 pub mod Behind
 pub mod Damaged
+pub mod Dividing
 pub mod Found
-pub mod InPlace
+pub mod Lent
+pub mod Moving
 pub mod Once
 pub mod OneSection
 pub mod Turns

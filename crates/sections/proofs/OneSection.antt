@@ -20,7 +20,7 @@ two-bytes l p fits =
 -- ---- sent
 
 module _ (carried : List ℕ) (some : 1 ≤ length carried) (few : length carried ≤ 4000) where
-  only-section : section carried 0 ≡ carried
+  pub only-section : section carried 0 ≡ carried
   unfolding section
   only-section = take-all 4000 carried few
 

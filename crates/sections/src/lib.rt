@@ -16,16 +16,18 @@ pub enum Sums {
     Wrong(usize),
 }
 
-// A section, by its number.
-pub struct Section {
-    pub number: usize,
-}
+// How many bytes sections have.
+pub struct Section;
 
 impl Section {
     // The most data bytes of one.
     pub const MOST: usize = 4000;
+
     // The same with the checksum behind them.
     pub const STEP: usize = 4002;
+
+    // The most data bytes of all sections of a packet.
+    pub const ALL: usize = 16000;
 }
 
 // How many sections n data bytes have.

@@ -10,24 +10,18 @@ use lib.Seq.{take-at, take-all, drop-at, drop-append-le, drop-drop, length-take-
 use Rattle.header.specs.declared.Format.{Format}
 use Rattle.header.specs.Fields.{bytesOf}
 use Rattle.sections.specs.Sections.{sectionCount, sentLength, inSections}
+use Rattle.sections.proofs.Lent.{part-put}
 use Rattle.codes.specs.Steps.Laid.{Fronted}
 use Rattle.formats.specs.Data.{dataOf}
 use Rattle.packet.specs.Packet.{wholeLength, packetOf, headerFor}
 use Rattle.writer.specs.Writer.{ourPacket}
 
--- a row at the front of the part, back in its place
+-- a row at the front of the part behind the header, back in its place
 front-back : (s row x : List ℕ) (k n : ℕ) → n ≤ k → k + 4 ≤ length s → x ≡ row ++ drop n (take k (drop 4 s))
     → take 4 s ++ (x ++ drop k (drop 4 s)) ≡ take 4 s ++ (row ++ drop (n + 4) s)
 front-back s row x k n held room e =
-    let lent : length (take k (drop 4 s)) ≡ k = length-take-le k (drop 4 s) (omega (arith, length-drop 4 s)) in
-    ap (λ (l : List ℕ). take 4 s ++ l)
-    (ap (λ (l : List ℕ). l ++ drop k (drop 4 s)) e
-    ∙ append-assoc row (drop n (take k (drop 4 s))) (drop k (drop 4 s))
-    ∙ ap (λ (l : List ℕ). row ++ l)
-    (sym (drop-append-le n (take k (drop 4 s)) (drop k (drop 4 s)) (omega arith))
-    ∙ ap (drop n) (take-append-drop k (drop 4 s))
-    ∙ drop-drop n 4 s
-    ∙ ap (λ (m : ℕ). drop m s) (let turned : 4 + n ≡ n + 4 = omega arith in turned)))
+    part-put s row x 4 k n held (omega arith) e
+    ∙ ap (λ (m : ℕ). take 4 s ++ (row ++ drop m s)) (let turned : 4 + n ≡ n + 4 = omega arith in turned)
 
 -- with a row in its place
 module _ (s row : List ℕ) (n : ℕ) (room : n + 4 ≤ length s) where

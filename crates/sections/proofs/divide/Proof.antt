@@ -2,7 +2,7 @@
 -- Assumes nothing.
 use Prim.Native.Nat.{_-_}
 use native.Mathlib.Omega.{arith}
-use Rattle.sections.proofs.InPlace.{as-long, Divided, none-divided, all-divided, next-divided}
+use Rattle.sections.proofs.Dividing.{as-long, Divided, none-divided, all-divided, next-divided}
 use borrow.Author.Needs.{needs}
 use Rattle.sections.proofs.divide.Statement.{statement}
 use Rattle.sections.proofs.divide.Tie as tie

@@ -1,6 +1,6 @@
 -- `sections::join` meets its contract.
 -- Assumes nothing.
-use Rattle.sections.proofs.InPlace.{join-next}
+use Rattle.sections.proofs.Lent.{join-next}
 use mathlib.Core.List.{List, _++_}
 use mathlib.Core.Path.{_≡_, refl, sym, ap, ap₂, _∙_}
 use Prim.Native.Nat.{ℕ, _+_, _-_, _*_, _/_, _%_, _≤_, _<_, min}
@@ -76,7 +76,7 @@ loop-again c =
     let a = l .before .before .before in
     let s = c .before .before .before .before .before in
     let is = join-next (a .args .n) (a .args .came .now) (a .pre .1) (l .loop .k) (s .size .result) (omega arith) (s .size .ensures)
-    (a .args .out .now) (l .loop .out) (c .before .before .copy .last .1 .0) (l .loop .inv .2) (c .before .before .copy .ensures .1) in
+    (a .args .out .now) (l .loop .out) (c .before .before .copy .last .1 .0) (omega arith) (l .loop .inv .2) (c .before .before .copy .ensures .1) in
     (omega arith, search needs, is)
 
 same-length : tie.Need-same-length Inv-loop μ-loop

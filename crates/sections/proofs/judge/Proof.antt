@@ -1,11 +1,10 @@
 -- `sections::judge` meets its contract.
 -- Assumes nothing.
-use mathlib.Core.Path.{subst}
-use native.Mathlib.Decide.{decLt}
 use borrow.Author.Tests.{not-true, not-false}
 use Rattle.bits.specs.Says.{Says}
+use Rattle.bits.proofs.Below.{below-next}
 use Rattle.bits.proofs.Said.{said-yes, said-no}
-use Rattle.sections.proofs.InPlace.{tested}
+use Rattle.sections.proofs.Lent.{tested}
 use mathlib.Core.List.{List, _++_}
 use mathlib.Core.Path.{_≡_, refl, sym, ap, ap₂, _∙_}
 use Prim.Native.Nat.{ℕ, _+_, _-_, _*_, _/_, _%_, _≤_, _<_, min}
@@ -35,14 +34,6 @@ tested-at : (c : tie.After-agrees Inv-loop μ-loop) → Says (c .agrees .result)
 tested-at c =
     tested (start c .args .n) (at c .loop .k) (c .before .before .before .before .size .result) (start c .args .came .now)
     (c .before .before .before .before .size .ensures) (omega arith) (c .agrees .result) (c .agrees .ensures)
-
--- what holds of all below a number, and of the number, holds of all below the next
-one-more : (P : ℕ → Type 0) (k : ℕ) → ((j : ℕ) → j < k → P j) → P k → (j : ℕ) → j < k + 1 → P j
-one-more P k below here j lt = pick (decLt j k)
-  where
-    pick : Dec (j < k) → P j
-    pick (yes less) = below j less
-    pick (no more) = subst P (let same : k ≡ j = omega arith in same) here
 
 loop-holds : tie.Need-loop-holds Inv-loop μ-loop
 loop-holds c = (omega arith, λ j lt. absurd (omega (arith, lt)))
@@ -100,8 +91,9 @@ loop-again c =
     let a = c .before in
     let l = at a in (
       omega arith,
-      one-more (RightSum (start a .args .n) (start a .args .came .now)) (l .loop .k) (l .loop .inv .1)
-          (said-yes (a .agrees .result) (tested-at a) (not-false (a .agrees .result) (c .if1 .left))),
+      λ j lt.
+          below-next (RightSum (start a .args .n) (start a .args .came .now)) (l .loop .k) (l .loop .inv .1)
+          (said-yes (a .agrees .result) (tested-at a) (not-false (a .agrees .result) (c .if1 .left))) j (omega (arith, lt)),
     )
 
 returns-2 : tie.Need-returns-2 Inv-loop μ-loop

@@ -5,7 +5,7 @@ use Prim.Native.Nat.{ℕ, _+_, _-_, _≤_}
 use native.Mathlib.Omega.{arith}
 use lib.ListN.{length}
 use Rattle.sections.specs.Steps.Moved.{movedUp}
-use Rattle.sections.proofs.InPlace.{one-moved, none-moved, moved-next, moved-length}
+use Rattle.sections.proofs.Moving.{one-moved, none-moved, moved-next, moved-length}
 use borrow.Author.Needs.{needs}
 use Rattle.sections.proofs.move_by_one.Statement.{statement}
 use Rattle.sections.proofs.move_by_one.Tie as tie

@@ -5,7 +5,7 @@ use mathlib.Core.Path.{_≡_, refl, ap, _∙_}
 use Prim.Native.Nat.{ℕ, _+_}
 use native.Mathlib.Omega.{arith}
 use lib.ListN.{take, drop, getD, length-set}
-use Rattle.sections.proofs.InPlace.{eight-from, eight-put}
+use Rattle.sections.proofs.Moving.{eight-from, eight-put}
 use borrow.Author.Needs.{needs}
 use Rattle.sections.proofs.move_eight.Statement.{statement}
 use Rattle.sections.proofs.move_eight.Tie as tie

@@ -5,7 +5,7 @@ use mathlib.Core.Path.{_≡_, ap, _∙_}
 use Prim.Native.Nat.{ℕ, _+_, _*_}
 use native.Mathlib.Omega.{arith}
 use lib.ListN.{take, drop}
-use Rattle.sections.proofs.InPlace.{first-stays}
+use Rattle.sections.proofs.Dividing.{first-stays}
 use borrow.Author.Needs.{needs}
 use Rattle.sections.proofs.move_section.Statement.{statement}
 use Rattle.sections.proofs.move_section.Tie as tie

@@ -2,7 +2,7 @@
 -- Assumes nothing.
 use Prim.Native.Nat.{_%_}
 use native.Mathlib.Omega.{arith}
-use Rattle.sections.proofs.InPlace.{rest-moved}
+use Rattle.sections.proofs.Moving.{rest-moved}
 use borrow.Author.Needs.{needs}
 use Rattle.sections.proofs.move_up.Statement.{statement}
 use Rattle.sections.proofs.move_up.Tie as tie
