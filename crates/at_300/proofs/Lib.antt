@@ -1,5 +1,4 @@
 pub mod At300
-pub mod Coded
 pub mod Damaged
 pub mod FirstMatches
 pub mod NothingAfter

@@ -10,6 +10,7 @@ use native.Mathlib.Omega.{arith}
 use lib.ListN.{length, drop}
 use Rattle.header.specs.declared.Format.{Format}
 use Rattle.header.specs.Formats.{formatNumber}
+use Rattle.codes.proofs.CodedTexts.{coded-below}
 use Rattle.formats.specs.Data.{coded, dataOf}
 use Rattle.formats.proofs.Formats.{data-some}
 use Rattle.packet.specs.Packet.{headerFor}
@@ -23,7 +24,6 @@ use Rattle.writer.specs.declared.WriteAnswer.the-variants.{Written, Refused}
 use Rattle.writer.specs.Writer.{ourPacket, WriteFault, WriteRefuses, WriteAccepts, Writes}
 use Rattle.at_300.specs.OneSection.Writer as one
 use Rattle.at_300.specs.OneSection.Writer.{ourPacket as oneOurPacket}
-use Rattle.at_300.proofs.Coded.{coded-below}
 use Rattle.at_300.proofs.FirstMatches.{NoneBelow, turnOf, first-matches}
 use Rattle.at_300.proofs.Parts.{whole-same, packet-same}
 

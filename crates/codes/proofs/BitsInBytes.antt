@@ -11,7 +11,7 @@ use lib.ListN.{length, take, drop, replicate, length-append, length-drop, length
 use lib.Seq.{drop-nil, length-take-le, drop-append-add}
 use Rattle.bits.specs.Row.{bits, Bytes}
 use Rattle.bits.specs.Word.{bit}
-use Rattle.codes.specs.Chain.{Entry, Scheme, stateAfter, Row, codes, texts, Built}
+use Rattle.codes.specs.Chain.{Entry, Scheme, stateAfter, Row, codes, texts, bitsIn, Built}
 use Rattle.codes.specs.Pack.{Binary, low, value, bytes, packed, gap, filled, written}
 use Rattle.bits.proofs.Said.{and-left, and-right}
 use Rattle.codes.proofs.EveryElement.{every, every-at}
@@ -182,6 +182,14 @@ module _ (es : List Entry) where
     ends = ones-fill (scheme .unused) (gap (length (codes es))) few;
     bits = bits-written h;
   }
+
+-- and of a text that they say, with as many bits before its fill as their codes have
+pub row-built : (scheme : Scheme) → ((m : ℕ) → T (every binary (scheme .table m))) → (es : List Entry) → Closes scheme es → Row scheme 0 es 0
+    → {text : List ℕ} → texts es ≡ text → (b : Built scheme text (written es)) × (bitsIn b ≡ length (codes es))
+unfolding written-built
+row-built scheme all-bits es few r says =
+    subst (λ (text : List ℕ). (b : Built scheme text (written es)) × (bitsIn b ≡ length (codes es))) says
+    (written-built es few r (row-binary scheme all-bits 0 0 es r), refl)
 
 gap-least : (n f k : ℕ) → n + f ≡ k * 8 → gap n ≤ f
 unfolding gap

@@ -3,13 +3,14 @@
 use mathlib.Core.Path.{_≡_, subst, subst⁻¹}
 use mathlib.Core.Bool.{Bool, true, false, _&&_}
 use mathlib.Core.List.{List, [], _∷_, _++_}
-use Prim.Native.Nat.{ℕ, zero, suc, _+_, _<_}
+use Prim.Native.Nat.{ℕ, zero, suc, _+_, _≤_, _<_}
 use native.Mathlib.Omega.{arith}
 use lib.Dec.{T}
 use lib.ListN.{length, take, getD}
 use borrow.Author.Count.{below-more}
 use Rattle.bits.specs.Says.{Says}
 use Rattle.codes.specs.Coded.{alone, CodedBelow, FirstUncoded}
+use Rattle.bits.proofs.Below.{below-next}
 use Rattle.bits.proofs.Said.{and-left, and-right}
 use Rattle.codes.proofs.EveryElement.{every}
 
@@ -49,3 +50,15 @@ module _ (has : List ℕ → ℕ → Bool) where
   pub first-at : (text : List ℕ) (index i : ℕ) → index ≡ i → i < length text → CodedBelow has text i → has (take i text) (getD text i 0) ≡ false → FirstUncoded has text index
   first-at text index i e there before none =
       subst⁻¹ (FirstUncoded has text) e (record { there = there; before = before; none = λ t. subst T none t })
+
+  -- a text of which no character is the first without a code has a code for each
+  settled : (b : Bool) → ((T b → ⊥) → ⊥) → T b
+  settled true not-not = tt
+  settled false not-not = not-not (λ t. t)
+
+  pub coded-below : (text : List ℕ) → ((index : ℕ) → FirstUncoded has text index → ⊥) → (n : ℕ) → n ≤ length text → CodedBelow has text n
+  coded-below text none zero le = λ i lt. absurd (let no′ : ⊥ = omega arith in no′)
+  coded-below text none (suc n) le =
+      let below = coded-below text none n (omega arith) in
+      below-next (λ (k : ℕ). T (has (take k text) (getD text k 0))) n below
+      (settled (has (take n text) (getD text n 0)) (λ no. none n (record { there = le; before = below; none = no })))

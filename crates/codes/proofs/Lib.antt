@@ -41,4 +41,5 @@ pub mod SingleTable
 pub mod SizeBounds
 pub mod TableSearch
 pub mod TakenCodes
+pub mod Weighed
 pub mod WriterLaws

@@ -10,7 +10,7 @@ use native.Mathlib.Omega.{arith}
 use lib.Dec.{T}
 use lib.ListN.{length, drop, length-append, length-drop}
 use lib.Seq.{drop-append-seam}
-use Rattle.codes.specs.Chain.{Entry, Scheme, In, stateAfter, Row, codes, texts, Fill, Begins, Builds, Stuck, countIn, countBefore}
+use Rattle.codes.specs.Chain.{Entry, Scheme, In, stateAfter, Row, codes, texts, Fill, Begins, Builds, Stuck, countIn, countBefore, bitsIn}
 use Rattle.codes.specs.Steps.Measure.{BuildsIn, StuckAfter}
 pub use Rattle.codes.specs.Reading.{Answer, text, stuck, Halts}
 use Rattle.codes.specs.Reading.{front}
@@ -133,6 +133,10 @@ module _ {scheme : Scheme} (laws : Laws scheme) where
   -- and of one count
   pub one-count : {m : ℕ} {bs t u : List ℕ} (a : Builds scheme m bs t) (b : Builds scheme m bs u) → countIn a ≡ countIn b
   one-count a b = ap length (one-row a b)
+
+  -- with as many bits before the fill
+  pub one-size : {m : ℕ} {bs t u : List ℕ} (a : Builds scheme m bs t) (b : Builds scheme m bs u) → bitsIn a ≡ bitsIn b
+  one-size a b = ap (λ (es : List Entry). length (codes es)) (one-row a b)
 
   -- the entries before a place at which a reading is stuck, the place, and how many they are
   one-stuck : {m i j : ℕ} {bs : List ℕ} (a : Stuck scheme m bs i) (b : Stuck scheme m bs j) → a .entries ≡ b .entries

@@ -8,14 +8,14 @@ use native.Mathlib.Omega.{arith}
 use lib.Dec.{T}
 use lib.ListN.{length}
 use Rattle.bits.specs.Row.{Bytes}
-use Rattle.codes.specs.Chain.{Entry, Scheme, stateAfter, Row, codes, texts, countIn, Built}
+use Rattle.codes.specs.Chain.{Entry, Scheme, stateAfter, Row, codes, texts, bitsIn, Built}
 use Rattle.codes.specs.Pack.{Binary, written}
 use Rattle.codes.specs.Coded.{alone, CodedBelow}
 use Rattle.codes.proofs.CodedTexts.{coded-none, coded-append, coded-every}
 use Rattle.codes.proofs.EveryElement.{every, every-at}
 use Rattle.codes.proofs.BitsInBytes.{Closes, binary, row-binary, length-written, written-built, written-bytes, built-closes, built-length, length-bits}
 use Rattle.codes.proofs.NonemptyText.{Speaks, never-silent}
-use Rattle.codes.proofs.OneReading.{one-count}
+use Rattle.codes.proofs.OneReading.{one-row}
 use Rattle.codes.proofs.SchemeLaws.{Laws}
 
 -- each character that the entry says has a code
@@ -34,11 +34,11 @@ module _ (scheme : Scheme) (has : ℕ → Bool) (all-spell : (m : ℕ) → T (ev
   pub said-coded : (t : List ℕ) (es : List Entry) → Row scheme 0 es 0 → texts es ≡ t → CodedBelow (alone has) t (length t)
   said-coded t es r x = subst (λ (u : List ℕ). CodedBelow (alone has) u (length u)) x (row-coded 0 0 es r)
 
--- what entries are written as has as many codes
-pub written-count : {scheme : Scheme} → Laws scheme → (es : List Entry) → Closes scheme es → Row scheme 0 es 0 → Binary (codes es) → {u : List ℕ}
-    → (b : Built scheme u (written es)) → countIn b ≡ length es
+-- what entries are written as is a building of these entries, and of no others
+pub written-entries : {scheme : Scheme} → Laws scheme → (es : List Entry) → Closes scheme es → Row scheme 0 es 0 → Binary (codes es) → {u : List ℕ}
+    → (b : Built scheme u (written es)) → b .entries ≡ es
 unfolding written-built
-written-count laws es few r h b = one-count laws b (written-built es few r h)
+written-entries laws es few r h b = one-row laws b (written-built es few r h)
 
 -- `ours` is what the writer builds of a text, and `given` is what that text comes back as: itself, unless the tables cannot tell it from another
 pub record WriterFacts (scheme : Scheme) (has : List ℕ → ℕ → Bool) (given : List ℕ → List ℕ) (ours : List ℕ → List Entry) : Type 0 where
@@ -66,13 +66,12 @@ pub record WriterLaws (scheme : Scheme) (has : List ℕ → ℕ → Bool) (given
   pub ours-binary : (t : List ℕ) → CodedBelow has t (length t) → Binary (codes (ours t))
   pub ours-bytes : (t : List ℕ) → CodedBelow has t (length t) → Bytes (written (ours t))
   pub ours-built : (t : List ℕ) → CodedBelow has t (length t) → Built scheme (given t) (written (ours t))
-  -- with as many codes as it has entries
-  pub ours-count : Laws scheme → (t u : List ℕ) → CodedBelow has t (length t) → (b : Built scheme u (written (ours t))) → countIn b ≡ length (ours t)
+  -- of these entries, and of no others
+  pub ours-entries : Laws scheme → (t u : List ℕ) → CodedBelow has t (length t) → (b : Built scheme u (written (ours t))) → b .entries ≡ ours t
   -- and that text is not empty where the text is not
   pub given-nonempty : (t : List ℕ) → 0 < length t → CodedBelow has t (length t) → 0 < length (given t)
   -- no building of that text has fewer bits before its fill than the writer's, and none fewer bytes
-  pub no-shorter : (t sent : List ℕ) → CodedBelow has t (length t) → (b : Built scheme (given t) sent)
-      → length (codes (ours t)) ≤ length (codes (b .entries))
+  pub no-shorter : (t sent : List ℕ) → CodedBelow has t (length t) → (b : Built scheme (given t) sent) → length (codes (ours t)) ≤ bitsIn b
   pub no-fewer-bytes : (t sent : List ℕ) → CodedBelow has t (length t) → Built scheme (given t) sent → length (written (ours t)) ≤ length sent
   -- a text has codes if what it comes back as was built
   pub back-coded : (t sent : List ℕ) → Built scheme (given t) sent → CodedBelow has t (length t)
@@ -86,7 +85,7 @@ module _ {scheme : Scheme} {has : List ℕ → ℕ → Bool} {given : List ℕ �
   codes-binary : (t : List ℕ) → CodedBelow has t (length t) → Binary (codes (ours t))
   codes-binary t h = row-binary scheme (w .all-bits) 0 0 (ours t) (w .row t h)
 
-  none-shorter : (t sent : List ℕ) → CodedBelow has t (length t) → (b : Built scheme (given t) sent) → length (codes (ours t)) ≤ length (codes (b .entries))
+  none-shorter : (t sent : List ℕ) → CodedBelow has t (length t) → (b : Built scheme (given t) sent) → length (codes (ours t)) ≤ bitsIn b
   none-shorter t sent h b = w .shortest t h (b .entries) (b .row) (built-closes sent b) (b .says)
 
   built : (t : List ℕ) → CodedBelow has t (length t) → Built scheme (given t) (written (ours t))
@@ -104,7 +103,7 @@ module _ {scheme : Scheme} {has : List ℕ → ℕ → Bool} {given : List ℕ �
     ours-binary = codes-binary;
     ours-bytes = λ t h. written-bytes (ours t) (codes-binary t h);
     ours-built = built;
-    ours-count = λ laws t u h b. written-count laws (ours t) (w .closes t h) (w .row t h) (codes-binary t h) b;
+    ours-entries = λ laws t u h b. written-entries laws (ours t) (w .closes t h) (w .row t h) (codes-binary t h) b;
     given-nonempty = w .nonempty;
     no-shorter = none-shorter;
     no-fewer-bytes = λ t sent h b. omega (arith, none-shorter t sent h b, length-written (ours t), built-length (w .few) sent b);

@@ -85,6 +85,10 @@ countIn b = length (b .entries)
 abbrev pub countBefore : {scheme : Scheme} {m i : ℕ} {bs : List ℕ} → Stuck scheme m bs i → ℕ
 countBefore s = length (s .entries)
 
+-- how many bits of a building stand before its fill: those of its codes
+abbrev pub bitsIn : {scheme : Scheme} {m : ℕ} {bs text : List ℕ} → Builds scheme m bs text → ℕ
+bitsIn b = length (codes (b .entries))
+
 -- what a maker may build of the text: its data bytes are such codes and fill, from where no value is announced
 abbrev pub Built : Scheme → List ℕ → List ℕ → Type 0
 Built scheme text sent = Builds scheme 0 (bits sent) text

@@ -8,14 +8,11 @@ use Prim.Native.Nat.{ℕ, zero, suc, _+_, _≤_, _<_}
 use native.Mathlib.Nat.{le-of-suc-le-suc}
 use native.Mathlib.Omega.{arith}
 use lib.Dec.{T}
-use lib.ListN.{length, getD, take, drop, length-append}
+use lib.ListN.{length, getD, take, drop}
 use lib.Seq.{drop-at, length-take-le, getD-take}
 use Rattle.bits.proofs.Below.{below-next}
 use Rattle.header.specs.declared.Format.{Format}
 use Rattle.header.specs.declared.Format.the-variants.{Open, PseudoBinary, Numeric, Shef, FullAscii}
-use Rattle.header.specs.Fields.{bytesOf}
-use Rattle.sections.specs.Sections.{inSections}
-use Rattle.sections.proofs.Found.{sent-length}
 use Rattle.codes.specs.Coded.{CodedBelow}
 use Rattle.full_ascii.proofs.Writer as ascii-writer
 use Rattle.numeric.proofs.Table as numeric-table
@@ -36,7 +33,7 @@ use Rattle.reader.specs.declared.ReadAnswer.the-variants.{Refused as NotRead}
 use Rattle.writer.specs.declared.WriteAnswer.{WriteAnswer}
 use Rattle.writer.specs.declared.WriteAnswer.the-variants.{Refused as NotWritten}
 use Rattle.reader.specs.Examine.{Fault, Examines}
-use Rattle.packet.specs.Packet.{wholeLength, packetOf, headerFor}
+use Rattle.packet.specs.Packet.{wholeLength, headerFor}
 use Rattle.reader.specs.Reader.{ReadFault, Reads}
 use Rattle.terms.specs.Terms.{OnePacket}
 use Rattle.writer.specs.Writer.{WriteFault, Writes, ourPacket}
@@ -44,6 +41,7 @@ use Rattle.reader.proofs.ExamineOnce.{examines-one}
 use Rattle.reader.proofs.ReadOnce.{reads-one}
 use Rattle.writer.proofs.WriteOnce.{writes-one}
 use Rattle.demands.specs.Demand1.{RefusedExactly, StuckAt, Demand1, Conditions}
+use Rattle.demands.proofs.Parts.{packet-length}
 
 -- where the answer is a refusal exactly when that is the first match, it is so by numbers
 exactly : (Refusal : Type 0) (told : Refusal → Told) (Fault : Refusal → Type 0) (turn : ℕ → ℕ) (Answered : Refusal → Type 0)
@@ -53,11 +51,9 @@ exactly Refusal told Fault turn Answered to from as-told =
     let first = numbered Refusal told Fault turn as-told in
     (λ a. first .0 (a .0, a .1, to (a .0) (a .2)), λ f. let r = first .1 f in (r .0, r .1, from (r .0) (r .2)))
 
-our-length : (format : Format) (sync : Bool) (text : List ℕ) → length (ourPacket format sync text) ≡ wholeLength (length (dataOf format text))
-unfolding ourPacket packetOf bytesOf
-our-length format sync text =
-    let carried = dataOf format text in
-    omega (arith, length-append (bytesOf (headerFor format sync (length carried))) (inSections carried), sent-length carried)
+pub our-length : (format : Format) (sync : Bool) (text : List ℕ) → length (ourPacket format sync text) ≡ wholeLength (length (dataOf format text))
+unfolding ourPacket
+our-length format sync text = packet-length (headerFor format sync (length (dataOf format text))) (dataOf format text)
 
 module _ (terms : Terms) (bytes : OnePacket (terms .most)) where
   pub demand-1 : Demand1 terms

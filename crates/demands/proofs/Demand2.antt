@@ -45,7 +45,7 @@ use Rattle.demands.proofs.Demand3.{packet-header, intact}
 use Rattle.demands.proofs.Alike.{writes-alike}
 use Rattle.demands.proofs.Parts.{header-is, received-lt, head-and-rest, data-size, behind-header}
 
-our-is : (format : Format) (sync : Bool) (text : List ℕ)
+pub our-is : (format : Format) (sync : Bool) (text : List ℕ)
     → ourPacket format sync text ≡ packetOf (headerFor format sync (length (dataOf format text))) (dataOf format text)
 unfolding ourPacket
 our-is format sync text = refl

@@ -62,11 +62,15 @@ use Rattle.sections.specs.Sections.{sectionCount}
 use Rattle.packet.specs.Packet.{wholeLength, received, headerFor}
 use Rattle.terms.specs.Terms.{mostAt, naming}
 use Rattle.packet.proofs.Sent.{header-valid, header-typed, header-length, header-sync, received-front}
-use Rattle.pseudo_binary.proofs.Bound.{built-bound, slashes-bytes}
+use Rattle.pseudo_binary.proofs.Bound.{built-bound}
+use Rattle.pseudo_binary.proofs.Characters.{kind-of}
+use Rattle.pseudo_binary.proofs.Length.{width, each}
+use Rattle.pseudo_binary.proofs.Size.{started}
 use Rattle.reader.proofs.ExamineOnce.{too-many}
 use Rattle.reader.proofs.ReadOnce.{refused-packet}
-use Rattle.demands.specs.Edges.{Edge, checks, heads, reads, hopeless, foreign, unnamed, writes, carries, stops, fullest, lacks, divides, fits, overlong, longest, RefusesAt, RefusesAll, Holds, edges, Every}
+use Rattle.demands.specs.Edges.{Edge, checks, heads, reads, hopeless, foreign, unnamed, writes, carries, stops, fullest, lacks, divides, fits, overlong, longest, singly, RefusesAt, RefusesAll, Holds, edges, Every}
 use Rattle.demands.proofs.HeaderTests.{findsNone, none, none-near, mends-by-test, ours, other, other-none, refuses-hopeless, refuses-foreign, refuses-overlong, whichever}
+use Rattle.demands.proofs.NoShorter.{alike-bytes}
 
 -- ---- data, by a reading that computes
 
@@ -130,6 +134,13 @@ every-test : List Bool → Bool
 every-test [] = true
 every-test (b ∷ bs) = b && every-test bs
 
+-- the bytes of n characters of one kind, in single ones and in ours
+abbrev singleBytes : pseudo.Kind → ℕ → ℕ
+singleBytes k n = (width k * n + each k * n + 7) / 8
+
+abbrev fullBytes : pseudo.Kind → ℕ → ℕ
+fullBytes k n = (width k * started k n + each k * n + 7) / 8
+
 tests : Edge → List Bool
 tests (checks flag length check bytes) =
     let h = received (flag ∷ bytes) in
@@ -156,7 +167,10 @@ tests (overlong rate-1200 numbers head format sync length) =
     let header = headerFor format sync length in
     same (bytesOf header) head ∷ ltb length (2 ^ 14) ∷ ltb (mostAt rate-1200) length ∷ every (λ (mend : ℕ). leb mend 2) numbers ∷ []
 tests (longest bytes characters) =
-    eqb characters (16 * (8 * bytes / 6)) ∷ eqb ((6 * ((characters + 15) / 16) + 7) / 8) bytes ∷ []
+    eqb characters (16 * (8 * bytes / 6)) ∷ eqb (fullBytes pseudo.slashes characters) bytes ∷ []
+tests (singly character count single ours) =
+    let k = pseudo-writer.kind character in
+    pseudo.coded character ∷ eqb (singleBytes k count) single ∷ eqb (fullBytes k count) ours ∷ []
 tests (lacks format text index) =
     ltb index (length text) ∷ all (λ (i : ℕ). coded format (take i text) (getD text i 0)) index ∷ not (coded format (take index text) (getD text index 0)) ∷ []
 
@@ -187,7 +201,7 @@ itself-near mend header valid =
 
 -- a row whose tests pass holds
 row-holds : (e : Edge) → Passed (tests e) → Holds e
-unfolding tests Passed
+unfolding tests Passed pseudo.isOf
 row-holds (checks flag length check bytes) (small, (v, (f, (l, (c, t))))) =
     let h = received (flag ∷ bytes) in
     (passing-valid h (ltb→lt h (2 ^ 32) small) v, eqb→eq (flagIn h) flag f, eqb→eq (lengthIn h) length l, eqb→eq (checkIn h) check c)
@@ -246,8 +260,12 @@ row-holds (overlong rate-1200 numbers head format sync length) (is, (small, (man
     )
 row-holds (longest bytes characters) (most, (ours, t)) = (
   λ text carried few built. omega (arith, built-bound carried built, eqb→eq characters (16 * (8 * bytes / 6)) most),
-  slashes-bytes characters ∙ eqb→eq ((6 * ((characters + 15) / 16) + 7) / 8) bytes ours,
+  alike-bytes pseudo.slashes 47 characters refl .3 ∙ eqb→eq (fullBytes pseudo.slashes characters) bytes ours,
 )
+row-holds (singly character count single ours) (has, (one, (full, t))) =
+    let k = pseudo-writer.kind character in
+    let b = alike-bytes k character count (kind-of k character has refl) in
+    ((b .0, b .1, b .2 ∙ eqb→eq (singleBytes k count) single one), b .3 ∙ eqb→eq (fullBytes k count) ours full)
 row-holds (lacks format text index) (there, (before, (none, t))) =
     record {
       there = ltb→lt index (length text) there;
@@ -266,18 +284,18 @@ rows-hold (e ∷ es) (p, t) = (row-holds e (passed (tests e) p), rows-hold es t)
 
 -- every row's tests, computed: one `tt` a row
 computed : Passed (every-row edges)
-unfolding Passed every-row every-test tests ceiling same other ours reading comes-to stuck-at findsNone none isValid search answerOf turnedOver turnings chosen maskOf all onesIn Odd received distance differences
+unfolding Passed every-row every-test tests ceiling width each started same other ours reading comes-to stuck-at findsNone none isValid search answerOf turnedOver turnings chosen maskOf all onesIn Odd received distance differences
     flagIn checkIn checkOf informationIn lengthIn remainder generator bytesOf headerFor headerOf lowFlag parityFor fieldsIn messageTypeIn extendedTypeIn spareIn syncIn flagBits
     bits bit low numbers every begun fills find answer stateAfter codes texts value bytes packed gap filled written
     pseudo.isOf pseudo.coded pseudo.valueOf pseudo.characterOf pseudo.indicator pseudo.most pseudo.indicators pseudo.six pseudo.tables
-    pseudo-writer.kind pseudo-writer.run pseudo-writer.besides pseudo-writer.oursAfter pseudo-writer.ours pseudo-writer.backAs pseudo-writer.comesBack
+    pseudo-writer.kind pseudo-writer.run pseudo-writer.besides pseudo-writer.ourMost pseudo-writer.oursAfter pseudo-writer.ours pseudo-writer.backAs pseudo-writer.comesBack
     codeFor consecutive lastOf eachAfter ended lineEnds found first saying meaning character spelled textOf
     numeric.characters numeric.table numeric-translation.sent numeric-translation.itself numeric-translation.specials numeric-translation.translation
     numeric-translation.translated numeric-writer.own numeric-writer.baseOf numeric-writer.clashes numeric-writer.codedBehind numeric-writer.evened
     numeric-writer.sentFor numeric-writer.ours numeric-writer.comesBack shef.table shef-writer.coded shef-writer.own shef-writer.ours
     ascii.six ascii.seven ascii.special ascii.pair ascii.table ascii-writer.own ascii-writer.ours
 computed =
-    (tt, (tt, (tt, (tt, (tt, (tt, (tt, (tt, (tt, (tt, (tt, (tt, (tt, (tt, (tt, (tt, (tt, (tt, (tt, (tt, (tt, (tt, (tt, (tt, (tt, (tt, (tt, (tt, (tt, (tt, (tt, (tt, (tt, (tt, (tt, (tt, (tt, (tt, (tt, (tt, (tt, (tt, (tt, (tt, (tt, (tt, (tt, (tt, (tt, (tt, (tt, (tt, (tt, (tt, (tt, (tt, (tt, (tt, (tt, (tt, (tt, (tt, (tt, (tt, (tt, (tt, (tt, (tt, (tt, (tt, (tt, (tt, (tt, (tt, (tt, (tt, (tt, (tt, (tt, (tt, tt))))))))))))))))))))))))))))))))))))))))))))))))))))))))))))))))))))))))))))))))
+    (tt, (tt, (tt, (tt, (tt, (tt, (tt, (tt, (tt, (tt, (tt, (tt, (tt, (tt, (tt, (tt, (tt, (tt, (tt, (tt, (tt, (tt, (tt, (tt, (tt, (tt, (tt, (tt, (tt, (tt, (tt, (tt, (tt, (tt, (tt, (tt, (tt, (tt, (tt, (tt, (tt, (tt, (tt, (tt, (tt, (tt, (tt, (tt, (tt, (tt, (tt, (tt, (tt, (tt, (tt, (tt, (tt, (tt, (tt, (tt, (tt, (tt, (tt, (tt, (tt, (tt, (tt, (tt, (tt, (tt, (tt, (tt, (tt, (tt, (tt, (tt, (tt, (tt, (tt, (tt, (tt, (tt, tt))))))))))))))))))))))))))))))))))))))))))))))))))))))))))))))))))))))))))))))))))
 
 -- the one statement: every row of the table
 pub edges-hold : Every edges

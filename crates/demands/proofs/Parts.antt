@@ -6,7 +6,7 @@ use mathlib.Core.List.{List, [], _∷_, _++_}
 use mathlib.Core.Path.{_≡_, sym, ap, _∙_}
 use Prim.Native.Nat.{ℕ, suc, _+_, _/_, _%_, _^_, _≤_, _<_}
 use native.Mathlib.Omega.{arith}
-use lib.ListN.{length, drop, length-drop}
+use lib.ListN.{length, drop, length-append, length-drop}
 use Rattle.bits.specs.Row.{Bytes}
 use Rattle.header.specs.declared.Format.{Format}
 use Rattle.header.specs.Fields.{fieldsIn, headerOf, sentFields, wordOf, bytesOf}
@@ -14,8 +14,8 @@ use Rattle.header.specs.Formats.{HasFormat, formatNumber}
 use Rattle.header.specs.Valid.{Valid, lengthIn}
 use Rattle.header.proofs.Made.{valid-made}
 use Rattle.sections.specs.Sections.{sentLength, inSections}
-use Rattle.sections.proofs.Found.{joined-length, sent-back}
-use Rattle.packet.specs.Packet.{wholeLength, received, dataIn, Summed, headerFor}
+use Rattle.sections.proofs.Found.{joined-length, sent-back, sent-length}
+use Rattle.packet.specs.Packet.{wholeLength, received, dataIn, Summed, packetOf, headerFor}
 
 -- ---- the header
 
@@ -73,6 +73,10 @@ head-and-rest (a ∷ []) four bytes = absurd (let no′ : ⊥ = omega arith in n
 head-and-rest [] four bytes = absurd (let no′ : ⊥ = omega arith in no′)
 
 -- ---- what is behind it
+
+pub packet-length : (header : ℕ) (carried : List ℕ) → length (packetOf header carried) ≡ wholeLength (length carried)
+unfolding packetOf bytesOf
+packet-length header carried = omega (arith, length-append (bytesOf header) (inSections carried), sent-length carried)
 
 module _ (packet : List ℕ) (header : ℕ) (whole : wholeLength (lengthIn header) ≤ length packet) where
   all-there : sentLength (lengthIn header) ≤ length (drop 4 packet)

@@ -54,6 +54,8 @@ pub data Edge : Type 0 where
   overlong : (rate-1200 : Bool) (numbers : List ℕ) → List ℕ → Format → (sync : Bool) (length : ℕ) → Edge
   -- no Pseudo Binary data of so many bytes carries a text of more characters, and ours of as many slashes has just so many bytes
   longest : (length characters : ℕ) → Edge
+  -- so many of one character in Pseudo Binary, each under an indicator of its own, take so many data bytes, and ours of them so many
+  singly : (character count single ours : ℕ) → Edge
 
 -- it is so whichever of the numbers is named
 abbrev pub Naming : List ℕ → (ℕ → Type 0) → Type 0
@@ -93,6 +95,9 @@ Holds (overlong rate-1200 numbers head format sync length) =
 Holds (longest bytes characters) =
     ((text carried : List ℕ) → length carried ≤ bytes → Carries PseudoBinary text carried → length text ≤ characters)
     × (length (dataOf PseudoBinary (replicate characters 47)) ≡ bytes)
+Holds (singly character count single ours) =
+    let text = replicate count character in
+    ((carried : List ℕ) × Carries PseudoBinary (comesBack PseudoBinary text) carried × (length carried ≡ single)) × (length (dataOf PseudoBinary text) ≡ ours)
 
 -- text in ASCII: A 65, B 66, E 69, a 97, > 62, ? 63, ~ 126, DEL 127, 0 48, 1 49, 2 50, space 32, # 35, + 43, - 45, . 46, slash 47, : 58, ; 59, = 61, CR 13, LF 10
 abbrev pub edges : List Edge
@@ -214,6 +219,10 @@ edges =
     -- R3
     ∷ longest 4000 85328
     ∷ longest 16000 341328
+    -- A1
+    ∷ singly 47 5333 4000 251
+    -- A2
+    ∷ singly 65 128 224 97
     ∷ []
 
 abbrev pub Every : List Edge → Type 0

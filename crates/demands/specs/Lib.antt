@@ -4,6 +4,7 @@ pub mod Demand3
 pub mod Edges
 pub mod HowManyCodes
 pub mod Makers
+pub mod NoShorter
 pub mod OneAnswer
 pub mod Promised
 pub mod WhichBits

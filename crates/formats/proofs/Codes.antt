@@ -109,7 +109,7 @@ reached FullAscii n =
 pub ours-codes : (format : Format) (text u : List ℕ) → AllCoded format text → (b : Carries format u (dataOf format text))
     → codesIn format u (dataOf format text) b ≡ codesOf format text
 ours-codes Open text u h b = refl
-ours-codes PseudoBinary text u h b = pseudo-writer.writer-laws .ours-count pseudo-table.laws text u h b
-ours-codes Numeric text u h b = numeric-writer.ours-count text u b
-ours-codes Shef text u h b = shef-writer.writer-laws .ours-count shef-table.laws text u h b
-ours-codes FullAscii text u h b = ascii-writer.writer-laws .ours-count ascii-table.laws text u h b
+ours-codes PseudoBinary text u h b = ap length (pseudo-writer.writer-laws .ours-entries pseudo-table.laws text u h b)
+ours-codes Numeric text u h b = ap length (numeric-writer.ours-entries text u b)
+ours-codes Shef text u h b = ap length (shef-writer.writer-laws .ours-entries shef-table.laws text u h b)
+ours-codes FullAscii text u h b = ap length (ascii-writer.writer-laws .ours-entries ascii-table.laws text u h b)

@@ -1,3 +1,4 @@
+pub mod Bits
 pub mod Codes
 pub mod Formats
 pub mod NumericData

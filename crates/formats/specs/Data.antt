@@ -8,7 +8,8 @@ use Prim.Native.Nat.{ℕ}
 use lib.ListN.{length}
 use Rattle.header.specs.declared.Format.{Format}
 use Rattle.header.specs.declared.Format.the-variants.{Open, PseudoBinary, Numeric, Shef, FullAscii}
-use Rattle.codes.specs.Chain.{Built, Malformed, countIn, countBefore}
+use Rattle.bits.specs.Row.{bits}
+use Rattle.codes.specs.Chain.{Built, Malformed, countIn, countBefore, bitsIn}
 use Rattle.codes.specs.Coded.{alone, CodedBelow, FirstUncoded}
 use Rattle.codes.specs.Pack.{written}
 use Rattle.full_ascii.specs.Table as ascii
@@ -45,7 +46,15 @@ codesIn Numeric text carried built = countIn (built .codes)
 codesIn Shef text carried built = countIn built
 codesIn FullAscii text carried built = countIn built
 
--- and how many come before the first that is unreadable
+-- how many bits of it stand before its fill: those of the building's codes. Open has no fill
+abbrev pub bitsBeforeFill : (format : Format) (text carried : List ℕ) → Carries format text carried → ℕ
+bitsBeforeFill Open text carried built = length (bits carried)
+bitsBeforeFill PseudoBinary text carried built = bitsIn built
+bitsBeforeFill Numeric text carried built = bitsIn (built .codes)
+bitsBeforeFill Shef text carried built = bitsIn built
+bitsBeforeFill FullAscii text carried built = bitsIn built
+
+-- how many codes come before the first that is unreadable
 abbrev pub codesBefore : (format : Format) (carried : List ℕ) (i : ℕ) → Unreadable format carried i → ℕ
 codesBefore Open carried i stuck = 0
 codesBefore PseudoBinary carried i stuck = countBefore stuck

@@ -1,3 +1,4 @@
 pub mod Ceiling
 pub mod Data
 pub mod Steps
+pub mod Waste

@@ -1,3 +1,4 @@
 pub mod Entries
 pub mod Table
+pub mod Waste
 pub mod Writer

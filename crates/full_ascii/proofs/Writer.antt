@@ -65,7 +65,7 @@ ours-row =
 unfoldable pub size : List ℕ → ℕ
 size t = length (codes (ours t))
 
-size-pair : (t : List ℕ) → size (CR ∷ LF ∷ t) ≡ length (pair .code) + size t
+pub size-pair : (t : List ℕ) → size (CR ∷ LF ∷ t) ≡ length (pair .code) + size t
 unfolding size ours codes pair special low bit
 size-pair t = omega arith
 

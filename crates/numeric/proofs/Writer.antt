@@ -11,7 +11,7 @@ use lib.ListN.{length, length-append, take, getD}
 use Rattle.bits.specs.Numbers.{numbers}
 use Rattle.bits.specs.Row.{bits, Bytes}
 use Rattle.codes.specs.Chain as chain
-use Rattle.codes.specs.Chain.{Entry, In, Row, codes, texts, countIn, Malformed}
+use Rattle.codes.specs.Chain.{Entry, In, Row, codes, texts, bitsIn, Malformed}
 use Rattle.codes.specs.Coded.{lastOf}
 use Rattle.codes.specs.Consecutive.{codeFor, consecutive}
 use Rattle.codes.specs.LineEnds.{eachAfter, ended, lineEnds}
@@ -19,7 +19,7 @@ use Rattle.codes.specs.Lookup.{same, found, saying, meaning}
 use Rattle.codes.specs.Pack.{low, gap, written}
 use Rattle.bits.proofs.Said.{and-left, and-right}
 use Rattle.codes.proofs.BitsInBytes.{length-written, written-built, length-bits}
-use Rattle.codes.proofs.WriterLaws.{written-count}
+use Rattle.codes.proofs.WriterLaws.{written-entries}
 use Rattle.codes.proofs.CodedBehind.{coded-after, after-coded}
 use Rattle.codes.proofs.CodedTexts.{coded-every}
 use Rattle.codes.proofs.DataLaws.{DataLaws}
@@ -250,16 +250,28 @@ ours-built t h =
           (ours-binary t));
     }
 
--- with as many codes as it has entries
-pub ours-count : (t u : List ℕ) (b : Built u (written (ours t))) → countIn (b .codes) ≡ length (ours t)
-ours-count t u b =
-    written-count four-bits.laws (ours t) (even-closes (length (codes (ours t))) (length (sentFor t)) (ours-size t) (sent-even t)) (ours-row t)
+-- of these entries, and of no others
+pub ours-entries : (t u : List ℕ) (b : Built u (written (ours t))) → b .codes .entries ≡ ours t
+ours-entries t u b =
+    written-entries four-bits.laws (ours t) (even-closes (length (codes (ours t))) (length (sentFor t)) (ours-size t) (sent-even t)) (ours-row t)
     (ours-binary t) (b .codes)
 
 -- all data that carries what a text comes back as has the same base characters, so as many bytes
 same-base : (t carried : List ℕ) → AllCoded t → (b : Built (comesBack t) carried) → b .base ≡ sentFor t
 same-base t carried h b =
     one-sending (b .base) (comesBack t) (b .translates) ∙ sym (one-sending (sentFor t) (comesBack t) (ours-translates t h))
+
+-- four bits for each, before a fill that has none
+base-bits : (text carried : List ℕ) (b : Built text carried) → bitsIn (b .codes) ≡ 4 * length (b .base)
+base-bits text carried b =
+    let c = b .codes in
+    four-each (c .entries) (row-all table 0 0 0 (c .entries) (c .row)) ∙ ap (λ (u : List ℕ). 4 * length u) (c .says)
+
+-- data that carries one text has as many bits before its fill
+pub same-bits : (text a b : List ℕ) (p : Built text a) (q : Built text b) → bitsIn (p .codes) ≡ bitsIn (q .codes)
+same-bits text a b p q =
+    let base = one-sending (p .base) text (p .translates) ∙ sym (one-sending (q .base) text (q .translates)) in
+    base-bits text a p ∙ ap (λ (u : List ℕ). 4 * length u) base ∙ sym (base-bits text b q)
 
 no-fewer-bytes : (t carried : List ℕ) → AllCoded t → Built (comesBack t) carried → length (written (ours t)) ≤ length carried
 no-fewer-bytes t carried h b =

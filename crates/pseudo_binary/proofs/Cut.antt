@@ -10,11 +10,23 @@ use lib.ListN.{length, take, drop, length-drop, take-append-drop}
 use lib.Seq.{drop-drop, length-take-le}
 use Rattle.codes.specs.Chain.{Entry}
 use Rattle.pseudo_binary.specs.Table.{Kind, values, spaces, slashes, indicator, most}
-use Rattle.pseudo_binary.specs.Writer.{ours, Alike}
+use Rattle.pseudo_binary.specs.Writer.{ourMost, ours, Alike}
 use Rattle.pseudo_binary.specs.Makers.{spelled}
 use Rattle.pseudo_binary.proofs.Characters.{Other}
-use Rattle.pseudo_binary.proofs.Entries.{pred-most}
 use Rattle.pseudo_binary.proofs.Writer.{ours-cut}
+
+-- ours count as many as one can, and that is one at the least
+our-most : (k : Kind) → ourMost k ≡ most k
+unfolding ourMost most
+our-most values = refl
+our-most spaces = refl
+our-most slashes = refl
+
+pred-most : (k : Kind) → suc (pred (most k)) ≡ most k
+unfolding most
+pred-most values = refl
+pred-most spaces = refl
+pred-most slashes = refl
 
 -- n indicators, each as full as one can be, and what the characters that they count take besides
 unfoldable pub fullest : Kind → ℕ → List ℕ → List Entry
@@ -40,14 +52,14 @@ alike-drop k (suc n) (c ∷ r) a = alike-drop k n r (a .1)
 cut-full : (k : Kind) (r t : List ℕ) → Alike k r → length r ≡ most k → ours (r ++ t) ≡ (indicator k (pred (most k)) ∷ spelled k r) ++ ours t
 cut-full k [] t a e = absurd (let none : ⊥ = omega (arith, pred-most k) in none)
 cut-full k (c ∷ r) t a e =
-    ours-cut k c r t a (omega arith) (inl e)
+    ours-cut k c r t a (omega (arith, our-most k)) (inl (e ∙ sym (our-most k)))
     ∙ ap (λ (n : ℕ). (indicator k n ∷ spelled k (c ∷ r)) ++ ours t) (let x : length r ≡ pred (most k) = omega (arith, pred-most k) in x)
 
 -- or fewer
 cut-last : (k : Kind) (r t : List ℕ) → Alike k r → Other k t → length r < most k → ours (r ++ t) ≡ remainder k r ++ ours t
 unfolding remainder
 cut-last k [] t a o h = refl
-cut-last k (c ∷ r) t a o h = ours-cut k c r t a (omega arith) (inr o)
+cut-last k (c ∷ r) t a o h = ours-cut k c r t a (omega (arith, our-most k)) (inr o)
 
 cuts : (k : Kind) (n : ℕ) (r t : List ℕ) → Alike k r → Other k t → n * most k ≤ length r → length r < n * most k + most k
     → ours (r ++ t) ≡ fullest k n r ++ (remainder k (drop (n * most k) r) ++ ours t)

@@ -3,20 +3,28 @@
 use mathlib.Core.Path.{_≡_, refl, sym}
 use mathlib.Core.Logic.{⊎-elim}
 use mathlib.Core.List.{List·Memᴰ·append-cases, Memᴰ·append-left, Memᴰ·append-right, Memᴰ·map, Memᴰ·of-map}
-use Prim.Native.Nat.{ℕ, suc, pred, _<_}
+use Prim.Native.Nat.{ℕ, suc, pred, _≤_, _<_}
 use native.Mathlib.Nat.{add-zero}
 use native.Mathlib.Omega.{arith}
+use lib.Dec.{lit≤}
 use Rattle.bits.specs.Numbers.{numbers}
 use Rattle.bits.proofs.Numbers.{in-numbers, numbers-in}
 use Rattle.codes.specs.Chain.{Entry, In, stateAfter}
 use Rattle.pseudo_binary.specs.Table.{Kind, values, spaces, slashes, indicator, most, indicators, six, tables}
+use Rattle.pseudo_binary.specs.Writer.{ourMost}
 
--- an indicator counts one at the least
-pub pred-most : (k : Kind) → suc (pred (most k)) ≡ most k
-unfolding most
-pred-most values = refl
-pred-most spaces = refl
-pred-most slashes = refl
+-- an indicator of ours counts one at the least, and no more than one can
+pub pred-our-most : (k : Kind) → suc (pred (ourMost k)) ≡ ourMost k
+unfolding ourMost
+pred-our-most values = refl
+pred-our-most spaces = refl
+pred-our-most slashes = refl
+
+pub our-most-few : (k : Kind) → ourMost k ≤ most k
+unfolding ourMost most
+our-most-few values = lit≤ tt
+our-most-few spaces = lit≤ tt
+our-most-few slashes = lit≤ tt
 
 counted-in : (k : Kind) (c : ℕ) → c < most k → In (indicator k c) (indicators k)
 unfolding indicators

@@ -13,11 +13,18 @@ use Rattle.codes.specs.Chain.{Entry, In, stateAfter, Row, codes, texts}
 use Rattle.codes.specs.Pack.{low}
 use Rattle.codes.proofs.LeastCost.{Cost, cost-shortest}
 use Rattle.pseudo_binary.specs.Table.{SPACE, SLASH, Kind, values, spaces, slashes, isOf, characterOf, indicator, most, six, tables, scheme}
-use Rattle.pseudo_binary.specs.Writer.{ours, Alike}
+use Rattle.pseudo_binary.specs.Writer.{ourMost, ours, Alike}
 use Rattle.pseudo_binary.proofs.Length.{width, each, bitsAfter, ourBits}
 use Rattle.pseudo_binary.proofs.Characters.{alike-replicate, of-kind, characterOf-value}
-use Rattle.pseudo_binary.proofs.Entries.{pred-most, indicator-of, six-of, after-six}
+use Rattle.pseudo_binary.proofs.Entries.{pred-our-most, our-most-few, indicator-of, six-of, after-six}
 use Rattle.pseudo_binary.proofs.Size.{none-in-hand, opens, counts, no-use, our-bits}
+
+-- no indicator counts more than ours do
+none-fuller : (k : Kind) (n : ℕ) → n < most k → n ≤ pred (ourMost k)
+unfolding most ourMost
+none-fuller values n h = omega arith
+none-fuller spaces n h = omega arith
+none-fuller slashes n h = omega arith
 
 -- an indicator that can count more takes no more bits, and one that can count less at most an indicator more
 record Room (k : Kind) (t : List ℕ) : Type 0 where
@@ -31,19 +38,19 @@ room-cons k c t r false x = record {
 }
 room-cons k c t r true x = record { more = more; less = less }
   where
-    fresh : bitsAfter k 0 (c ∷ t) ≡ width k + (each k + bitsAfter k (pred (most k)) t)
+    fresh : bitsAfter k 0 (c ∷ t) ≡ width k + (each k + bitsAfter k (pred (ourMost k)) t)
     fresh = none-in-hand k (c ∷ t) ∙ opens k c t (of-kind k c x)
 
     more : (n m : ℕ) → m ≤ n → bitsAfter k n (c ∷ t) ≤ bitsAfter k m (c ∷ t)
     more zero zero h = omega arith
     more zero (suc m) h = absurd (let no : ⊥ = omega arith in no)
-    more (suc n) zero h = omega (arith, fresh, counts k n c t x, r .less n (pred (most k)) (omega (arith, pred-most k)))
+    more (suc n) zero h = omega (arith, fresh, counts k n c t x, r .less n (pred (ourMost k)) (omega (arith, pred-our-most k, our-most-few k)))
     more (suc n) (suc m) h = omega (arith, counts k n c t x, counts k m c t x, r .more n m (omega arith))
 
     less : (n m : ℕ) → m ≤ most k → bitsAfter k n (c ∷ t) ≤ width k + bitsAfter k m (c ∷ t)
     less zero zero h = omega arith
-    less zero (suc m) h = omega (arith, fresh, counts k m c t x, r .more (pred (most k)) m (omega (arith, pred-most k)))
-    less (suc n) zero h = omega (arith, fresh, counts k n c t x, r .less n (pred (most k)) (omega (arith, pred-most k)))
+    less zero (suc m) h = omega (arith, fresh, counts k m c t x, r .more (pred (ourMost k)) m (none-fuller k m h))
+    less (suc n) zero h = omega (arith, fresh, counts k n c t x, r .less n (pred (ourMost k)) (omega (arith, pred-our-most k, our-most-few k)))
     less (suc n) (suc m) h = omega (arith, counts k n c t x, counts k m c t x, r .less n m (omega arith))
 
 room : (k : Kind) (t : List ℕ) → Room k t
@@ -66,7 +73,7 @@ indicator-cost k (c ∷ r) t a p h =
     (omega (
       arith,
       opens k c (r ++ t) (of-kind k c (a .0)),
-      counted-cost k (pred (most k)) r t (a .1) (omega (arith, pred-most k)),
+      counted-cost k (pred (ourMost k)) r t (a .1) (none-fuller k (length r) h),
     ))
 
 -- the values that were announced come next

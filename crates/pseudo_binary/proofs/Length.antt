@@ -3,8 +3,8 @@
 use mathlib.Core.Bool.{Bool, false, cond}
 use mathlib.Core.List.{List, [], _∷_}
 use Prim.Native.Nat.{ℕ, zero, suc, pred, _+_}
-use Rattle.pseudo_binary.specs.Table.{Kind, values, spaces, slashes, isOf, most}
-use Rattle.pseudo_binary.specs.Writer.{kind}
+use Rattle.pseudo_binary.specs.Table.{Kind, values, spaces, slashes, isOf}
+use Rattle.pseudo_binary.specs.Writer.{kind, ourMost}
 
 -- the bits of an indicator
 unfoldable pub width : Kind → ℕ
@@ -28,7 +28,7 @@ unfoldable pub bitsAfter : Kind → ℕ → List ℕ → ℕ
 bitsAfter k n [] = 0
 bitsAfter k n (c ∷ text) =
     let counted = each k + bitsAfter k (pred n) text in
-    let opened = width (kind c) + (each (kind c) + bitsAfter (kind c) (pred (most (kind c))) text) in
+    let opened = width (kind c) + (each (kind c) + bitsAfter (kind c) (pred (ourMost (kind c))) text) in
     cond (takes k n c) counted opened
 
 -- at the front there is none, of any kind

@@ -9,4 +9,5 @@ pub mod Makers
 pub mod Runs
 pub mod Size
 pub mod Table
+pub mod Waste
 pub mod Writer

@@ -9,8 +9,8 @@ use native.Mathlib.Omega.{arith}
 use lib.ListN.{length, length-append}
 use Rattle.codes.specs.Chain.{Entry, codes}
 use Rattle.codes.specs.Pack.{low}
-use Rattle.pseudo_binary.specs.Table.{Kind, values, spaces, slashes, isOf, indicator, most, six}
-use Rattle.pseudo_binary.specs.Writer.{kind, run, besides, oursAfter, ours, Alike}
+use Rattle.pseudo_binary.specs.Table.{Kind, values, spaces, slashes, isOf, indicator, six}
+use Rattle.pseudo_binary.specs.Writer.{kind, run, ourMost, besides, oursAfter, ours, Alike}
 use Rattle.pseudo_binary.proofs.Length.{width, each, takes, bitsAfter, ourBits}
 use Rattle.pseudo_binary.proofs.Characters.{Other, of-kind}
 
@@ -28,7 +28,7 @@ besides-each spaces c es = omega arith
 besides-each slashes c es = omega arith
 
 -- one indicator, and the character that it is opened for
-opened-bits : (k : Kind) (j c : ℕ) (es : List Entry)
+pub opened-bits : (k : Kind) (j c : ℕ) (es : List Entry)
     → length (codes (indicator k j ∷ (besides k c ++ es))) ≡ width k + (each k + length (codes es))
 unfolding codes
 opened-bits k j c es =
@@ -40,20 +40,20 @@ after-bits k zero [] = refl
 after-bits k (suc n) [] = refl
 after-bits k zero (c ∷ t) =
     let j : Kind = kind c in
-    let m : ℕ = run j (pred (most j)) t in
-    opened-bits j m c (oursAfter m t) ∙ ap (λ (x : ℕ). width j + (each j + x)) (after-bits j (pred (most j)) t)
-after-bits k (suc n) (c ∷ t) = pick (isOf k c) refl (after-bits k n t) (after-bits (kind c) (pred (most (kind c))) t)
+    let m : ℕ = run j (pred (ourMost j)) t in
+    opened-bits j m c (oursAfter m t) ∙ ap (λ (x : ℕ). width j + (each j + x)) (after-bits j (pred (ourMost j)) t)
+after-bits k (suc n) (c ∷ t) = pick (isOf k c) refl (after-bits k n t) (after-bits (kind c) (pred (ourMost (kind c))) t)
   where
     j : Kind
     j = kind c
 
     m : ℕ
-    m = run j (pred (most j)) t
+    m = run j (pred (ourMost j)) t
 
     pick : (b : Bool) → isOf k c ≡ b → length (codes (oursAfter (run k n t) t)) ≡ bitsAfter k n t
-        → length (codes (oursAfter m t)) ≡ bitsAfter j (pred (most j)) t
+        → length (codes (oursAfter m t)) ≡ bitsAfter j (pred (ourMost j)) t
         → length (codes (oursAfter (cond b (suc (run k n t)) 0) (c ∷ t)))
-        ≡ cond b (each k + bitsAfter k n t) (width j + (each j + bitsAfter j (pred (most j)) t))
+        ≡ cond b (each k + bitsAfter k n t) (width j + (each j + bitsAfter j (pred (ourMost j)) t))
     pick true x h g =
         ap (λ (l : Kind). length (codes (besides l c ++ oursAfter (run k n t) t))) (of-kind k c x)
         ∙ besides-each k c (oursAfter (run k n t) t) ∙ ap (λ (x : ℕ). each k + x) h
@@ -70,21 +70,21 @@ unfolding takes bitsAfter ourBits
 none-in-hand k [] = refl
 none-in-hand k (c ∷ t) = refl
 
-pub opens : (k : Kind) (c : ℕ) (t : List ℕ) → kind c ≡ k → ourBits (c ∷ t) ≡ width k + (each k + bitsAfter k (pred (most k)) t)
+pub opens : (k : Kind) (c : ℕ) (t : List ℕ) → kind c ≡ k → ourBits (c ∷ t) ≡ width k + (each k + bitsAfter k (pred (ourMost k)) t)
 unfolding takes bitsAfter ourBits
-opens k c t e = ap (λ (j : Kind). width j + (each j + bitsAfter j (pred (most j)) t)) e
+opens k c t e = ap (λ (j : Kind). width j + (each j + bitsAfter j (pred (ourMost j)) t)) e
 
 -- one that can count more counts a character of its kind, and is of no use for another
 pub counts : (k : Kind) (n c : ℕ) (t : List ℕ) → isOf k c ≡ true → bitsAfter k (suc n) (c ∷ t) ≡ each k + bitsAfter k n t
 unfolding takes bitsAfter
 counts k n c t x =
-    ap (λ (b : Bool). cond b (each k + bitsAfter k n t) (width (kind c) + (each (kind c) + bitsAfter (kind c) (pred (most (kind c))) t))) x
+    ap (λ (b : Bool). cond b (each k + bitsAfter k n t) (width (kind c) + (each (kind c) + bitsAfter (kind c) (pred (ourMost (kind c))) t))) x
 
 pub no-use : (k : Kind) (n c : ℕ) (t : List ℕ) → isOf k c ≡ false → bitsAfter k n (c ∷ t) ≡ ourBits (c ∷ t)
 unfolding takes bitsAfter ourBits
 no-use k zero c t x = refl
 no-use k (suc n) c t x =
-    ap (λ (b : Bool). cond b (each k + bitsAfter k n t) (width (kind c) + (each (kind c) + bitsAfter (kind c) (pred (most (kind c))) t))) x
+    ap (λ (b : Bool). cond b (each k + bitsAfter k n t) (width (kind c) + (each (kind c) + bitsAfter (kind c) (pred (ourMost (kind c))) t))) x
 
 no-use-other : (k : Kind) (n : ℕ) (t : List ℕ) → Other k t → bitsAfter k n t ≡ ourBits t
 unfolding takes bitsAfter ourBits
@@ -93,16 +93,16 @@ no-use-other k n (c ∷ t) o = no-use k n c t o
 
 -- how many indicators are started for n characters of kind k
 unfoldable pub started : Kind → ℕ → ℕ
-started k n = (n + pred (most k)) / most k
+started k n = (n + pred (ourMost k)) / ourMost k
 
 started-none : (k : Kind) (n : ℕ) → started k (0 - n) ≡ 0
-unfolding started most
+unfolding started ourMost
 started-none values n = omega arith
 started-none spaces n = omega arith
 started-none slashes n = omega arith
 
-started-one : (k : Kind) (n : ℕ) → started k (suc n) ≡ suc (started k (n - pred (most k)))
-unfolding started most
+started-one : (k : Kind) (n : ℕ) → started k (suc n) ≡ suc (started k (n - pred (ourMost k)))
+unfolding started ourMost
 started-one values n = omega arith
 started-one spaces n = omega arith
 started-one slashes n = omega arith
@@ -117,7 +117,7 @@ run-after k zero (c ∷ r) t a o =
       arith,
       none-in-hand k (c ∷ (r ++ t)),
       opens k c (r ++ t) (of-kind k c (a .0)),
-      run-after k (pred (most k)) r t (a .1) o,
+      run-after k (pred (ourMost k)) r t (a .1) o,
       simp unary-clauses at (ap (λ (x : ℕ). width k * x) (started-one k (length r))),
     ))
 run-after k (suc n) (c ∷ r) t a o = simp unary-clauses (omega (arith, counts k n c (r ++ t) (a .0), run-after k n r t (a .1) o))

@@ -19,11 +19,11 @@ use Rattle.codes.proofs.BitsInBytes.{gap-few}
 use Rattle.codes.proofs.WriterLaws as writing
 use Rattle.codes.proofs.WriterLaws.{spells, said-coded, WriterFacts, WriterLaws}
 use Rattle.pseudo_binary.specs.Table.{Kind, values, spaces, slashes, isOf, coded, AllCoded, characterOf, indicator, most, indicators, six, tables, scheme}
-use Rattle.pseudo_binary.specs.Writer.{backAs, comesBack, kind, run, besides, oursAfter, ours, Alike}
+use Rattle.pseudo_binary.specs.Writer.{backAs, comesBack, kind, run, besides, ourMost, oursAfter, ours, Alike}
 use Rattle.pseudo_binary.specs.Makers.{spelled}
 use Rattle.pseudo_binary.proofs.Table.{laws, sounds, all-bits}
 use Rattle.pseudo_binary.proofs.Characters.{Other, of-kind, kind-of, isOf-back, valueOf-same}
-use Rattle.pseudo_binary.proofs.Entries.{pred-most}
+use Rattle.pseudo_binary.proofs.Entries.{pred-our-most, our-most-few}
 use Rattle.pseudo_binary.proofs.Least.{shortest}
 use Rattle.pseudo_binary.proofs.Runs.{said, announced, Counted, counted-none, counted-one, counted-all}
 
@@ -42,11 +42,11 @@ run-le k (suc n) (c ∷ t) = pick (isOf k c) (run-le k n t)
 abbrev Follows : Kind → ℕ → List ℕ → Type 0
 Follows k n t = Counted k (run k n t) t (oursAfter (run k n t) t)
 
-follows-new : (k : Kind) (c : ℕ) (t : List ℕ) → T (coded c) → Follows (kind c) (pred (most (kind c))) t
+follows-new : (k : Kind) (c : ℕ) (t : List ℕ) → T (coded c) → Follows (kind c) (pred (ourMost (kind c))) t
     → Counted k 0 (c ∷ t) (oursAfter 0 (c ∷ t))
 unfolding oursAfter
 follows-new k c t u h =
-    counted-all k (omega (arith, run-le (kind c) (pred (most (kind c))) t, pred-most (kind c)))
+    counted-all k (omega (arith, run-le (kind c) (pred (ourMost (kind c))) t, pred-our-most (kind c), our-most-few (kind c)))
     (counted-one c (kind-of (kind c) c u refl) h)
 
 follows : (k : Kind) (n : ℕ) (t : List ℕ) → AllCoded t → Follows k n t
@@ -54,12 +54,12 @@ unfolding run oursAfter texts comesBack
 follows k zero [] u = counted-none k refl refl
 follows k (suc n) [] u = counted-none k refl refl
 follows k zero (c ∷ t) u =
-    follows-new k c t (u 0 (omega arith)) (follows (kind c) (pred (most (kind c))) t (coded-rest coded c t u))
+    follows-new k c t (u 0 (omega arith)) (follows (kind c) (pred (ourMost (kind c))) t (coded-rest coded c t u))
 follows k (suc n) (c ∷ t) u =
     let rest : AllCoded t = coded-rest coded c t u in
-    pick (isOf k c) refl (follows k n t rest) (follows (kind c) (pred (most (kind c))) t rest)
+    pick (isOf k c) refl (follows k n t rest) (follows (kind c) (pred (ourMost (kind c))) t rest)
   where
-    pick : (b : Bool) → isOf k c ≡ b → Follows k n t → Follows (kind c) (pred (most (kind c))) t
+    pick : (b : Bool) → isOf k c ≡ b → Follows k n t → Follows (kind c) (pred (ourMost (kind c))) t
         → Counted k (cond b (suc (run k n t)) 0) (c ∷ t) (oursAfter (cond b (suc (run k n t)) 0) (c ∷ t))
     pick true x h g =
         subst⁻¹ (λ (l : Kind). Counted k (suc (run k n t)) (c ∷ t) (besides l c ++ oursAfter (run k n t) t)) (of-kind k c x)
@@ -97,13 +97,13 @@ run-whole k (suc n) (c ∷ r) t a h e =
     later (inl x) = inl (omega arith)
     later (inr x) = inr x
 
-pub ours-cut : (k : Kind) (c : ℕ) (r t : List ℕ) → Alike k (c ∷ r) → length r < most k → (suc (length r) ≡ most k) ⊎ Other k t
+pub ours-cut : (k : Kind) (c : ℕ) (r t : List ℕ) → Alike k (c ∷ r) → length r < ourMost k → (suc (length r) ≡ ourMost k) ⊎ Other k t
     → ours ((c ∷ r) ++ t) ≡ (indicator k (length r) ∷ spelled k (c ∷ r)) ++ ours t
 unfolding ours oursAfter spelled
 ours-cut k c r t a h e =
-    ap (λ (l : Kind). let m = run l (pred (most l)) (r ++ t) in indicator l m ∷ (besides l c ++ oursAfter m (r ++ t))) (of-kind k c (a .0))
+    ap (λ (l : Kind). let m = run l (pred (ourMost l)) (r ++ t) in indicator l m ∷ (besides l c ++ oursAfter m (r ++ t))) (of-kind k c (a .0))
     ∙ ap (λ (m : ℕ). indicator k m ∷ (besides k c ++ oursAfter m (r ++ t)))
-    (run-whole k (pred (most k)) r t (a .1) (omega (arith, pred-most k)) (⊎-elim (λ x. inl (omega (arith, pred-most k))) (λ x. inr x) e))
+    (run-whole k (pred (ourMost k)) r t (a .1) (omega (arith, pred-our-most k)) (⊎-elim (λ x. inl (omega (arith, pred-our-most k))) (λ x. inr x) e))
     ∙ ap (λ (es : List Entry). indicator k (length r) ∷ (besides k c ++ es)) (spelled-after k r t (a .1))
     ∙ ap (λ (es : List Entry). indicator k (length r) ∷ es) (sym (append-assoc (besides k c) (spelled k r) (ours t)))
 
@@ -147,9 +147,9 @@ ours-same [] n = refl
 ours-same (c ∷ t) zero =
     let back : List ℕ = comesBack t in
     let k : Kind = kind c in
-    let m : ℕ = run k (pred (most k)) t in
-    ap (λ (l : Kind). let n = run l (pred (most l)) back in indicator l n ∷ (besides l (backAs c) ++ oursAfter n back)) (kind-same c)
-    ∙ ap (λ (n : ℕ). indicator k n ∷ (besides k (backAs c) ++ oursAfter n back)) (run-same k (pred (most k)) t)
+    let m : ℕ = run k (pred (ourMost k)) t in
+    ap (λ (l : Kind). let n = run l (pred (ourMost l)) back in indicator l n ∷ (besides l (backAs c) ++ oursAfter n back)) (kind-same c)
+    ∙ ap (λ (n : ℕ). indicator k n ∷ (besides k (backAs c) ++ oursAfter n back)) (run-same k (pred (ourMost k)) t)
     ∙ ap₂ (λ (es ds : List Entry). indicator k m ∷ (es ++ ds)) (besides-same k c) (ours-same t m)
 ours-same (c ∷ t) (suc n) =
     ap (λ (l : Kind). besides l (backAs c) ++ oursAfter n (comesBack t)) (kind-same c)

@@ -6,7 +6,7 @@ use mathlib.Core.List.{List, [], _∷_, _++_, map}
 use Prim.Native.Nat.{ℕ, zero, suc, pred}
 use lib.Dec.{eqb}
 use Rattle.codes.specs.Chain.{Entry}
-use Rattle.pseudo_binary.specs.Table.{QUESTION_MARK, Kind, values, spaces, slashes, isOf, valueOf, indicator, most, six}
+use Rattle.pseudo_binary.specs.Table.{QUESTION_MARK, Kind, values, spaces, slashes, isOf, valueOf, indicator, six}
 
 -- the kind of a character that has a code
 unfoldable pub kind : ℕ → Kind
@@ -24,13 +24,19 @@ besides values c = six (valueOf c) ∷ []
 besides spaces c = []
 besides slashes c = []
 
+-- the most that one indicator of ours counts (RULES, Formats)
+unfoldable pub ourMost : Kind → ℕ
+ourMost values = 128
+ourMost spaces = 16
+ourMost slashes = 16
+
 -- the entries for a text whose first n characters are counted already. A character that is not gets an indicator, which counts it and those of its
--- kind right after it, as many as it can
+-- kind right after it, up to our most
 unfoldable pub oursAfter : ℕ → List ℕ → List Entry
 oursAfter n [] = []
 oursAfter zero (c ∷ text) =
     let k = kind c in
-    let more = run k (pred (most k)) text in
+    let more = run k (pred (ourMost k)) text in
     indicator k more ∷ (besides k c ++ oursAfter more text)
 oursAfter (suc n) (c ∷ text) = besides (kind c) c ++ oursAfter n text
 

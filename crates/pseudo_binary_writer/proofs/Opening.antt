@@ -14,11 +14,11 @@ use Rattle.bits.specs.Word.{bit}
 use Rattle.codes.specs.Chain.{Entry, codes}
 use Rattle.codes.specs.Pack.{low}
 use Rattle.codes.proofs.LowBits.{low-join}
-use Rattle.pseudo_binary.specs.Table.{SPACE, SLASH, Kind, values, spaces, slashes, isOf, indicator, most}
-use Rattle.pseudo_binary.specs.Writer.{kind, run, besides, oursAfter, ours}
+use Rattle.pseudo_binary.specs.Table.{SPACE, SLASH, Kind, values, spaces, slashes, isOf, indicator}
+use Rattle.pseudo_binary.specs.Writer.{kind, run, besides, ourMost, oursAfter, ours}
 use Rattle.pseudo_binary_writer.specs.Steps.Sending.{FirstIndicatorOf}
 use Rattle.pseudo_binary.proofs.Characters.{of-kind}
-use Rattle.pseudo_binary.proofs.Entries.{pred-most}
+use Rattle.pseudo_binary.proofs.Entries.{pred-our-most}
 use Rattle.pseudo_binary.proofs.Writer.{run-le}
 use Rattle.pseudo_binary_writer.proofs.Counting.{run-go, run-more, run-within, run-alike}
 
@@ -56,14 +56,14 @@ slashes-low j h =
 
 -- the first indicator of ours, of a character of kind k
 opening : (k : Kind) (c : ℕ) (t : List ℕ) → isOf k c ≡ true
-    → ours (c ∷ t) ≡ indicator k (run k (pred (most k)) t) ∷ oursAfter (suc (run k (pred (most k)) t)) (c ∷ t)
+    → ours (c ∷ t) ≡ indicator k (run k (pred (ourMost k)) t) ∷ oursAfter (suc (run k (pred (ourMost k)) t)) (c ∷ t)
 unfolding ours oursAfter
 opening k c t e =
-    ap (λ (j : Kind). indicator j (run j (pred (most j)) t) ∷ (besides (kind c) c ++ oursAfter (run j (pred (most j)) t) t)) (of-kind k c e)
+    ap (λ (j : Kind). indicator j (run j (pred (ourMost j)) t) ∷ (besides (kind c) c ++ oursAfter (run j (pred (ourMost j)) t) t)) (of-kind k c e)
 
 first-values : (c : ℕ) (t : List ℕ) (n : ℕ) → isOf values c ≡ true → n ≡ run values 128 (c ∷ t)
     → FirstIndicatorOf (c ∷ t) (record { bits = n - 1 + 128; width = 8; values = n; count = 0 })
-unfolding most
+unfolding ourMost
 first-values c t n e x =
     let more : ℕ = run values 127 t in
     let all : suc more ≡ n = sym (x ∙ run-go values 127 c t e) in
@@ -81,20 +81,20 @@ first-values c t n e x =
       alike = (e, run-alike values 127 t);
     })
 
-first-repeat : (k : Kind) (lead c : ℕ) (t : List ℕ) (n : ℕ) → ((d : ℕ) → besides k d ≡ []) → most k ≡ 16 → lead ≤ 48
-    → ((j : ℕ) → j < 16 → indicator k j .code ≡ low 6 (j + lead)) → isOf k c ≡ true → n ≡ run k (most k) (c ∷ t)
+first-repeat : (k : Kind) (lead c : ℕ) (t : List ℕ) (n : ℕ) → ((d : ℕ) → besides k d ≡ []) → ourMost k ≡ 16 → lead ≤ 48
+    → ((j : ℕ) → j < 16 → indicator k j .code ≡ low 6 (j + lead)) → isOf k c ≡ true → n ≡ run k (ourMost k) (c ∷ t)
     → FirstIndicatorOf (c ∷ t) (record { bits = n - 1 + lead; width = 6; values = 0; count = n })
 unfolding oursAfter ours
 first-repeat k lead c t n none m l codes e x =
-    let more : ℕ = run k (pred (most k)) t in
-    let all : n ≡ suc more = x ∙ ap (λ (j : ℕ). run k j (c ∷ t)) (sym (pred-most k)) ∙ run-go k (pred (most k)) c t e in
-    let few : more < 16 = omega (arith, run-le k (pred (most k)) t, pred-most k) in
+    let more : ℕ = run k (pred (ourMost k)) t in
+    let all : n ≡ suc more = x ∙ ap (λ (j : ℕ). run k j (c ∷ t)) (sym (pred-our-most k)) ∙ run-go k (pred (ourMost k)) c t e in
+    let few : more < 16 = omega (arith, run-le k (pred (ourMost k)) t, pred-our-most k) in
     record {
       entry = indicator k (n - 1);
       first = opening k c t e
           ∙ ap₂ (λ (j : ℕ) (es : List Entry). indicator k j ∷ es) (let y : more ≡ n - 1 = omega arith in y)
           (ap (λ (es : List Entry). es ++ oursAfter more t) (ap (λ (j : Kind). besides j c) (of-kind k c e) ∙ none c)
-          ∙ skipped k none (pred (most k)) t)
+          ∙ skipped k none (pred (ourMost k)) t)
           ∙ ap (λ (j : ℕ). indicator k (n - 1) ∷ oursAfter 0 (drop j (c ∷ t))) (sym all);
       code = codes (n - 1) (omega arith);
       fits = omega arith;
@@ -102,7 +102,7 @@ first-repeat k lead c t n none m l codes e x =
       long = lit≤ tt;
       some = omega arith;
       few = omega arith;
-      within = omega (arith, run-within k (pred (most k)) t);
+      within = omega (arith, run-within k (pred (ourMost k)) t);
       alike = tt;
     }
 
@@ -117,23 +117,23 @@ module _ (t : List ℕ) (i : ℕ) (h : i < length t) where
       subst⁻¹ (λ (l : List ℕ). FirstIndicatorOf l (record { bits = n - 1 + 128; width = 8; values = n; count = 0 })) here
       (first-values (getD t i 0) (drop (suc i) t) n e (x ∙ ap (run values 128) here))
 
-  repeat-first : (k : Kind) (lead n : ℕ) → ((d : ℕ) → besides k d ≡ []) → most k ≡ 16 → lead ≤ 48
-      → ((j : ℕ) → j < 16 → indicator k j .code ≡ low 6 (j + lead)) → isOf k (getD t i 0) ≡ true → n ≡ run k (most k) (drop i t)
+  repeat-first : (k : Kind) (lead n : ℕ) → ((d : ℕ) → besides k d ≡ []) → ourMost k ≡ 16 → lead ≤ 48
+      → ((j : ℕ) → j < 16 → indicator k j .code ≡ low 6 (j + lead)) → isOf k (getD t i 0) ≡ true → n ≡ run k (ourMost k) (drop i t)
       → FirstIndicatorOf (drop i t) (record { bits = n - 1 + lead; width = 6; values = 0; count = n })
   repeat-first k lead n none m l codes e x =
       subst⁻¹ (λ (l : List ℕ). FirstIndicatorOf l (record { bits = n - 1 + lead; width = 6; values = 0; count = n })) here
-      (first-repeat k lead (getD t i 0) (drop (suc i) t) n none m l codes e (x ∙ ap (run k (most k)) here))
+      (first-repeat k lead (getD t i 0) (drop (suc i) t) n none m l codes e (x ∙ ap (run k (ourMost k)) here))
 
   pub space-first : (n : ℕ) → getD t i 0 ≡ SPACE → n ≡ run spaces 16 (drop i t)
       → FirstIndicatorOf (drop i t) (record { bits = n - 1; width = 6; values = 0; count = n })
-  unfolding most besides isOf
+  unfolding ourMost besides isOf
   space-first n e x =
       subst (λ (b : ℕ). FirstIndicatorOf (drop i t) (record { bits = b; width = 6; values = 0; count = n })) (add-zero (n - 1))
       (repeat-first spaces 0 n (λ d. refl) refl (lit≤ tt) spaces-low (eq-eqb (getD t i 0) SPACE e) x)
 
   pub slash-first : (n : ℕ) → getD t i 0 ≡ SLASH → n ≡ run slashes 16 (drop i t)
       → FirstIndicatorOf (drop i t) (record { bits = n - 1 + 16; width = 6; values = 0; count = n })
-  unfolding most besides isOf
+  unfolding ourMost besides isOf
   slash-first n e x = repeat-first slashes 16 n (λ d. refl) refl (lit≤ tt) slashes-low (eq-eqb (getD t i 0) SLASH e) x
 
   -- a run of the kind of its first character has one character or more

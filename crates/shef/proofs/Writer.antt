@@ -9,7 +9,7 @@ use lib.ListN.{length}
 use Rattle.bits.specs.First.{first}
 use Rattle.bits.specs.Numbers.{numbers}
 use Rattle.bits.specs.Row.{Bytes}
-use Rattle.codes.specs.Chain.{Entry, Row, codes, texts, Built}
+use Rattle.codes.specs.Chain.{Entry, Row, codes, texts, bitsIn, Built}
 use Rattle.codes.specs.Coded.{alone}
 use Rattle.codes.specs.Consecutive.{codeFor, consecutive}
 use Rattle.codes.specs.LineEnds.{LF, CR, eachAfter, ended, lineEnds}
@@ -59,6 +59,10 @@ one-row es ds r q = pieces.one-row ended table (line-pieces table lines) distinc
 -- nor two buildings
 pub one-building : (text a b : List ℕ) → Bytes a → Bytes b → Built scheme text a → Built scheme text b → a ≡ b
 one-building text a b h k p q = same-data (lit< tt) a b p q (one-row (p .entries) (q .entries) (p .row) (q .row) (p .says ∙ sym (q .says))) h k
+
+-- data that carries one text has as many bits before its fill
+pub same-bits : {text : List ℕ} (a b : List ℕ) (p : Built scheme text a) (q : Built scheme text b) → bitsIn p ≡ bitsIn q
+same-bits a b p q = ap (λ (es : List Entry). length (codes es)) (one-row (p .entries) (q .entries) (p .row) (q .row) (p .says ∙ sym (q .says)))
 
 ours-row : (t : List ℕ) → Row scheme 0 (ours t) 0
 ours-row t = all-row table mutes 7 (ours t) (ours-in t)
