@@ -278,6 +278,7 @@ static bool untouched(size_t from, size_t to)
     return from == to;
 }
 
+/* Which character has no code is not asked here. */
 static void expect_refused(bool rate_1200, bool sync, size_t room, unsigned refusal, size_t number, const char *what)
 {
     rosopyat_write_answer answer = write_it(rate_1200, sync, room);
@@ -539,7 +540,7 @@ static void try_long(void)
                 {ROSOPYAT_SHEF, "\r\n"},  {ROSOPYAT_FULL_ASCII, "0"},    {ROSOPYAT_FULL_ASCII, "A"},    {ROSOPYAT_FULL_ASCII, "\r\n"}};
     for (unsigned row = 0; row < sizeof rows / sizeof *rows; row++) {
         look_at(rows[row].format, (const uint8_t *)rows[row].piece, strlen(rows[row].piece));
-        unsigned count = 8 * (ROSOPYAT_MOST_DATA_1200 + 10) / tried.bits * most_times[rows[row].format]; /* too long even where runs are full */
+        unsigned count = 8 * (ROSOPYAT_MOST_DATA_1200 + 10) / tried.bits * (rows[row].format == ROSOPYAT_PSEUDO_BINARY ? slash.most : 1);
         for (draft_length = 0; count > 0; count--)
             add(rows[row].piece);
         try_ends(rows[row].format);
@@ -551,8 +552,8 @@ static void try_long(void)
         }
 }
 
-/* The bytes are worked out by hand. A slash by itself has 6 bits, a value 14, a line end in two codes 18; 4,000 bytes hold 5,333, 2,285 and 1,777 of them, and
- * no more. In the fullest runs 16 slashes have 6 bits and 128 values 776: 4,000 bytes hold 16 times 5,333 slashes, 16,000 bytes 16 times 21,333, and no more. */
+/* The bytes are worked out by hand. A slash by itself has 6 bits, a value 14, a line end in two codes 18: 4,000 bytes hold 5,333, 2,285 and 1,777 of them, and
+ * no more. In the fullest runs 16 slashes have 6 bits and 128 values 776: 4,000 bytes hold 16 times 5,333 slashes, 16,000 hold 16 times 21,333, and no more. */
 static void try_named(void)
 {
     static const struct {
@@ -594,7 +595,10 @@ int main(void)
     try_random();
     try_long();
     for (unsigned format = 0; format < FORMATS; format++)
-        expect(came_to_most[format], "no wasteful maker took as many times the fewest bits as one may");
+        if (!came_to_most[format]) {
+            wrong++;
+            printf("wrong: in format %u no wasteful maker took %u times the fewest bits\n", format, most_times[format]);
+        }
     printf("%u texts, each in its fewest bits, %u packets of wasteful makers, %u wrong\n", texts, packets, wrong);
     return wrong != 0;
 }

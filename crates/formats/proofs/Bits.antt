@@ -79,10 +79,10 @@ pub bits-apart : (format : Format) (text a b : List ℕ) (p : Carries format tex
     → bitsBeforeFill format text a p ≤ timesAtMost format * bitsBeforeFill format text b q
 unfolding timesAtMost
 bits-apart Open text a b p q = omega (arith, ap (λ (l : List ℕ). length (bits l)) (p ∙ sym q))
-bits-apart PseudoBinary text a b p q = pseudo-waste.sixteen-times a b p q
+bits-apart PseudoBinary text a b p q = omega (arith, pseudo-waste.sixteen-times a b p q)
 bits-apart Numeric text a b p q = omega (arith, numeric-built.same-bits text a b p q)
 bits-apart Shef text a b p q = omega (arith, shef-built.same-bits a b p q)
-bits-apart FullAscii text a b p q = ascii-waste.twice a b p q
+bits-apart FullAscii text a b p q = omega (arith, ascii-waste.twice a b p q)
 
 -- ---- a run of one kind in Pseudo Binary, in single ones and as ours
 

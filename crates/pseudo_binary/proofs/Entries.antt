@@ -6,7 +6,6 @@ use mathlib.Core.List.{List·Memᴰ·append-cases, Memᴰ·append-left, Memᴰ·
 use Prim.Native.Nat.{ℕ, suc, pred, _≤_, _<_}
 use native.Mathlib.Nat.{add-zero}
 use native.Mathlib.Omega.{arith}
-use lib.Dec.{lit≤}
 use Rattle.bits.specs.Numbers.{numbers}
 use Rattle.bits.proofs.Numbers.{in-numbers, numbers-in}
 use Rattle.codes.specs.Chain.{Entry, In, stateAfter}
@@ -22,9 +21,9 @@ pred-our-most slashes = refl
 
 pub our-most-few : (k : Kind) → ourMost k ≤ most k
 unfolding ourMost most
-our-most-few values = lit≤ tt
-our-most-few spaces = lit≤ tt
-our-most-few slashes = lit≤ tt
+our-most-few values = omega arith
+our-most-few spaces = omega arith
+our-most-few slashes = omega arith
 
 counted-in : (k : Kind) (c : ℕ) → c < most k → In (indicator k c) (indicators k)
 unfolding indicators
