@@ -91,11 +91,13 @@ enum rosopyat_refusal {
     ROSOPYAT_MALFORMED = 7,      /* number: the data bit at which the first unreadable indicator, value or code starts; codes: how many come before it.
                                   * Data bits count from 0 through all sections, without the checksums */
     /* both */
-    ROSOPYAT_NO_ROOM = 8,        /* the buffer is too short; number: the characters of the text (reader), or the bytes of the packet (writer) */
+    ROSOPYAT_NO_ROOM = 8,        /* the buffer is too short; number: the characters of the text (reader), or the bytes of the packet (writer), which are
+                                  * the fewest that any packet of that text in that format needs */
     /* the writer's */
     ROSOPYAT_NO_CODE = 9,        /* number: the index of the first character that has no code in the format, where it stands */
     ROSOPYAT_EMPTY = 10,         /* the text is empty */
-    ROSOPYAT_TOO_LONG = 11,      /* the data would have more than 4,000 bytes; at 1200, more than 16,000 */
+    ROSOPYAT_TOO_LONG = 11,      /* the data would have more than 4,000 bytes; at 1200, more than 16,000: the text fits in no packet of that format,
+                                  * whoever makes it */
     ROSOPYAT_OTHER_FORMAT = 12   /* the format is not one of 0 to 4 */
 };
 

@@ -179,13 +179,13 @@ pub enum ReadRefusal {
 /// Why a packet was not written. The packet buffer has not changed.
 #[derive(Clone, Copy, Debug, PartialEq, Eq)]
 pub enum WriteRefusal {
-    /// 8: with the packet's length
+    /// 8: with the packet's length, the fewest bytes that any packet of that text in that format needs
     NoRoom(usize),
     /// 9: with the index of the first character that has no code in the format, where it stands
     NoCode(usize),
     /// 10: the text is empty
     Empty,
-    /// 11: the data would have more than 4,000 bytes; at 1200 bps, more than 16,000
+    /// 11: the data would have more than 4,000 bytes; at 1200 bps, more than 16,000. The text fits in no packet of that format, whoever makes it
     TooLong,
     /// 12: the format is not one of 0 to 4; answered where a `Format` is made of its number
     OtherFormat,

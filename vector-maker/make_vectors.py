@@ -1177,12 +1177,26 @@ def sections_at_300():
         reads(header(2, format, 0, 0, length).to_bytes(4, "big") + body, 9, ("refused 4", 0, b""), DEFAULT)
 
 
+def spread():
+    """Texts that another maker spreads over as much as one packet holds, each character or line end by itself: read, and written in so many data bytes."""
+    parts = (PSEUDO, ["010000"], b"/"), (PSEUDO, values_codes([1]), b"A"), (ASCII, ["111111101", "111111110"], b"\r\n")
+    ours = ((21333, 1001), (9142, 6929), (7111, 8000)) if RATE_1200 else ((5333, 251), (2285, 1732), (1777, 2000))
+    for (format, codes, unit), (count, length) in zip(parts, ours):
+        text = unit * count
+        whole = packet_of(format, bytes_of("".join(codes * count)))
+        assert len(whole) <= packet_length(most_data()) < len(packet_of(format, bytes_of("".join(codes * (count + 1)))))
+        reads(whole, len(text), accepted(format, len(whole), text, codes=len(codes) * count))
+        needed = packet_length(length)
+        writes(format, text, needed - 1, answer=("refused 8", needed, b""))
+        writes(format, text, needed, answer=(f"written {needed}", needed, packet_of(format, WRITE[format](text))))
+
+
 AT_300 = (published, messages, edges, sixty_threes, line_ends_and_pairs, headers, reader_refusals, endings, compact_data, longest, writer_refusals, texts,
           edges_named, flipped_headers, tests_behind, too_many_bits, most_codes, fills, cut_runs, line_ends_counted, codes_before_six_ones, values_missing,
-          sections_at_300)
+          sections_at_300, spread)
 # Packets of one section have the same answers.
 AT_1200 = (published, edges, edges_named, endings, lengths_1200, other_makers_1200, longest_1200, header_lengths_1200, cut_off_1200, damage_1200,
-           other_checksums, malformed_1200, flipped_1200)
+           other_checksums, malformed_1200, flipped_1200, spread)
 
 
 def make():

@@ -110,6 +110,8 @@ enum outcome {
     MADE_AND_READ,
     MADE_VALUE_63,
     SAME_AT_BOTH_RATES,
+    AGAIN_SHORTER,
+    AGAIN_AS_LONG,
     OTHER_LENGTH, /* and the rate: one more than the most data bytes in the header */
     TOO_LONG_FOR_300 = OTHER_LENGTH + RATES,
     CUT_OFF, /* and the rate */
@@ -209,6 +211,8 @@ static const char *const outcome_name[OUTCOMES] = {
     [MADE_AND_READ] = "  and read as made",
     [MADE_VALUE_63] = "    with a value 63 (Compact Pseudo Binary)",
     [SAME_AT_BOTH_RATES] = "answered alike at both rates, with at most 4,000 data bytes",
+    [AGAIN_SHORTER] = "read, and written again in fewer bytes",
+    [AGAIN_AS_LONG] = "read, and written again in as many bytes",
     [OTHER_LENGTH + 0] = "refused 4 for a length of 4,001",
     [OTHER_LENGTH + 1] = "refused 4 for a length of 16,001 at 1200",
     [TOO_LONG_FOR_300] = "refused 4 for several sections at 300",
@@ -1159,6 +1163,19 @@ static const char *compare_rates(struct naming naming, rosopyat_read_answer answ
     return compare_again(answer, naming, !rate_1200, packet, text, "the answer is another at the other rate");
 }
 
+/* What was read, written again in its format: no legal packet of the text is shorter. */
+static const char *compare_written_again(rosopyat_read_answer answer, const uint8_t *text)
+{
+    static uint8_t again[ROSOPYAT_MOST_PACKET_1200];
+    if (answer.refusal != 0)
+        return NULL;
+    rosopyat_write_answer written = rosopyat_write(rate_1200, answer.format, answer.sync, text, answer.text_length, again, sizeof again);
+    if (written.refusal != 0)
+        return "what was read is not written again";
+    outcomes[written.length < answer.used ? AGAIN_SHORTER : AGAIN_AS_LONG]++;
+    return written.length <= answer.used ? NULL : "what was read is written again in more bytes";
+}
+
 static void count_refusal(struct naming naming, rosopyat_read_answer answer, size_t room)
 {
     bool too_many = answer.refusal == 17;
@@ -1242,6 +1259,8 @@ static bool reader_case(void)
         wrong = compare_codes(naming.mend, ours);
     if (!wrong)
         wrong = compare_making(naming.mend, ours, library_output + text.start, room);
+    if (!wrong)
+        wrong = compare_written_again(ours, library_output + text.start);
     if (!wrong)
         wrong = compare_default(naming, ours, packet, text);
     if (!wrong)
