@@ -59,6 +59,18 @@ in-front : (format : Format) (sync : Bool) (text after : List ℕ)
 unfolding arriving ourPacket packetOf bytesOf
 in-front format sync text after = refl
 
+abbrev pub written-is-made : (terms : Terms) (format : Format) (sync : Bool) (text : List ℕ) → Writable terms format text
+    → Made terms format sync text (ourPacket format sync text)
+written-is-made terms format sync text w =
+    record {
+      carried = dataOf format text;
+      coded = w .coded;
+      carries = writer-carries format text (w .coded);
+      some = data-some format text (w .some) (w .coded);
+      few = w .few;
+      is = our-is format sync text;
+    }
+
 module _ (terms : Terms) (named : MayBeNamed terms) where
   -- ---- text that has codes and fits is written, and reads back
 
@@ -70,22 +82,11 @@ module _ (terms : Terms) (named : MayBeNamed terms) where
       (ourPacket format sync text ++ drop (packetLength format text) entry) writes
       (format, record { named = refl; some = w .some; coded = w .coded; few = w .few; fits = refl; held = room }, refl)
 
-  abbrev written-is-made : (format : Format) (sync : Bool) (text : List ℕ) → Writable terms format text → Made terms format sync text (ourPacket format sync text)
-  written-is-made format sync text w =
-      record {
-        carried = dataOf format text;
-        coded = w .coded;
-        carries = writer-carries format text (w .coded);
-        some = data-some format text (w .some) (w .coded);
-        few = w .few;
-        is = our-is format sync text;
-      }
-
   reads-back : (format : Format) (sync : Bool) (text after entry exit : List ℕ) (answer : ReadAnswer) → Writable terms format text
       → length (comesBack format text) ≤ length entry → Reads terms (ourPacket format sync text ++ after) entry answer exit
       → (answer ≡ Accepted (cleanReading format sync text)) × StandsInFront (comesBack format text) entry exit
   reads-back format sync text after entry exit answer w held reads =
-      let made = written-is-made format sync text w in
+      let made = written-is-made terms format sync text w in
       let packet = ourPacket format sync text in
       let header = headerFor format sync (length (dataOf format text)) in
       let small : length (dataOf format text) < 2 ^ 14 = omega (arith, w .few, named .bytes) in
@@ -302,7 +303,7 @@ module _ (terms : Terms) (named : MayBeNamed terms) where
   demand-2 = record {
     written-whatever-named = λ other e. writes-alike other terms e;
     written = written;
-    written-is-made = written-is-made;
+    written-is-made = written-is-made terms;
     reads-back = reads-back;
     written-reads-back = written-reads-back;
     empty-refused = λ format sync entry exit answer writes.

@@ -21,7 +21,7 @@ use Rattle.pseudo_binary.proofs.Size.{started}
 use Rattle.pseudo_binary.proofs.Waste.{alike-coded}
 use Rattle.formats.specs.Data.{Carries, coded, AllCoded, dataOf, comesBack}
 use Rattle.formats.proofs.Bits.{bits-one, bits-bytes, bits-least, bits-apart, single-run, our-run, apart-reached}
-use Rattle.formats.proofs.Formats.{back-coded, data-some, no-fewer, writer-carries}
+use Rattle.formats.proofs.Formats.{back-coded, no-fewer, writer-carries}
 use Rattle.refusals.specs.declared.WriteRefusal.{WriteRefusal}
 use Rattle.refusals.specs.declared.WriteRefusal.the-variants.{Empty, NoCode, TooLong, NoRoom}
 use Rattle.refusals.specs.Match.{turnIn, writerTurn}
@@ -35,10 +35,11 @@ use Rattle.writer.specs.declared.WriteAnswer.the-variants.{Written, Refused as 
 use Rattle.writer.specs.Writer.{ourPacket, WriteRefuses, Writes}
 use Rattle.writer.proofs.WriteOnce.{writes-one}
 use Rattle.writer.proofs.WriteStages.{in-format, clear-eleven}
+use Rattle.demands.specs.Demand2.{Writable}
 use Rattle.demands.specs.Makers.{Made}
 use Rattle.demands.specs.NoShorter.{Fewest, FitsInNone, NoShorter, Singly, Waste}
 use Rattle.demands.proofs.Demand1.{our-length}
-use Rattle.demands.proofs.Demand2.{our-is}
+use Rattle.demands.proofs.Demand2.{written-is-made}
 use Rattle.demands.proofs.Parts.{data-size, packet-length}
 
 -- a packet of no fewer data bytes has no fewer bytes
@@ -67,29 +68,18 @@ none-read-shorter other format sync text packet reading a same =
       no-fewer format text carried (back-coded format text carried carries) carries,
     )
 
--- a text that has codes and fits
-module _ (terms : Terms) (format : Format) (text : List ℕ) (some : 0 < length text) (coded-all : AllCoded format text) (few : length (dataOf format text) ≤ terms .most)
-  where
-    ours-made : (sync : Bool) → Made terms format sync text (ourPacket format sync text)
-    ours-made sync = record {
-      carried = dataOf format text;
-      coded = coded-all;
-      carries = writer-carries format text coded-all;
-      some = data-some format text some coded-all;
-      few = few;
-      is = our-is format sync text;
-    }
-
-    fewest : (n : ℕ) → n ≡ wholeLength (length (dataOf format text)) → Fewest terms format text n
-    fewest n is = record {
-      enough = λ sync. (ourPacket format sync text, ours-made sync, our-length format sync text ∙ sym is);
-      needed = λ other sync packet made. omega (arith, is, our-length format sync text, no-shorter-packet other format sync sync text packet made);
-    }
+-- of a text that has codes and fits
+fewest : (terms : Terms) (format : Format) (text : List ℕ) (n : ℕ) → Writable terms format text → n ≡ wholeLength (length (dataOf format text))
+    → Fewest terms format text n
+fewest terms format text n w is = record {
+  enough = λ sync. (ourPacket format sync text, written-is-made terms format sync text w, our-length format sync text ∙ sym is);
+  needed = λ other sync packet made. omega (arith, is, our-length format sync text, no-shorter-packet other format sync sync text packet made);
+}
 
 written-is-fewest : (terms : Terms) (format : Format) (sync : Bool) (text entry exit : List ℕ) (n : ℕ)
     → Writes terms (formatNumber format) sync text entry (Written n) exit → Fewest terms format text n
 written-is-fewest terms format sync text entry exit n (other, w, e) =
-    subst (λ (k : Format). Fewest terms k text n) (one-number other format (w .named)) (fewest terms other text (w .some) (w .coded) (w .few) n (w .fits))
+    subst (λ (k : Format). Fewest terms k text n) (one-number other format (w .named)) (fewest terms other text n (record { some = w .some; coded = w .coded; few = w .few }) (w .fits))
 
 -- what a refusal says of the text, by the tests that were made before
 module _ (terms : Terms) (format : Format) (text : List ℕ) (room : ℕ) (r : WriteRefusal) (refuses : WriteRefuses terms (formatNumber format) text room r) where
@@ -119,8 +109,11 @@ unfolding turnIn
 room-is-fewest terms format sync text entry exit n (refuses, e) =
     let room = length entry in
     let short = in-format (formatNumber format) (λ (k : Format). (n ≡ wholeLength (length (dataOf k text))) × (room < n)) format refl (refuses .fault) in
-    fewest terms format text (after-ten terms format text room (NoRoom n) refuses (omega arith)) (after-nine terms format text room (NoRoom n) refuses (omega arith))
-    (after-eleven terms format text room (NoRoom n) refuses (omega arith)) n (short .0)
+    fewest terms format text n (record {
+      some = after-ten terms format text room (NoRoom n) refuses (omega arith);
+      coded = after-nine terms format text room (NoRoom n) refuses (omega arith);
+      few = after-eleven terms format text room (NoRoom n) refuses (omega arith);
+    }) (short .0)
 
 too-long-fits-in-none : (terms : Terms) (format : Format) (sync : Bool) (text entry exit : List ℕ) (answer : WriteAnswer)
     → Writes terms (formatNumber format) sync text entry answer exit
@@ -144,7 +137,7 @@ too-long-fits-in-none terms format sync text entry exit answer writes = (none, g
     given (some, all, fits-in-none) = pick (decLe (length (dataOf format text)) (terms .most))
       where
         pick : Dec (length (dataOf format text) ≤ terms .most) → answer ≡ NotWritten TooLong
-        pick (yes few) = absurd (fits-in-none sync (ourPacket format sync text) (ours-made terms format text some all few sync))
+        pick (yes few) = absurd (fits-in-none sync (ourPacket format sync text) (written-is-made terms format sync text (record { some = some; coded = all; few = few })))
         pick (no many) =
             writes-one terms (formatNumber format) sync text entry answer (NotWritten TooLong) exit entry writes
             (record { fault = (format, refl, omega arith); first = clear-eleven terms (formatNumber format) text room format refl some all }, refl) .0
