@@ -20,7 +20,7 @@ use Rattle.pseudo_binary.proofs.Length.{width, each}
 use Rattle.pseudo_binary.proofs.Size.{started}
 use Rattle.pseudo_binary.proofs.Waste.{alike-coded}
 use Rattle.formats.specs.Data.{Carries, coded, AllCoded, dataOf, comesBack}
-use Rattle.formats.proofs.Bits.{bits-one, bits-bytes, bits-least, bits-apart, single-run, our-run, apart-reached}
+use Rattle.formats.proofs.Bits.{bits-one, bits-bytes, bits-least, bits-apart, bytes-apart, single-run, our-run, apart-reached}
 use Rattle.formats.proofs.Formats.{back-coded, no-fewer, writer-carries}
 use Rattle.refusals.specs.declared.WriteRefusal.{WriteRefusal}
 use Rattle.refusals.specs.declared.WriteRefusal.the-variants.{Empty, NoCode, TooLong, NoRoom}
@@ -183,6 +183,7 @@ pub waste : Waste
 unfolding isOf ourMost width each started
 waste = record {
   times-at-most = bits-apart;
+  bytes-at-most = bytes-apart;
   times-reached = apart-reached;
   single-slashes = λ n.
       singly slashes (replicate n SLASH) (alike-replicate slashes SLASH n refl) (omega (arith, length-replicate {A = ℕ} n SLASH))

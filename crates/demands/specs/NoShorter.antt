@@ -72,7 +72,9 @@ pub record Waste : Type 0 where
   -- in the other formats just as many;
   pub times-at-most : (format : Format) (text a b : List ℕ) (p : Carries format text a) (q : Carries format text b)
       → bitsBeforeFill format text a p ≤ timesAtMost format * bitsBeforeFill format text b q
-  -- and some have so many, of texts as long as one likes.
+  -- so none has more than so many times the bytes;
+  pub bytes-at-most : (format : Format) (text a b : List ℕ) → Carries format text a → Carries format text b → length a ≤ timesAtMost format * length b
+  -- and some have so many times the bits, of texts as long as one likes.
   pub times-reached : (format : Format) (n : ℕ)
       → (text a b : List ℕ) × (p : Carries format text a) × (q : Carries format text b) × (n ≤ bitsBeforeFill format text b q)
       × (bitsBeforeFill format text a p ≡ timesAtMost format * bitsBeforeFill format text b q)
