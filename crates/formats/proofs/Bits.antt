@@ -85,16 +85,18 @@ bits-apart Shef text a b p q = omega (arith, shef-built.same-bits a b p q)
 bits-apart FullAscii text a b p q = omega (arith, ascii-waste.twice a b p q)
 
 -- and so many times the bytes
-pub bytes-apart : (format : Format) (text a b : List ℕ) → Carries format text a → Carries format text b → length a ≤ timesAtMost format * length b
+times-bytes : (format : Format) (x y n m : ℕ) → x ≤ timesAtMost format * y → n ≡ (x + 7) / 8 → m ≡ (y + 7) / 8 → n ≤ timesAtMost format * m
 unfolding timesAtMost
-bytes-apart format text a b p q = pick format (bits-apart format text a b p q) (bits-bytes format text a p) (bits-bytes format text b q)
-  where
-    pick : (k : Format) {x y : ℕ} → x ≤ timesAtMost k * y → length a ≡ (x + 7) / 8 → length b ≡ (y + 7) / 8 → length a ≤ timesAtMost k * length b
-    pick Open few one other = omega arith
-    pick PseudoBinary few one other = omega arith
-    pick Numeric few one other = omega arith
-    pick Shef few one other = omega arith
-    pick FullAscii few one other = omega arith
+times-bytes Open x y n m few one other = omega arith
+times-bytes PseudoBinary x y n m few one other = omega arith
+times-bytes Numeric x y n m few one other = omega arith
+times-bytes Shef x y n m few one other = omega arith
+times-bytes FullAscii x y n m few one other = omega arith
+
+pub bytes-apart : (format : Format) (text a b : List ℕ) → Carries format text a → Carries format text b → length a ≤ timesAtMost format * length b
+bytes-apart format text a b p q =
+    times-bytes format (bitsBeforeFill format text a p) (bitsBeforeFill format text b q) (length a) (length b) (bits-apart format text a b p q)
+    (bits-bytes format text a p) (bits-bytes format text b q)
 
 -- ---- a run of one kind in Pseudo Binary, in single ones and as ours
 
