@@ -20,13 +20,13 @@ use Rattle.refusals.specs.Refusals.{numberIn, examineTold}
 use Rattle.refusals.proofs.Known.{before-room}
 use Rattle.terms.specs.declared.Terms.{Terms}
 use Rattle.terms.specs.Terms.{OnePacket}
-use Rattle.reader.specs.declared.ExamineAnswer.{ExamineAnswer}
-use Rattle.reader.specs.declared.ExamineAnswer.the-variants.{Readable, Refused as NotReadable}
+use Rattle.examine.specs.declared.ExamineAnswer.{ExamineAnswer}
+use Rattle.examine.specs.declared.ExamineAnswer.the-variants.{Readable, Refused as NotReadable}
 use Rattle.reader.specs.declared.ReadAnswer.{ReadAnswer}
 use Rattle.reader.specs.declared.ReadAnswer.the-variants.{Accepted, Refused as NotRead}
-use Rattle.reader.specs.Examine.{Fault, Refuses, Examines}
+use Rattle.examine.specs.Examine.{Fault, Refuses, Examines}
 use Rattle.reader.specs.Reader.{Reads}
-use Rattle.reader.proofs.ExamineOnce.{accepts-no-fault, examines-one}
+use Rattle.examine.proofs.ExamineOnce.{accepts-no-fault, examines-one}
 use Rattle.reader.proofs.ReadOnce.{refused-packet, packet-refused, reads-one}
 use Rattle.demands.proofs.OneAnswer.{nothing-after}
 use Rattle.at_300.specs.OneSection.OneAnswer.{NothingAfter}

@@ -23,12 +23,12 @@ use Rattle.refusals.specs.Match.{turnIn, readerTurn}
 use Rattle.refusals.specs.Refusals.{examineTold, readTold}
 use Rattle.refusals.proofs.Known.{before-room}
 use Rattle.terms.specs.declared.Terms.{Terms}
-use Rattle.reader.specs.declared.Reading.{Reading}
-use Rattle.reader.specs.declared.ExamineAnswer.{ExamineAnswer}
-use Rattle.reader.specs.declared.ExamineAnswer.the-variants.{Readable, Refused as NotReadable}
+use Rattle.examine.specs.declared.Reading.{Reading}
+use Rattle.examine.specs.declared.ExamineAnswer.{ExamineAnswer}
+use Rattle.examine.specs.declared.ExamineAnswer.the-variants.{Readable, Refused as NotReadable}
 use Rattle.reader.specs.declared.ReadAnswer.{ReadAnswer}
 use Rattle.reader.specs.declared.ReadAnswer.the-variants.{Accepted, Refused as NotRead}
-use Rattle.reader.specs.Examine.{Fault, Refuses, Allowed, readingOf, Accepts, Examines}
+use Rattle.examine.specs.Examine.{Fault, Refuses, Allowed, readingOf, Accepts, Examines}
 use Rattle.reader.specs.Reader.{ReadFault, ReadRefuses, Reads}
 use Rattle.at_300.specs.OneSection.Examine as one
 use Rattle.at_300.specs.OneSection.Packet.{dataIn as oneDataIn}

@@ -27,17 +27,17 @@ use Rattle.refusals.specs.Match.{FirstMatch, readerTurn, writerTurn}
 use Rattle.refusals.specs.Refusals.{Told, examineTold, readTold, writeTold}
 use Rattle.refusals.proofs.Refused.{numbered}
 use Rattle.terms.specs.declared.Terms.{Terms}
-use Rattle.reader.specs.declared.ExamineAnswer.the-variants.{Refused as NotReadable}
+use Rattle.examine.specs.declared.ExamineAnswer.the-variants.{Refused as NotReadable}
 use Rattle.reader.specs.declared.ReadAnswer.{ReadAnswer}
 use Rattle.reader.specs.declared.ReadAnswer.the-variants.{Refused as NotRead}
 use Rattle.writer.specs.declared.WriteAnswer.{WriteAnswer}
 use Rattle.writer.specs.declared.WriteAnswer.the-variants.{Refused as NotWritten}
-use Rattle.reader.specs.Examine.{Fault, Examines}
+use Rattle.examine.specs.Examine.{Fault, Examines}
 use Rattle.packet.specs.Packet.{wholeLength, headerFor}
 use Rattle.reader.specs.Reader.{ReadFault, Reads}
 use Rattle.terms.specs.Terms.{OnePacket}
 use Rattle.writer.specs.Writer.{WriteFault, Writes, ourPacket}
-use Rattle.reader.proofs.ExamineOnce.{examines-one}
+use Rattle.examine.proofs.ExamineOnce.{examines-one}
 use Rattle.reader.proofs.ReadOnce.{reads-one}
 use Rattle.writer.proofs.WriteOnce.{writes-one}
 use Rattle.demands.specs.Demand1.{RefusedExactly, StuckAt, Demand1, Conditions}

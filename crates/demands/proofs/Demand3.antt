@@ -25,20 +25,20 @@ use Rattle.formats.specs.Data.{codesIn, comesBack}
 use Rattle.refusals.specs.declared.ExamineRefusal.the-variants.{NoHeader, Checksum}
 use Rattle.refusals.specs.declared.ReadRefusal.the-variants.{Packet}
 use Rattle.terms.specs.declared.Terms.{Terms}
-use Rattle.reader.specs.declared.Reading.{Reading}
-use Rattle.reader.specs.declared.ExamineAnswer.{ExamineAnswer}
-use Rattle.reader.specs.declared.ExamineAnswer.the-variants.{Refused as NotReadable}
+use Rattle.examine.specs.declared.Reading.{Reading}
+use Rattle.examine.specs.declared.ExamineAnswer.{ExamineAnswer}
+use Rattle.examine.specs.declared.ExamineAnswer.the-variants.{Refused as NotReadable}
 use Rattle.reader.specs.declared.ReadAnswer.{ReadAnswer}
 use Rattle.reader.specs.declared.ReadAnswer.the-variants.{Accepted, Refused}
-use Rattle.reader.specs.Examine.{readingOf, Accepts, Refuses, Examines}
+use Rattle.examine.specs.Examine.{readingOf, Accepts, Refuses, Examines}
 use Rattle.packet.specs.Packet.{received, dataIn, packetOf, headerFor}
 use Rattle.reader.specs.Reader.{Reads}
 use Rattle.terms.specs.Terms.{MayBeNamed}
-use Rattle.reader.proofs.ExamineOnce.{examines-one}
-use Rattle.reader.proofs.ExamineStages.{clear-two}
+use Rattle.examine.proofs.ExamineOnce.{examines-one}
+use Rattle.examine.proofs.ExamineStages.{clear-two}
 use Rattle.reader.proofs.ReadOnce.{reads-one, refused-packet}
 use Rattle.packet.proofs.Sent.{received-front, arrived, header-valid}
-use Rattle.reader.proofs.Sent.{sent-allowed, sent-codes, sent-reading, sent-refused}
+use Rattle.examine.proofs.Sent.{sent-allowed, sent-codes, sent-reading, sent-refused}
 use Rattle.demands.specs.Demand3.{RefusedByChecksum, Demand3}
 use Rattle.demands.specs.Makers.{Made, Flipped, FlippedBeyond, arriving, readingWith}
 

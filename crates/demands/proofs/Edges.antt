@@ -66,7 +66,7 @@ use Rattle.pseudo_binary.proofs.Bound.{built-bound}
 use Rattle.pseudo_binary.proofs.Characters.{kind-of}
 use Rattle.pseudo_binary.proofs.Length.{width, each}
 use Rattle.pseudo_binary.proofs.Size.{started}
-use Rattle.reader.proofs.ExamineOnce.{too-many}
+use Rattle.examine.proofs.ExamineOnce.{too-many}
 use Rattle.reader.proofs.ReadOnce.{refused-packet}
 use Rattle.demands.specs.Edges.{Edge, checks, heads, reads, hopeless, foreign, unnamed, writes, carries, stops, fullest, lacks, divides, fits, overlong, longest, singly, RefusesAt, RefusesAll, Holds, edges, Every}
 use Rattle.demands.proofs.HeaderTests.{findsNone, none, none-near, mends-by-test, ours, other, other-none, refuses-hopeless, refuses-foreign, refuses-overlong, whichever}

@@ -27,7 +27,7 @@ use Rattle.packet.specs.Packet.{received}
 use Rattle.packet.proofs.Sent.{received-behind}
 use Rattle.terms.specs.Terms.{mostAt, MayMend, naming}
 use Rattle.terms.proofs.Usual.{naming-named}
-use Rattle.reader.proofs.ExamineStages.{clear-two, clear-three, clear-four}
+use Rattle.examine.proofs.ExamineStages.{clear-two, clear-three, clear-four}
 use Rattle.reader.proofs.ReadOnce.{refused-packet}
 use Rattle.demands.specs.Edges.{Naming, RefusesAt, RefusesAll}
 

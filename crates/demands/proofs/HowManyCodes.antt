@@ -25,9 +25,9 @@ use Rattle.refusals.specs.Match.{turnIn}
 use Rattle.refusals.specs.Refusals.{numberIn, codesTold, readTold}
 use Rattle.terms.specs.declared.Terms.{Terms}
 use Rattle.terms.specs.Terms.{OnePacket, MayBeNamed}
-use Rattle.reader.specs.declared.Reading.{Reading}
-use Rattle.reader.specs.Examine.{Refuses, Accepts}
-use Rattle.reader.proofs.Headers.{under}
+use Rattle.examine.specs.declared.Reading.{Reading}
+use Rattle.examine.specs.Examine.{Refuses, Accepts}
+use Rattle.examine.proofs.Headers.{under}
 use Rattle.packet.specs.Packet.{wholeLength, received, dataIn, packetOf, headerFor}
 use Rattle.demands.specs.HowManyCodes.{HowManyCodes}
 use Rattle.demands.specs.Makers.{Made}

@@ -27,8 +27,8 @@ use Rattle.refusals.specs.declared.WriteRefusal.the-variants.{Empty, NoCode, To
 use Rattle.refusals.specs.Match.{turnIn, writerTurn}
 use Rattle.refusals.specs.Refusals.{numberIn, writeTold}
 use Rattle.terms.specs.declared.Terms.{Terms}
-use Rattle.reader.specs.declared.Reading.{Reading}
-use Rattle.reader.specs.Examine.{Accepts}
+use Rattle.examine.specs.declared.Reading.{Reading}
+use Rattle.examine.specs.Examine.{Accepts}
 use Rattle.packet.specs.Packet.{wholeLength, dataIn, headerFor}
 use Rattle.writer.specs.declared.WriteAnswer.{WriteAnswer}
 use Rattle.writer.specs.declared.WriteAnswer.the-variants.{Written, Refused as NotWritten}

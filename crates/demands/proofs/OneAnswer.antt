@@ -26,18 +26,18 @@ use Rattle.refusals.specs.declared.ExamineRefusal.the-variants.{TooManyBits, Sh
 use Rattle.refusals.specs.declared.ReadRefusal.{ReadRefusal}
 use Rattle.refusals.specs.declared.ReadRefusal.the-variants.{Packet, NoRoom}
 use Rattle.terms.specs.declared.Terms.{Terms}
-use Rattle.reader.specs.declared.Reading.{Reading}
-use Rattle.reader.specs.declared.ExamineAnswer.{ExamineAnswer}
-use Rattle.reader.specs.declared.ExamineAnswer.the-variants.{Readable, Refused as NotReadable}
+use Rattle.examine.specs.declared.Reading.{Reading}
+use Rattle.examine.specs.declared.ExamineAnswer.{ExamineAnswer}
+use Rattle.examine.specs.declared.ExamineAnswer.the-variants.{Readable, Refused as NotReadable}
 use Rattle.reader.specs.declared.ReadAnswer.{ReadAnswer}
 use Rattle.reader.specs.declared.ReadAnswer.the-variants.{Accepted, Refused as NotRead}
-use Rattle.reader.specs.Examine.{Fault, Refuses, Allowed, readingOf, Accepts, Examines}
+use Rattle.examine.specs.Examine.{Fault, Refuses, Allowed, readingOf, Accepts, Examines}
 use Rattle.packet.specs.Packet.{wholeLength, received, dataIn, FirstUnsummed}
 use Rattle.packet.proofs.Sent.{received-behind}
 use Rattle.reader.specs.Reader.{ReadFault, Reads}
 use Rattle.terms.specs.Terms.{OnePacket, MayBeNamed}
-use Rattle.reader.proofs.ExamineOnce.{examined-too-many, examines-one}
-use Rattle.reader.proofs.Headers.{one-header, under}
+use Rattle.examine.proofs.ExamineOnce.{examined-too-many, examines-one}
+use Rattle.examine.proofs.Headers.{one-header, under}
 use Rattle.reader.proofs.ReadAnswers.{no-room, read-into}
 use Rattle.reader.proofs.ReadOnce.{refused-packet, packet-refused, read-too-many, reads-one}
 use Rattle.writer.proofs.WriteOnce.{writes-one}

@@ -12,8 +12,8 @@ use Rattle.header.specs.declared.Format.{Format}
 use Rattle.header.specs.Valid.{flagIn, lengthIn, checkIn}
 use Rattle.distance.specs.Distance.{distance}
 use Rattle.terms.specs.declared.Terms.{Terms}
-use Rattle.reader.specs.declared.Reading.{Reading}
-use Rattle.reader.specs.Examine.{Allowed, Accepts}
+use Rattle.examine.specs.declared.Reading.{Reading}
+use Rattle.examine.specs.Examine.{Allowed, Accepts}
 use Rattle.packet.specs.Packet.{received}
 use Rattle.demands.specs.WhichBits.{WhichBits}
 

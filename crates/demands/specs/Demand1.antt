@@ -1,6 +1,6 @@
 -- Demand 1. Every entry point takes what it is handed, at any length, and ends. Each kind of bad input has one refusal number, given under its stated
 -- condition and under no other. A refusal changes no byte of a lent buffer; an accepted call writes only the bytes that it counts.
--- The first sentence is what a check says of each function that requires nothing, as `reader::examine`, `reader::read`, `reader::examine_mending`,
+-- The first sentence is what a check says of each function that requires nothing, as `examine::examine`, `reader::read`, `examine::examine_mending`,
 -- `reader::read_mending` and `writer::write`. The rest holds at either rate and whatever number of bits is named.
 -- Assumes nothing.
 use mathlib.Core.Bool.{Bool}
@@ -23,14 +23,14 @@ use Rattle.refusals.specs.declared.WriteRefusal.{WriteRefusal}
 use Rattle.refusals.specs.Match.{ToldAs, readerTurn, writerTurn}
 use Rattle.refusals.specs.Refusals.{Told, numberIn, examineTold, readTold, writeTold}
 use Rattle.terms.specs.declared.Terms.{Terms}
-use Rattle.reader.specs.declared.Reading.{Reading}
-use Rattle.reader.specs.declared.ExamineAnswer.{ExamineAnswer}
-use Rattle.reader.specs.declared.ExamineAnswer.the-variants.{Refused as NotReadable}
+use Rattle.examine.specs.declared.Reading.{Reading}
+use Rattle.examine.specs.declared.ExamineAnswer.{ExamineAnswer}
+use Rattle.examine.specs.declared.ExamineAnswer.the-variants.{Refused as NotReadable}
 use Rattle.reader.specs.declared.ReadAnswer.{ReadAnswer}
 use Rattle.reader.specs.declared.ReadAnswer.the-variants.{Accepted, Refused as NotRead}
 use Rattle.writer.specs.declared.WriteAnswer.{WriteAnswer}
 use Rattle.writer.specs.declared.WriteAnswer.the-variants.{Written, Refused as NotWritten}
-use Rattle.reader.specs.Examine.{Fault, Examines}
+use Rattle.examine.specs.Examine.{Fault, Examines}
 use Rattle.reader.specs.Reader.{ReadFault, Reads}
 use Rattle.writer.specs.Writer.{WriteFault, Writes}
 

@@ -19,14 +19,14 @@ use Rattle.distance.specs.Distance.{distance}
 use Rattle.formats.specs.Data.{codesIn, AllCoded, comesBack, dataOf, codesOf}
 use Rattle.refusals.specs.declared.WriteRefusal.the-variants.{Empty}
 use Rattle.terms.specs.declared.Terms.{Terms}
-use Rattle.reader.specs.declared.Reading.{Reading}
-use Rattle.reader.specs.declared.ExamineAnswer.{ExamineAnswer}
-use Rattle.reader.specs.declared.ExamineAnswer.the-variants.{Readable}
+use Rattle.examine.specs.declared.Reading.{Reading}
+use Rattle.examine.specs.declared.ExamineAnswer.{ExamineAnswer}
+use Rattle.examine.specs.declared.ExamineAnswer.the-variants.{Readable}
 use Rattle.reader.specs.declared.ReadAnswer.{ReadAnswer}
 use Rattle.reader.specs.declared.ReadAnswer.the-variants.{Accepted}
 use Rattle.writer.specs.declared.WriteAnswer.{WriteAnswer}
 use Rattle.writer.specs.declared.WriteAnswer.the-variants.{Written, Refused as NotWritten}
-use Rattle.reader.specs.Examine.{Allowed, readingOf, Accepts, Examines}
+use Rattle.examine.specs.Examine.{Allowed, readingOf, Accepts, Examines}
 use Rattle.packet.specs.Packet.{wholeLength, received, dataIn}
 use Rattle.reader.specs.Reader.{Reads}
 use Rattle.writer.specs.Writer.{ourPacket, Writes}

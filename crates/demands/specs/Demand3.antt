@@ -23,14 +23,14 @@ use Rattle.formats.specs.Data.{codesIn, comesBack}
 use Rattle.refusals.specs.declared.ExamineRefusal.the-variants.{NoHeader, Checksum}
 use Rattle.refusals.specs.declared.ReadRefusal.the-variants.{Packet}
 use Rattle.terms.specs.declared.Terms.{Terms}
-use Rattle.reader.specs.declared.Reading.{Reading}
-use Rattle.reader.specs.declared.ExamineAnswer.{ExamineAnswer}
-use Rattle.reader.specs.declared.ExamineAnswer.the-variants.{Refused as NotReadable}
+use Rattle.examine.specs.declared.Reading.{Reading}
+use Rattle.examine.specs.declared.ExamineAnswer.{ExamineAnswer}
+use Rattle.examine.specs.declared.ExamineAnswer.the-variants.{Refused as NotReadable}
 use Rattle.reader.specs.declared.ReadAnswer.{ReadAnswer}
 use Rattle.reader.specs.declared.ReadAnswer.the-variants.{Accepted, Refused}
 use Rattle.packet.specs.Packet.{received}
 use Rattle.sections.specs.Sections.{sectionCount, section, besides}
-use Rattle.reader.specs.Examine.{Accepts, Examines}
+use Rattle.examine.specs.Examine.{Accepts, Examines}
 use Rattle.reader.specs.Reader.{Reads}
 use Rattle.demands.specs.Makers.{Made, Flipped, FlippedBeyond, arriving, readingWith}
 

@@ -19,7 +19,7 @@ use Rattle.refusals.specs.declared.ExamineRefusal.the-variants.{TooManyBits, No
 use Rattle.refusals.specs.declared.ReadRefusal.the-variants.{Packet}
 use Rattle.sections.specs.Sections.{sectionCount}
 use Rattle.packet.specs.Packet.{wholeLength, received, headerFor}
-use Rattle.reader.specs.Examine.{readingOf}
+use Rattle.examine.specs.Examine.{readingOf}
 use Rattle.reader.specs.Reader.{ReadRefuses}
 use Rattle.terms.specs.Terms.{mostAt, naming}
 

@@ -17,8 +17,8 @@ use Rattle.refusals.specs.declared.ExamineRefusal.the-variants.{Malformed}
 use Rattle.refusals.specs.declared.ReadRefusal.{ReadRefusal}
 use Rattle.refusals.specs.Refusals.{numberIn, codesTold, readTold}
 use Rattle.terms.specs.declared.Terms.{Terms}
-use Rattle.reader.specs.declared.Reading.{Reading}
-use Rattle.reader.specs.Examine.{Refuses, Accepts}
+use Rattle.examine.specs.declared.Reading.{Reading}
+use Rattle.examine.specs.Examine.{Refuses, Accepts}
 use Rattle.packet.specs.Packet.{received, dataIn}
 use Rattle.demands.specs.Makers.{Made}
 

@@ -9,7 +9,7 @@ use Rattle.header.specs.declared.Format.{Format}
 use Rattle.header.specs.Fields.{bytesOf}
 use Rattle.distance.specs.Distance.{distance}
 use Rattle.formats.specs.Data.{Carries, AllCoded, comesBack}
-use Rattle.reader.specs.declared.Reading.{Reading}
+use Rattle.examine.specs.declared.Reading.{Reading}
 use Rattle.terms.specs.declared.Terms.{Terms}
 use Rattle.packet.specs.Packet.{wholeLength, received, packetOf, headerFor}
 

@@ -16,8 +16,8 @@ use Rattle.formats.specs.Data.{Carries, bitsBeforeFill, AllCoded, dataOf, comes
 use Rattle.formats.specs.Waste.{timesAtMost}
 use Rattle.refusals.specs.declared.WriteRefusal.the-variants.{TooLong, NoRoom}
 use Rattle.terms.specs.declared.Terms.{Terms}
-use Rattle.reader.specs.declared.Reading.{Reading}
-use Rattle.reader.specs.Examine.{Accepts}
+use Rattle.examine.specs.declared.Reading.{Reading}
+use Rattle.examine.specs.Examine.{Accepts}
 use Rattle.writer.specs.declared.WriteAnswer.{WriteAnswer}
 use Rattle.writer.specs.declared.WriteAnswer.the-variants.{Written, Refused as NotWritten}
 use Rattle.writer.specs.Writer.{ourPacket, Writes}

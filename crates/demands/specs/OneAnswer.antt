@@ -17,13 +17,13 @@ use Rattle.formats.specs.Data.{Carries, comesBack}
 use Rattle.refusals.specs.declared.ExamineRefusal.{ExamineRefusal}
 use Rattle.refusals.specs.declared.ReadRefusal.the-variants.{Packet, NoRoom}
 use Rattle.terms.specs.declared.Terms.{Terms}
-use Rattle.reader.specs.declared.Reading.{Reading}
-use Rattle.reader.specs.declared.ExamineAnswer.{ExamineAnswer}
-use Rattle.reader.specs.declared.ExamineAnswer.the-variants.{Readable, Refused as NotReadable}
+use Rattle.examine.specs.declared.Reading.{Reading}
+use Rattle.examine.specs.declared.ExamineAnswer.{ExamineAnswer}
+use Rattle.examine.specs.declared.ExamineAnswer.the-variants.{Readable, Refused as NotReadable}
 use Rattle.reader.specs.declared.ReadAnswer.{ReadAnswer}
 use Rattle.reader.specs.declared.ReadAnswer.the-variants.{Accepted, Refused as NotRead}
 use Rattle.writer.specs.declared.WriteAnswer.{WriteAnswer}
-use Rattle.reader.specs.Examine.{Examines}
+use Rattle.examine.specs.Examine.{Examines}
 use Rattle.packet.specs.Packet.{wholeLength, received}
 use Rattle.reader.specs.Reader.{Reads}
 use Rattle.writer.specs.Writer.{Writes}

@@ -7,8 +7,8 @@ use lib.Bits.{bitXor}
 use lib.Count.{onesIn}
 use Rattle.header.specs.Valid.{flagIn, lengthIn, checkIn}
 use Rattle.terms.specs.declared.Terms.{Terms}
-use Rattle.reader.specs.declared.Reading.{Reading}
-use Rattle.reader.specs.Examine.{Allowed, Accepts}
+use Rattle.examine.specs.declared.Reading.{Reading}
+use Rattle.examine.specs.Examine.{Allowed, Accepts}
 use Rattle.packet.specs.Packet.{received}
 
 pub record WhichBits (terms : Terms) : Type 0 where

@@ -1,8 +1,3 @@
-pub mod ExamineAnswers
-pub mod ExamineOnce
-pub mod ExamineStages
-pub mod Headers
 pub mod Named
 pub mod ReadAnswers
 pub mod ReadOnce
-pub mod Sent

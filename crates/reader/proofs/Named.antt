@@ -6,15 +6,10 @@ use mathlib.Core.Path.{_≡_, ap₂, subst, _∙_}
 use Prim.Native.Nat.{ℕ}
 use Rattle.terms.specs.declared.Terms.{Terms}
 use Rattle.terms.specs.Terms.{naming}
-use Rattle.reader.specs.declared.ExamineAnswer.{ExamineAnswer}
 use Rattle.reader.specs.declared.ReadAnswer.{ReadAnswer}
-use Rattle.reader.specs.Examine.{Examines}
 use Rattle.reader.specs.Reader.{Reads}
 
 module _ (terms : Terms) (given mend : ℕ) (named-1200 rate-1200 : Bool) (is : terms ≡ naming given named-1200) (same : given ≡ mend)
     (rate : named-1200 ≡ rate-1200) (packet : List ℕ) where
-  pub examines-naming : (answer : ExamineAnswer) → Examines terms packet answer → Examines (naming mend rate-1200) packet answer
-  examines-naming answer = subst (λ (t : Terms). Examines t packet answer) (is ∙ ap₂ naming same rate)
-
   pub reads-naming : (entry exit : List ℕ) (answer : ReadAnswer) → Reads terms packet entry answer exit → Reads (naming mend rate-1200) packet entry answer exit
   reads-naming entry exit answer = subst (λ (t : Terms). Reads t packet entry answer exit) (is ∙ ap₂ naming same rate)

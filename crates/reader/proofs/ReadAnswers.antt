@@ -15,15 +15,15 @@ use Rattle.refusals.specs.declared.ReadRefusal.the-variants.{Packet, NoRoom}
 use Rattle.refusals.specs.Match.{readerTurn}
 use Rattle.refusals.specs.Refusals.{numberIn, readTold}
 use Rattle.terms.specs.declared.Terms.{Terms}
-use Rattle.reader.specs.declared.Reading.{Reading}
+use Rattle.examine.specs.declared.Reading.{Reading}
 use Rattle.reader.specs.declared.ReadAnswer.the-variants.{Accepted, Refused}
-use Rattle.reader.specs.Examine.{Accepts}
+use Rattle.examine.specs.Examine.{Accepts}
 use Rattle.packet.specs.Packet.{wholeLength, dataIn}
 use Rattle.sections.specs.Sections.{sentLength, joined}
 use Rattle.reader.specs.Reader.{ReadFault, Reads}
 use Rattle.terms.specs.Terms.{MayBeNamed}
-use Rattle.reader.proofs.ExamineAnswers.{rest-long, data-there}
-use Rattle.reader.proofs.ExamineOnce.{accepts-no-fault}
+use Rattle.examine.proofs.ExamineAnswers.{rest-long, data-there}
+use Rattle.examine.proofs.ExamineOnce.{accepts-no-fault}
 
 module _ (terms : Terms) (packet : List ℕ) where
   -- the text's length, as the reading has it

@@ -21,15 +21,15 @@ use Rattle.refusals.specs.Match.{readerTurn}
 use Rattle.refusals.specs.Refusals.{numberIn, examineTold, readTold}
 use Rattle.refusals.proofs.Known.{before-room}
 use Rattle.terms.specs.declared.Terms.{Terms}
-use Rattle.reader.specs.declared.Reading.{Reading}
+use Rattle.examine.specs.declared.Reading.{Reading}
 use Rattle.reader.specs.declared.ReadAnswer.{ReadAnswer}
 use Rattle.reader.specs.declared.ReadAnswer.the-variants.{Accepted, Refused}
-use Rattle.reader.specs.Examine.{Refuses, Accepts}
+use Rattle.examine.specs.Examine.{Refuses, Accepts}
 use Rattle.packet.specs.Packet.{received, dataIn}
 use Rattle.reader.specs.Reader.{ReadFault, ReadRefuses, Reads}
 use Rattle.terms.specs.Terms.{MayMend, OnePacket, MayBeNamed}
-use Rattle.reader.proofs.ExamineOnce.{refuses-one, accepts-no-fault, accepts-one-text, accepts-one-reading, only-too-many, never-accepted}
-use Rattle.reader.proofs.Headers.{under}
+use Rattle.examine.proofs.ExamineOnce.{refuses-one, accepts-no-fault, accepts-one-text, accepts-one-reading, only-too-many, never-accepted}
+use Rattle.examine.proofs.Headers.{under}
 
 module _ (terms : Terms) (packet : List ℕ) (room : ℕ) where
   -- a packet that is refused is refused so whatever the room, since that is tested last; and the other way round

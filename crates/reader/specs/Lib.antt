@@ -1,3 +1,1 @@
-pub mod Examine
 pub mod Reader
-pub mod Steps

@@ -15,7 +15,7 @@ use Rattle.refusals.specs.Refusals.{readTold}
 use Rattle.terms.specs.declared.Terms.{Terms}
 use Rattle.reader.specs.declared.ReadAnswer.{ReadAnswer}
 use Rattle.reader.specs.declared.ReadAnswer.the-variants.{Accepted, Refused}
-use Rattle.reader.specs.Examine.{UnderHeader, Fault, Accepts}
+use Rattle.examine.specs.Examine.{UnderHeader, Fault, Accepts}
 use Rattle.packet.specs.Packet.{dataIn}
 
 -- the stated condition of each refusal, for a text buffer of so many bytes: those of the packet, and that the text is longer than the buffer

@@ -9,7 +9,7 @@ use lib.ListN.{length, length-append}
 use Rattle.header.specs.Fields.{oneIf}
 use Rattle.header.specs.Formats.{formatNumber}
 use Rattle.codes.specs.Steps.Laid.{Fronted}
-use Rattle.reader.specs.declared.Reading.{Reading}
+use Rattle.examine.specs.declared.Reading.{Reading}
 use Rattle.refusals.specs.declared.ReadRefusal.{ReadRefusal}
 use Rattle.reader.specs.declared.ReadAnswer.{ReadAnswer}
 use Rattle.reader.specs.declared.ReadAnswer.the-variants.{Accepted, Refused}

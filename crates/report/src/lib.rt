@@ -1,7 +1,7 @@
 // The line that the reading program prints of a packet.
+use examine::Reading;
 use header::Header;
 use reader::ReadAnswer;
-use reader::Reading;
 ghost use mathlib.Core.List.{[], _∷_, _++_};
 ghost use mathlib.Core.Path.{_≡_};
 ghost use Prim.Native.Nat.{_+_, _≤_, _<_};

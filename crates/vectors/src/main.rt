@@ -4,10 +4,10 @@
 // For each packet it prints what is found out without a buffer: `readable` and the eight numbers of the answer, or `refused` with the refusal's number, the
 // one that comes with it and the codes. Then for each packet or text the answer's line; for a packet `codes` and how many were read; and the number that
 // comes with a refusal, or the bytes used, then the lent buffer's Adler-32, and its first 512 bytes.
+use examine::ExamineAnswer;
 use header::Header;
 use libc::STDIN_FILENO;
 use libc::STDOUT_FILENO;
-use reader::ExamineAnswer;
 use reader::ReadAnswer;
 use writer::WriteAnswer;
 ghost use mathlib.Core.Path.{_≡_};
@@ -122,13 +122,13 @@ fn print_read(answer: ReadAnswer, text: &[u8]) {
 }
 
 fn run_reader(mend: u32, rate_1200: bool, packet: &[u8], text: &mut [u8]) {
-    print_examined(reader::examine_mending(mend, rate_1200, packet));
+    print_examined(examine::examine_mending(mend, rate_1200, packet));
     let answer = reader::read_mending(mend, rate_1200, packet, text);
     print_read(answer, text);
 }
 
 fn run_usual_reader(rate_1200: bool, packet: &[u8], text: &mut [u8]) {
-    print_examined(reader::examine(rate_1200, packet));
+    print_examined(examine::examine(rate_1200, packet));
     let answer = reader::read(rate_1200, packet, text);
     print_read(answer, text);
 }

@@ -21,10 +21,10 @@ use Rattle.refusals.specs.Match.{FirstMatch, readerTurn}
 use Rattle.refusals.specs.Refusals.{examineTold}
 use Rattle.terms.specs.declared.Terms.{Terms}
 use Rattle.terms.specs.Terms.{MayMend}
-use Rattle.reader.specs.declared.Reading.{Reading}
-use Rattle.reader.specs.declared.ExamineAnswer.{ExamineAnswer}
-use Rattle.reader.specs.declared.ExamineAnswer.the-variants.{Readable, Refused}
-use Rattle.reader.specs.Examine.{UnderHeader}
+use Rattle.examine.specs.declared.Reading.{Reading}
+use Rattle.examine.specs.declared.ExamineAnswer.{ExamineAnswer}
+use Rattle.examine.specs.declared.ExamineAnswer.the-variants.{Readable, Refused}
+use Rattle.examine.specs.Examine.{UnderHeader}
 use Rattle.at_300.specs.OneSection.Packet.{dataIn, sumIn}
 
 -- the stated condition of each refusal

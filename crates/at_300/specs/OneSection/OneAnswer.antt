@@ -8,7 +8,7 @@ use Rattle.header.specs.Valid.{lengthIn}
 use Rattle.distance.specs.Distance.{ValidWithin}
 use Rattle.packet.specs.Packet.{received}
 use Rattle.terms.specs.declared.Terms.{Terms}
-use Rattle.reader.specs.declared.ExamineAnswer.{ExamineAnswer}
+use Rattle.examine.specs.declared.ExamineAnswer.{ExamineAnswer}
 use Rattle.reader.specs.declared.ReadAnswer.{ReadAnswer}
 use Rattle.at_300.specs.OneSection.Examine.{Examines}
 use Rattle.at_300.specs.OneSection.Reader.{Reads}

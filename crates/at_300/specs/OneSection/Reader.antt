@@ -15,7 +15,7 @@ use Rattle.refusals.specs.Refusals.{readTold}
 use Rattle.terms.specs.declared.Terms.{Terms}
 use Rattle.reader.specs.declared.ReadAnswer.{ReadAnswer}
 use Rattle.reader.specs.declared.ReadAnswer.the-variants.{Accepted, Refused}
-use Rattle.reader.specs.Examine.{UnderHeader}
+use Rattle.examine.specs.Examine.{UnderHeader}
 use Rattle.at_300.specs.OneSection.Examine.{Fault, Accepts}
 use Rattle.at_300.specs.OneSection.Packet.{dataIn}
 

@@ -3,7 +3,7 @@
 use mathlib.Core.Path.{refl, subst}
 use borrow.Author.Needs.{needs}
 use lib.ListN.{length}
-use Rattle.reader.specs.Examine.{Examines}
+use Rattle.examine.specs.Examine.{Examines}
 use Rattle.reader.proofs.ReadOnce.{refused-packet}
 use Rattle.reader.proofs.read_under.Statement.{statement}
 use Rattle.reader.proofs.read_under.Tie as tie

@@ -1,10 +1,10 @@
--- `reader::examine_under` meets its contract.
+-- `examine::examine_under` meets its contract.
 -- Assumes nothing.
 use mathlib.Core.Path.{subst}
 use borrow.Author.Needs.{needs}
-use Rattle.reader.specs.Steps.Reading.{FindsHeader}
-use Rattle.reader.proofs.examine_under.Statement.{statement}
-use Rattle.reader.proofs.examine_under.Tie as tie
+use Rattle.examine.specs.Steps.Reading.{FindsHeader}
+use Rattle.examine.proofs.examine_under.Statement.{statement}
+use Rattle.examine.proofs.examine_under.Tie as tie
 
 find-header-requires : tie.Need-find-header-requires
 find-header-requires c κs = search needs

@@ -1,4 +1,4 @@
--- `reader::find_header` meets its contract: at each return the conditions of the tests passed do not hold, and the next one's does.
+-- `examine::find_header` meets its contract: at each return the conditions of the tests passed do not hold, and the next one's does.
 -- Assumes nothing.
 use mathlib.Core.Bool.{Bool}
 use mathlib.Core.List.{List}
@@ -20,14 +20,14 @@ use Rattle.mending.specs.declared.Mending.{Mending}
 use Rattle.mending.specs.declared.Mending.the-variants.{Mended, Hopeless}
 use Rattle.distance.specs.Distance.{ValidWithin, distance}
 use Rattle.mending.specs.Mends.{MendsWithin}
-use Rattle.reader.specs.Examine.{Framed}
+use Rattle.examine.specs.Examine.{Framed}
 use Rattle.packet.specs.Packet.{wholeLength, received}
-use Rattle.reader.specs.Steps.Reading.{HeaderFound}
+use Rattle.examine.specs.Steps.Reading.{HeaderFound}
 use Rattle.terms.specs.declared.Terms.{Terms}
 use Rattle.terms.specs.Terms.{MayMend, MayBeNamed}
-use Rattle.reader.proofs.ExamineStages.{Clear, clear-seventeen, clear-one, clear-two, clear-three, clear-four, clear-five}
-use Rattle.reader.proofs.find_header.Statement.{statement}
-use Rattle.reader.proofs.find_header.Tie as tie
+use Rattle.examine.proofs.ExamineStages.{Clear, clear-seventeen, clear-one, clear-two, clear-three, clear-four, clear-five}
+use Rattle.examine.proofs.find_header.Statement.{statement}
+use Rattle.examine.proofs.find_header.Tie as tie
 
 -- what mending says of the packet, for the number of bits that it was given
 mended-near : (limit given packet word bits count : ℕ) (answer : Mending) → given ≡ limit → word ≡ packet → MendsWithin given word answer

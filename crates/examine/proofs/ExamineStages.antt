@@ -19,10 +19,10 @@ use Rattle.refusals.specs.Match.{turnIn, readerOrder, readerTurn}
 use Rattle.refusals.proofs.Known.{examineFrom, examineKnown, examine-at-turn}
 use Rattle.refusals.proofs.Refused as refused
 use Rattle.terms.specs.declared.Terms.{Terms}
-use Rattle.reader.specs.Examine.{Fault, Framed}
+use Rattle.examine.specs.Examine.{Fault, Framed}
 use Rattle.packet.specs.Packet.{wholeLength, received, dataIn, Summed, FirstUnsummed}
 use Rattle.terms.specs.Terms.{MayMend, MayBeNamed}
-use Rattle.reader.proofs.Headers.{under}
+use Rattle.examine.proofs.Headers.{under}
 
 module _ (terms : Terms) (packet : List ℕ) where
   -- no condition that is tested before that of this number holds

@@ -16,12 +16,12 @@ use Rattle.codes.specs.declared.Outcome.{Outcome}
 use Rattle.formats.specs.Data.{CarriesIn, UnreadableAfter}
 use Rattle.refusals.specs.declared.ExamineRefusal.the-variants.{Checksum, Malformed}
 use Rattle.terms.specs.declared.Terms.{Terms}
-use Rattle.reader.specs.declared.Reading.{Reading}
-use Rattle.reader.specs.Examine.{Refuses, Accepts}
+use Rattle.examine.specs.declared.Reading.{Reading}
+use Rattle.examine.specs.Examine.{Refuses, Accepts}
 use Rattle.packet.specs.Packet.{wholeLength, dataIn, Summed, FirstUnsummed}
-use Rattle.reader.specs.Steps.Reading.{HeaderFound}
+use Rattle.examine.specs.Steps.Reading.{HeaderFound}
 use Rattle.terms.specs.Terms.{MayBeNamed}
-use Rattle.reader.proofs.ExamineStages.{clear-six, clear-seven}
+use Rattle.examine.proofs.ExamineStages.{clear-six, clear-seven}
 
 -- all behind the header, as the code takes it
 pub rest-is : (packet : List ℕ) → take (length packet - 4) (drop 4 packet) ≡ drop 4 packet

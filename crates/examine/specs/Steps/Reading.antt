@@ -5,10 +5,10 @@ use mathlib.Core.Path.{_≡_}
 use Prim.Native.Nat.{ℕ}
 use Rattle.header.specs.declared.Format.{Format}
 use Rattle.terms.specs.declared.Terms.{Terms}
-use Rattle.reader.specs.declared.Reading.{Reading}
-use Rattle.reader.specs.declared.HeaderAnswer.{HeaderAnswer}
-use Rattle.reader.specs.declared.HeaderAnswer.the-variants.{Found, Refused}
-use Rattle.reader.specs.Examine.{Framed, Refuses, readingOf}
+use Rattle.examine.specs.declared.Reading.{Reading}
+use Rattle.examine.specs.declared.HeaderAnswer.{HeaderAnswer}
+use Rattle.examine.specs.declared.HeaderAnswer.the-variants.{Found, Refused}
+use Rattle.examine.specs.Examine.{Framed, Refuses, readingOf}
 use Rattle.packet.specs.Packet.{received, Summed}
 
 -- they are passed: the header that the packet is read as, and its reading, with no text and no codes yet

@@ -1,4 +1,4 @@
--- `reader::examine_text` meets its contract.
+-- `examine::examine_text` meets its contract.
 -- Assumes nothing.
 use mathlib.Core.Path.{_≡_, subst}
 use native.Mathlib.Omega.{arith}
@@ -7,10 +7,10 @@ use Rattle.codes.specs.declared.Outcome.{Outcome}
 use Rattle.codes.specs.declared.Outcome.the-variants.{Text, Malformed, TooLong}
 use Rattle.formats.specs.Data.{CarriesIn, UnreadableAfter}
 use Rattle.packet.specs.Packet.{dataIn}
-use Rattle.reader.proofs.ExamineAnswers.{short, all-there, apart, counted, refused-place, accepted}
+use Rattle.examine.proofs.ExamineAnswers.{short, all-there, apart, counted, refused-place, accepted}
 use borrow.Author.Needs.{needs}
-use Rattle.reader.proofs.examine_text.Statement.{statement}
-use Rattle.reader.proofs.examine_text.Tie as tie
+use Rattle.examine.proofs.examine_text.Statement.{statement}
+use Rattle.examine.proofs.examine_text.Tie as tie
 
 -- ---- the facts, by place
 

@@ -6,7 +6,7 @@ use Prim.Native.Nat.{ℕ}
 use Rattle.distance.specs.Distance.{ValidWithin}
 use Rattle.distance.proofs.Unique.{one-near}
 use Rattle.terms.specs.declared.Terms.{Terms}
-use Rattle.reader.specs.Examine.{UnderHeader}
+use Rattle.examine.specs.Examine.{UnderHeader}
 use Rattle.packet.specs.Packet.{received}
 use Rattle.terms.specs.Terms.{MayBeNamed}
 

@@ -1,12 +1,12 @@
--- `reader::examine_mending` meets its contract.
+-- `examine::examine_mending` meets its contract.
 -- Assumes nothing.
 use mathlib.Core.Path.{refl}
 use native.Mathlib.Omega.{arith}
 use borrow.Author.Needs.{needs}
 use Rattle.terms.proofs.Usual.{bytes-so}
-use Rattle.reader.proofs.Named.{examines-naming}
-use Rattle.reader.proofs.examine_mending.Statement.{statement}
-use Rattle.reader.proofs.examine_mending.Tie as tie
+use Rattle.examine.proofs.Named.{examines-naming}
+use Rattle.examine.proofs.examine_mending.Statement.{statement}
+use Rattle.examine.proofs.examine_mending.Tie as tie
 
 naming-requires : tie.Need-naming-requires
 naming-requires c κs = search needs

@@ -1,12 +1,12 @@
--- `reader::examine` meets its contract.
+-- `examine::examine` meets its contract.
 -- Assumes nothing.
 use mathlib.Core.Path.{refl}
 use native.Mathlib.Omega.{arith}
 use borrow.Author.Needs.{needs}
 use Rattle.terms.proofs.Usual.{bytes-so}
-use Rattle.reader.proofs.Named.{examines-naming}
-use Rattle.reader.proofs.examine.Statement.{statement}
-use Rattle.reader.proofs.examine.Tie as tie
+use Rattle.examine.proofs.Named.{examines-naming}
+use Rattle.examine.proofs.examine.Statement.{statement}
+use Rattle.examine.proofs.examine.Tie as tie
 
 usual-requires : tie.Need-usual-requires
 usual-requires c κs = search needs

@@ -1,4 +1,4 @@
--- `reader::examine_data` meets its contract.
+-- `examine::examine_data` meets its contract.
 -- Assumes nothing.
 use mathlib.Core.Path.{_≡_, subst}
 use native.Mathlib.Omega.{arith}
@@ -7,10 +7,10 @@ use Rattle.header.specs.Valid.{lengthIn}
 use Rattle.sections.specs.declared.Sums.{Sums}
 use Rattle.sections.specs.declared.Sums.the-variants.{Right, Wrong}
 use Rattle.sections.specs.Steps.Sums.{Judges}
-use Rattle.reader.proofs.ExamineAnswers.{short, all-there, judged, refused-sum}
+use Rattle.examine.proofs.ExamineAnswers.{short, all-there, judged, refused-sum}
 use borrow.Author.Needs.{needs}
-use Rattle.reader.proofs.examine_data.Statement.{statement}
-use Rattle.reader.proofs.examine_data.Tie as tie
+use Rattle.examine.proofs.examine_data.Statement.{statement}
+use Rattle.examine.proofs.examine_data.Tie as tie
 
 -- ---- the facts, by place
 

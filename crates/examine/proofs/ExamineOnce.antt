@@ -20,14 +20,14 @@ use Rattle.refusals.specs.Refusals.{numberIn, examineTold}
 use Rattle.refusals.proofs.Known.{examineFrom, examineKnown, examine-at-turn, examine-one-number, before-room}
 use Rattle.refusals.proofs.Refused.{match-one, first-of-all}
 use Rattle.terms.specs.declared.Terms.{Terms}
-use Rattle.reader.specs.declared.Reading.{Reading}
-use Rattle.reader.specs.declared.ExamineAnswer.{ExamineAnswer}
-use Rattle.reader.specs.declared.ExamineAnswer.the-variants.{Readable, Refused}
-use Rattle.reader.specs.Examine.{Fault, Refuses, readingOf, Accepts, Examines}
+use Rattle.examine.specs.declared.Reading.{Reading}
+use Rattle.examine.specs.declared.ExamineAnswer.{ExamineAnswer}
+use Rattle.examine.specs.declared.ExamineAnswer.the-variants.{Readable, Refused}
+use Rattle.examine.specs.Examine.{Fault, Refuses, readingOf, Accepts, Examines}
 use Rattle.packet.specs.Packet.{received, dataIn, FirstUnsummed}
 use Rattle.terms.specs.Terms.{MayMend, OnePacket, MayBeNamed}
-use Rattle.reader.proofs.ExamineStages.{clear-seventeen, clear-eight}
-use Rattle.reader.proofs.Headers.{one-header, under}
+use Rattle.examine.proofs.ExamineStages.{clear-seventeen, clear-eight}
+use Rattle.examine.proofs.Headers.{one-header, under}
 
 module _ (terms : Terms) (named : MayBeNamed terms) (packet : List ℕ) where
   places : (i k j l : ℕ) → Fault terms packet (Malformed i k) → Fault terms packet (Malformed j l) → (i ≡ j) × (k ≡ l)

@@ -21,8 +21,8 @@ use Rattle.packet.proofs.Sent.{header-valid, header-typed, header-length, heade
 use Rattle.refusals.specs.declared.ExamineRefusal.the-variants.{Checksum}
 use Rattle.terms.specs.declared.Terms.{Terms}
 use Rattle.terms.specs.Terms.{MayBeNamed}
-use Rattle.reader.specs.Examine.{Framed, Allowed, readingOf, Refuses}
-use Rattle.reader.proofs.ExamineStages.{clear-six}
+use Rattle.examine.specs.Examine.{Framed, Allowed, readingOf, Refuses}
+use Rattle.examine.proofs.ExamineStages.{clear-six}
 
 module _ (terms : Terms) (named : MayBeNamed terms) (format : Format) (sync : Bool) (word : ℕ) (carried after : List ℕ)
     (some : 1 ≤ length carried) (few : length carried ≤ terms .most) (bits : word < 2 ^ 32)

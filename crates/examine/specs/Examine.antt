@@ -19,9 +19,9 @@ use Rattle.refusals.specs.Match.{FirstMatch, readerTurn}
 use Rattle.refusals.specs.Refusals.{examineTold}
 use Rattle.terms.specs.declared.Terms.{Terms}
 use Rattle.terms.specs.Terms.{MayMend}
-use Rattle.reader.specs.declared.Reading.{Reading}
-use Rattle.reader.specs.declared.ExamineAnswer.{ExamineAnswer}
-use Rattle.reader.specs.declared.ExamineAnswer.the-variants.{Readable, Refused}
+use Rattle.examine.specs.declared.Reading.{Reading}
+use Rattle.examine.specs.declared.ExamineAnswer.{ExamineAnswer}
+use Rattle.examine.specs.declared.ExamineAnswer.the-variants.{Readable, Refused}
 use Rattle.packet.specs.Packet.{wholeLength, received, dataIn, Summed, FirstUnsummed}
 
 -- the valid header that the packet is read as, no further away than the bits to mend, with what the condition says of it
