@@ -4,7 +4,7 @@ use mathlib.Core.Bool.{Bool}
 use mathlib.Core.List.{List, []}
 use mathlib.Core.Logic.{_⊎_, inl, inr}
 use mathlib.Core.Path.{_≡_}
-use Prim.Native.Nat.{ℕ, _≤_, _<_}
+use Prim.Native.Nat.{ℕ, _<_}
 use lib.ListN.{length}
 use Rattle.bits.specs.Row.{bits}
 use Rattle.codes.specs.Chain.{Entry, Scheme, Builds, Stuck, Built, Malformed}
@@ -26,9 +26,8 @@ pub record DataLaws (Carried : List ℕ → List ℕ → Type 0) (Place : List �
   pub carried-coded : (t carried : List ℕ) → Carried t carried → CodedBelow has t (length t)
   pub carried-kept : (t carried : List ℕ) → Carried t carried → given t ≡ t
   pub back-coded : (t carried : List ℕ) → Carried (given t) carried → CodedBelow has t (length t)
-  -- what our writer makes of a text that has codes carries what the text comes back as, and nothing that carries that has fewer bytes
+  -- what our writer makes of a text that has codes carries what the text comes back as
   pub made-carries : (t : List ℕ) → CodedBelow has t (length t) → Carried (given t) (made t)
-  pub no-fewer : (t carried : List ℕ) → CodedBelow has t (length t) → Carried (given t) carried → length (made t) ≤ length carried
   -- some data, some text; no data, no text; and some text comes back as some
   pub carried-some : (t carried : List ℕ) → 0 < length carried → Carried t carried → 0 < length t
   pub carried-none : (t : List ℕ) → Carried t [] → t ≡ []
@@ -59,7 +58,6 @@ module _ {scheme : Scheme} (laws : Laws scheme) where
     carried-kept = w .built-kept;
     back-coded = w .back-coded;
     made-carries = w .ours-built;
-    no-fewer = w .no-fewer-bytes;
     carried-some = w .built-nonempty;
     carried-none = built-none;
     given-some = w .given-nonempty;

@@ -13,7 +13,7 @@ use Rattle.codes.specs.Pack.{Binary, written}
 use Rattle.codes.specs.Coded.{alone, CodedBelow}
 use Rattle.codes.proofs.CodedTexts.{coded-none, coded-append, coded-every}
 use Rattle.codes.proofs.EveryElement.{every, every-at}
-use Rattle.codes.proofs.BitsInBytes.{Closes, binary, row-binary, length-written, written-built, written-bytes, built-closes, built-length, length-bits}
+use Rattle.codes.proofs.BitsInBytes.{Closes, binary, row-binary, written-built, written-bytes, built-closes, length-bits}
 use Rattle.codes.proofs.NonemptyText.{Speaks, never-silent}
 use Rattle.codes.proofs.OneReading.{one-row}
 use Rattle.codes.proofs.SchemeLaws.{Laws}
@@ -70,9 +70,8 @@ pub record WriterLaws (scheme : Scheme) (has : List ℕ → ℕ → Bool) (given
   pub ours-entries : Laws scheme → (t u : List ℕ) → CodedBelow has t (length t) → (b : Built scheme u (written (ours t))) → b .entries ≡ ours t
   -- and that text is not empty where the text is not
   pub given-nonempty : (t : List ℕ) → 0 < length t → CodedBelow has t (length t) → 0 < length (given t)
-  -- no building of that text has fewer bits before its fill than the writer's, and none fewer bytes
+  -- no building of that text has fewer bits before its fill than the writer's
   pub no-shorter : (t sent : List ℕ) → CodedBelow has t (length t) → (b : Built scheme (given t) sent) → length (codes (ours t)) ≤ bitsIn b
-  pub no-fewer-bytes : (t sent : List ℕ) → CodedBelow has t (length t) → Built scheme (given t) sent → length (written (ours t)) ≤ length sent
   -- a text has codes if what it comes back as was built
   pub back-coded : (t sent : List ℕ) → Built scheme (given t) sent → CodedBelow has t (length t)
   -- a text that was built has codes, comes back as it is, and is built again by the writer; and if its data has a byte or more, it is not empty
@@ -106,7 +105,6 @@ module _ {scheme : Scheme} {has : List ℕ → ℕ → Bool} {given : List ℕ �
     ours-entries = λ laws t u h b. written-entries laws (ours t) (w .closes t h) (w .row t h) (codes-binary t h) b;
     given-nonempty = w .nonempty;
     no-shorter = none-shorter;
-    no-fewer-bytes = λ t sent h b. omega (arith, none-shorter t sent h b, length-written (ours t), built-length (w .few) sent b);
     back-coded = λ t sent b. w .coded t (b .entries) (b .row) (b .says);
     built-coded = text-coded;
     built-kept = same;

@@ -19,7 +19,8 @@ use Rattle.numeric.proofs.Table as numeric-table
 use Rattle.pseudo_binary.proofs.Writer as pseudo-writer
 use Rattle.shef.proofs.Table as shef-table
 use Rattle.formats.specs.Data.{Carries, UnreadableAfter, coded, AllCoded, Uncoded, dataOf, comesBack}
-use Rattle.formats.proofs.Formats.{carries-coded, back-coded, readable, never-unreadable, writer-carries, no-fewer}
+use Rattle.formats.proofs.Bits.{no-fewer}
+use Rattle.formats.proofs.Formats.{carries-coded, back-coded, readable, never-unreadable, writer-carries}
 use Rattle.refusals.specs.declared.ExamineRefusal.{ExamineRefusal}
 use Rattle.refusals.specs.declared.ReadRefusal.{ReadRefusal}
 use Rattle.refusals.specs.declared.WriteRefusal.{WriteRefusal}

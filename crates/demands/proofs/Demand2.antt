@@ -19,7 +19,8 @@ use Rattle.distance.specs.Distance.{distance}
 use Rattle.sections.specs.Sections.{sentLength}
 use Rattle.formats.specs.Data.{Carries, codesIn, AllCoded, comesBack, dataOf, codesOf}
 use Rattle.formats.proofs.Codes.{ours-codes}
-use Rattle.formats.proofs.Formats.{carries-coded, carries-kept, carries-some, data-some, no-fewer, writer-carries}
+use Rattle.formats.proofs.Bits.{no-fewer}
+use Rattle.formats.proofs.Formats.{carries-coded, carries-kept, carries-some, data-some, writer-carries}
 use Rattle.refusals.specs.declared.WriteRefusal.the-variants.{Empty}
 use Rattle.terms.specs.declared.Terms.{Terms}
 use Rattle.examine.specs.declared.Reading.{Reading}

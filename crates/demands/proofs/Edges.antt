@@ -260,12 +260,12 @@ row-holds (overlong rate-1200 numbers head format sync length) (is, (small, (man
     )
 row-holds (longest bytes characters) (most, (ours, t)) = (
   λ text carried few built. omega (arith, built-bound carried built, eqb→eq characters (16 * (8 * bytes / 6)) most),
-  alike-bytes pseudo.slashes 47 characters refl .3 ∙ eqb→eq (fullBytes pseudo.slashes characters) bytes ours,
+  alike-bytes pseudo.slashes 47 characters refl .2 ∙ eqb→eq (fullBytes pseudo.slashes characters) bytes ours,
 )
 row-holds (singly character count single ours) (has, (one, (full, t))) =
     let k = pseudo-writer.kind character in
     let b = alike-bytes k character count (kind-of k character has refl) in
-    ((b .0, b .1, b .2 ∙ eqb→eq (singleBytes k count) single one), b .3 ∙ eqb→eq (fullBytes k count) ours full)
+    (b .0, b .1 ∙ eqb→eq (singleBytes k count) single one, b .2 ∙ eqb→eq (fullBytes k count) ours full)
 row-holds (lacks format text index) (there, (before, (none, t))) =
     record {
       there = ltb→lt index (length text) there;

@@ -13,6 +13,8 @@ use Rattle.header.specs.declared.Format.the-variants.{PseudoBinary}
 use Rattle.header.specs.Formats.{formatNumber}
 use Rattle.header.proofs.Formats.{one-number}
 use Rattle.codes.proofs.CodedTexts.{coded-below}
+use Rattle.codes.specs.Pack.{written}
+use Rattle.pseudo_binary.specs.Makers.{singly}
 use Rattle.pseudo_binary.specs.Table.{SLASH, Kind, values, slashes, isOf}
 use Rattle.pseudo_binary.specs.Writer.{ourMost, Alike}
 use Rattle.pseudo_binary.proofs.Characters.{alike-replicate}
@@ -20,8 +22,8 @@ use Rattle.pseudo_binary.proofs.Length.{width, each}
 use Rattle.pseudo_binary.proofs.Size.{started}
 use Rattle.pseudo_binary.proofs.Waste.{alike-coded}
 use Rattle.formats.specs.Data.{Carries, coded, AllCoded, dataOf, comesBack}
-use Rattle.formats.proofs.Bits.{bits-one, bits-bytes, bits-least, bits-apart, bytes-apart, single-run, our-run, apart-reached}
-use Rattle.formats.proofs.Formats.{back-coded, no-fewer, writer-carries}
+use Rattle.formats.proofs.Bits.{bits-one, bits-bytes, bits-least, bits-apart, bytes-apart, no-fewer, single-run, our-run, apart-reached}
+use Rattle.formats.proofs.Formats.{back-coded, writer-carries}
 use Rattle.refusals.specs.declared.WriteRefusal.{WriteRefusal}
 use Rattle.refusals.specs.declared.WriteRefusal.the-variants.{Empty, NoCode, TooLong, NoRoom}
 use Rattle.refusals.specs.Match.{turnIn, writerTurn}
@@ -156,25 +158,25 @@ no-shorter terms = record {
 
 -- ---- waste
 
-singly : (k : Kind) (text : List ℕ) → Alike k text → {single ours : ℕ} → width k * length text + each k * length text ≡ single
+single-ones : (k : Kind) (text : List ℕ) → Alike k text → {single ours : ℕ} → width k * length text + each k * length text ≡ single
     → width k * started k (length text) + each k * length text ≡ ours → Singly text single ours
-singly k text alike x y =
+single-ones k text alike x y =
     let s = single-run k text alike in
     let made = writer-carries PseudoBinary text (alike-coded k text alike) in
-    record { carried = s .0; carries = s .1; has = s .2 ∙ x; ours-carries = made; ours-has = our-run k text alike made ∙ y }
+    record { carries = s .0; has = s .1 ∙ x; ours-carries = made; ours-has = our-run k text alike made ∙ y }
 
 -- n characters alike, in bytes
 pub alike-bytes : (k : Kind) (c n : ℕ) → isOf k c ≡ true
-    → (carried : List ℕ) × Carries PseudoBinary (comesBack PseudoBinary (replicate n c)) carried × (length carried ≡ (width k * n + each k * n + 7) / 8)
+    → Carries PseudoBinary (comesBack PseudoBinary (replicate n c)) (written (singly (replicate n c)))
+    × (length (written (singly (replicate n c))) ≡ (width k * n + each k * n + 7) / 8)
     × (length (dataOf PseudoBinary (replicate n c)) ≡ (width k * started k n + each k * n + 7) / 8)
 alike-bytes k c n is =
     let text = replicate n c in
     let back = comesBack PseudoBinary text in
     let long : length text ≡ n = length-replicate {A = ℕ} n c in
-    let s = singly k text (alike-replicate k c n is) refl refl in (
-      s .carried,
+    let s = single-ones k text (alike-replicate k c n is) refl refl in (
       s .carries,
-      bits-bytes PseudoBinary back (s .carried) (s .carries) ∙ ap (λ (x : ℕ). (x + 7) / 8) (s .has ∙ ap (λ (m : ℕ). width k * m + each k * m) long),
+      bits-bytes PseudoBinary back (written (singly text)) (s .carries) ∙ ap (λ (x : ℕ). (x + 7) / 8) (s .has ∙ ap (λ (m : ℕ). width k * m + each k * m) long),
       bits-bytes PseudoBinary back (dataOf PseudoBinary text) (s .ours-carries)
           ∙ ap (λ (x : ℕ). (x + 7) / 8) (s .ours-has ∙ ap (λ (m : ℕ). width k * started k m + each k * m) long),
     )
@@ -186,7 +188,7 @@ waste = record {
   bytes-at-most = bytes-apart;
   times-reached = apart-reached;
   single-slashes = λ n.
-      singly slashes (replicate n SLASH) (alike-replicate slashes SLASH n refl) (omega (arith, length-replicate {A = ℕ} n SLASH))
+      single-ones slashes (replicate n SLASH) (alike-replicate slashes SLASH n refl) (omega (arith, length-replicate {A = ℕ} n SLASH))
       (omega (arith, length-replicate {A = ℕ} n SLASH));
-  single-values = λ text alike. singly values text alike (omega arith) (omega arith);
+  single-values = λ text alike. single-ones values text alike (omega arith) (omega arith);
 }

@@ -12,6 +12,8 @@ use Rattle.header.specs.Formats.{HasFormat}
 use Rattle.header.specs.Valid.{Valid, flagIn, lengthIn, checkIn}
 use Rattle.mending.specs.declared.Mending.the-variants.{Mended}
 use Rattle.mending.specs.Mends.{MendsWithin}
+use Rattle.codes.specs.Pack.{written}
+use Rattle.pseudo_binary.specs.Makers as makers
 use Rattle.formats.specs.Ceiling.{ceiling}
 use Rattle.formats.specs.Data.{Carries, CarriesIn, UnreadableAfter, Uncoded, dataOf, comesBack}
 use Rattle.refusals.specs.declared.ExamineRefusal.{ExamineRefusal}
@@ -97,7 +99,8 @@ Holds (longest bytes characters) =
     × (length (dataOf PseudoBinary (replicate characters 47)) ≡ bytes)
 Holds (singly character count single ours) =
     let text = replicate count character in
-    ((carried : List ℕ) × Carries PseudoBinary (comesBack PseudoBinary text) carried × (length carried ≡ single)) × (length (dataOf PseudoBinary text) ≡ ours)
+    Carries PseudoBinary (comesBack PseudoBinary text) (written (makers.singly text)) × (length (written (makers.singly text)) ≡ single)
+    × (length (dataOf PseudoBinary text) ≡ ours)
 
 -- text in ASCII: A 65, B 66, E 69, a 97, > 62, ? 63, ~ 126, DEL 127, 0 48, 1 49, 2 50, space 32, # 35, + 43, - 45, . 46, slash 47, : 58, ; 59, = 61, CR 13, LF 10
 abbrev pub edges : List Edge

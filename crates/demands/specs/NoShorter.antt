@@ -10,6 +10,8 @@ use lib.ListN.{length, replicate}
 use Rattle.header.specs.declared.Format.{Format}
 use Rattle.header.specs.declared.Format.the-variants.{PseudoBinary}
 use Rattle.header.specs.Formats.{formatNumber}
+use Rattle.codes.specs.Pack.{written}
+use Rattle.pseudo_binary.specs.Makers.{singly}
 use Rattle.pseudo_binary.specs.Table.{SLASH, values}
 use Rattle.pseudo_binary.specs.Writer.{Alike}
 use Rattle.formats.specs.Data.{Carries, bitsBeforeFill, AllCoded, dataOf, comesBack}
@@ -61,9 +63,8 @@ pub record NoShorter (terms : Terms) : Type 0 where
 
 -- a text of Pseudo Binary, each character under an indicator of its own: so many bits before the fill, where our writer's data has so many
 pub record Singly (text : List ℕ) (single ours : ℕ) : Type 0 where
-  pub carried : List ℕ
-  pub carries : Carries PseudoBinary (comesBack PseudoBinary text) carried
-  pub has : bitsBeforeFill PseudoBinary (comesBack PseudoBinary text) carried carries ≡ single
+  pub carries : Carries PseudoBinary (comesBack PseudoBinary text) (written (singly text))
+  pub has : bitsBeforeFill PseudoBinary (comesBack PseudoBinary text) (written (singly text)) carries ≡ single
   pub ours-carries : Carries PseudoBinary (comesBack PseudoBinary text) (dataOf PseudoBinary text)
   pub ours-has : bitsBeforeFill PseudoBinary (comesBack PseudoBinary text) (dataOf PseudoBinary text) ours-carries ≡ ours
 

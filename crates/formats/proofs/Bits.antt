@@ -1,6 +1,5 @@
 -- How many bits of data stand before its fill: one number, and what its bytes come to; the fewest in our writer's; and how many times as many in another's.
 -- Assumes nothing.
-use mathlib.Core.Bool.{Bool}
 use mathlib.Core.List.{List}
 use mathlib.Core.Path.{_≡_, refl, sym, ap, subst⁻¹, _∙_}
 use Prim.Native.Nat.{ℕ, _+_, _*_, _/_, _≤_}
@@ -24,6 +23,7 @@ use Rattle.full_ascii.proofs.Writer as ascii-built
 use Rattle.numeric.proofs.Table as numeric-table
 use Rattle.numeric.proofs.Writer as numeric-built
 use Rattle.pseudo_binary.specs.Table.{SLASH, Kind, slashes, isOf}
+use Rattle.pseudo_binary.specs.Makers.{singly}
 use Rattle.pseudo_binary.specs.Writer as pseudo-writer
 use Rattle.pseudo_binary.proofs.Characters.{alike-replicate}
 use Rattle.pseudo_binary.proofs.Length.{width, each}
@@ -33,7 +33,7 @@ use Rattle.pseudo_binary.proofs.Waste as pseudo-waste
 use Rattle.pseudo_binary.proofs.Writer as pseudo-built
 use Rattle.shef.proofs.Table as shef-table
 use Rattle.shef.proofs.Writer as shef-built
-use Rattle.formats.specs.Data.{Carries, bitsBeforeFill, dataOf, comesBack}
+use Rattle.formats.specs.Data.{Carries, bitsBeforeFill, AllCoded, dataOf, comesBack}
 use Rattle.formats.specs.Waste.{timesAtMost}
 use Rattle.formats.proofs.Codes.{reached}
 use Rattle.formats.proofs.Formats.{carries-coded, writer-carries}
@@ -73,6 +73,18 @@ bits-least Numeric text carried ours theirs = le-of-eq (numeric-built.same-bits 
 bits-least Shef text carried ours theirs = scheme-least shef-table.laws shef-built.writer-laws text carried ours theirs
 bits-least FullAscii text carried ours theirs = scheme-least ascii-table.laws ascii-built.writer-laws text carried ours theirs
 
+-- and so the fewest bytes
+pub no-fewer : (format : Format) (text carried : List ℕ) → AllCoded format text → Carries format (comesBack format text) carried
+    → length (dataOf format text) ≤ length carried
+no-fewer format text carried coded theirs =
+    let ours = writer-carries format text coded in
+    omega (
+      arith,
+      bits-least format text carried ours theirs,
+      bits-bytes format (comesBack format text) (dataOf format text) ours,
+      bits-bytes format (comesBack format text) carried theirs,
+    )
+
 -- ---- so many times as many at most
 
 pub bits-apart : (format : Format) (text a b : List ℕ) (p : Carries format text a) (q : Carries format text b)
@@ -101,11 +113,11 @@ bytes-apart format text a b p q =
 -- ---- a run of one kind in Pseudo Binary, in single ones and as ours
 
 module _ (k : Kind) (r : List ℕ) (alike : pseudo-writer.Alike k r) where
-  pub single-run : (carried : List ℕ) × (b : Carries PseudoBinary (comesBack PseudoBinary r) carried)
-      × (bitsBeforeFill PseudoBinary (comesBack PseudoBinary r) carried b ≡ width k * length r + each k * length r)
+  pub single-run : (b : Carries PseudoBinary (comesBack PseudoBinary r) (written (singly r)))
+      × (bitsBeforeFill PseudoBinary (comesBack PseudoBinary r) (written (singly r)) b ≡ width k * length r + each k * length r)
   single-run =
       let b = pseudo-waste.singly-built r (pseudo-waste.alike-coded k r alike) in
-      (written (pseudo-waste.singly r), b .0, b .1 ∙ pseudo-waste.singly-bits k r alike)
+      (b .0, b .1 ∙ pseudo-waste.singly-bits k r alike)
 
   pub our-run : (b : Carries PseudoBinary (comesBack PseudoBinary r) (dataOf PseudoBinary r))
       → bitsBeforeFill PseudoBinary (comesBack PseudoBinary r) (dataOf PseudoBinary r) b ≡ width k * started k (length r) + each k * length r
@@ -145,7 +157,7 @@ apart-reached PseudoBinary n =
     let single = single-run slashes r alike in
     let made = writer-carries PseudoBinary r (pseudo-waste.alike-coded slashes r alike) in
     let ours = our-run slashes r alike made in
-    (comesBack PseudoBinary r, single .0, dataOf PseudoBinary r, single .1, made, omega (arith, ours), omega (arith, single .2, ours))
+    (comesBack PseudoBinary r, written (singly r), dataOf PseudoBinary r, single .0, made, omega (arith, ours), omega (arith, single .1, ours))
 apart-reached Numeric n = one-way Numeric n refl
 apart-reached Shef n = one-way Shef n refl
 apart-reached FullAscii n =

@@ -1,11 +1,10 @@
 -- What holds of the data of every format: one text or one place, never both and always one; what our writer makes of a text carries what the text comes
--- back as, and nothing that carries it has fewer bytes; a text that is carried has codes, comes back as it is, and is not empty where the data is not.
+-- back as; a text that is carried has codes, comes back as it is, and is not empty where the data is not. (That none has fewer bits, or bytes: Bits.)
 -- Assumes nothing.
 use mathlib.Core.List.{List, [], _∷_}
 use mathlib.Core.Logic.{_⊎_, inl}
 use mathlib.Core.Path.{_≡_, refl, sym, ap, _∙_, subst}
-use Prim.Native.Nat.{ℕ, _≤_, _<_, zero-le, suc-le-suc}
-use native.Mathlib.Nat.{le-of-eq}
+use Prim.Native.Nat.{ℕ, _<_, zero-le, suc-le-suc}
 use native.Mathlib.Omega.{arith}
 use lib.ListN.{length}
 use Rattle.header.specs.declared.Format.{Format}
@@ -30,7 +29,6 @@ open-laws = record {
   carried-kept = λ t carried p. refl;
   back-coded = λ t carried p i lt. tt;
   made-carries = λ t h. refl;
-  no-fewer = λ t carried h p. le-of-eq (ap length (sym p));
   carried-some = λ t carried some p. omega (arith, ap length p);
   carried-none = λ t p. sym p;
   given-some = λ t some h. some;
@@ -70,11 +68,6 @@ module _ (format : Format) where
   -- what our writer makes of a text that has codes carries what the text comes back as
   pub writer-carries : (text : List ℕ) → AllCoded format text → Carries format (comesBack format text) (dataOf format text)
   writer-carries = laws format .made-carries
-
-  -- and nothing that carries that has fewer bytes
-  pub no-fewer : (text carried : List ℕ) → AllCoded format text → Carries format (comesBack format text) carried
-      → length (dataOf format text) ≤ length carried
-  no-fewer = laws format .no-fewer
 
   -- what is carried is carried by what our writer makes of it
   pub carries-again : (text carried : List ℕ) → Carries format text carried → Carries format text (dataOf format text)

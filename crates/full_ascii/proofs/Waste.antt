@@ -18,7 +18,7 @@ use Rattle.codes.proofs.SingleTable.{row-one}
 use Rattle.codes.proofs.Weighed.{weight, Weighing, times-at-most}
 use Rattle.full_ascii.specs.Table.{LF, CR, six, seven, special, pair, table, scheme}
 use Rattle.full_ascii.specs.Writer.{coded, own, ours}
-use Rattle.full_ascii.proofs.Entries.{own-in, pair-in}
+use Rattle.full_ascii.proofs.Entries.{own-in}
 use Rattle.full_ascii.proofs.Table.{mutes, all-bits}
 use Rattle.full_ascii.proofs.Writer.{size, size-pair}
 

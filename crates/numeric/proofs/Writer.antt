@@ -1,35 +1,33 @@
 -- What our writer builds is a building of what its text comes back as, and there is no other. Texts that can be read have codes, and are never empty.
 -- Assumes nothing.
 use mathlib.Core.Path.{_≡_, refl, sym, ap, ap₂, subst, subst⁻¹, _∙_}
-use mathlib.Core.Bool.{Bool, true, false, not, cond, _&&_}
-use mathlib.Core.Logic.{inl, inr, ⊎-elim}
+use mathlib.Core.Bool.{Bool, true, false, not, cond}
+use mathlib.Core.Logic.{inl, ⊎-elim}
 use mathlib.Core.List.{List, [], _∷_, _++_, append-nil, List·Memᴰ}
-use Prim.Native.Nat.{ℕ, _+_, _-_, _*_, _/_, _%_, _≤_, _<_, zero-le}
+use Prim.Native.Nat.{ℕ, _-_, _*_, _/_, _%_, _≤_, _<_, zero-le}
 use native.Mathlib.Omega.{arith}
-use lib.Dec.{T, T-not, eqb, eqb→eq, lit<}
+use lib.Dec.{T, T-not, eqb, lit<}
 use lib.ListN.{length, length-append, take, getD}
 use Rattle.bits.specs.Numbers.{numbers}
-use Rattle.bits.specs.Row.{bits, Bytes}
+use Rattle.bits.specs.Row.{Bytes}
 use Rattle.codes.specs.Chain as chain
-use Rattle.codes.specs.Chain.{Entry, In, Row, codes, texts, bitsIn, Malformed}
+use Rattle.codes.specs.Chain.{Entry, Row, codes, texts, bitsIn, Malformed}
 use Rattle.codes.specs.Coded.{lastOf}
-use Rattle.codes.specs.Consecutive.{codeFor, consecutive}
 use Rattle.codes.specs.LineEnds.{eachAfter, ended, lineEnds}
-use Rattle.codes.specs.Lookup.{same, found, saying, meaning}
-use Rattle.codes.specs.Pack.{low, gap, written}
-use Rattle.bits.proofs.Said.{and-left, and-right}
-use Rattle.codes.proofs.BitsInBytes.{length-written, written-built, length-bits}
+use Rattle.codes.specs.Lookup.{found, saying, meaning}
+use Rattle.codes.specs.Pack.{gap, written}
+use Rattle.bits.proofs.Said.{and-left}
+use Rattle.codes.proofs.BitsInBytes.{written-built}
 use Rattle.codes.proofs.WriterLaws.{written-entries}
 use Rattle.codes.proofs.CodedBehind.{coded-after, after-coded}
-use Rattle.codes.proofs.CodedTexts.{coded-every}
 use Rattle.codes.proofs.DataLaws.{DataLaws}
 use Rattle.codes.proofs.EveryElement.{every, every-at}
 use Rattle.codes.proofs.LineTables.{ended-some, line-pieces, line-whole, lines-kept}
-use Rattle.codes.proofs.Lookup.{unlike, meant}
+use Rattle.codes.proofs.Lookup.{meant}
 use Rattle.codes.proofs.OneBuilding.{same-data}
 use Rattle.codes.proofs.OneReading.{one-place}
 use Rattle.codes.proofs.PassedEntries.{codes-append, texts-append}
-use Rattle.codes.proofs.Pieces.{AllIn, row-all, all-row, all-append, Piece}
+use Rattle.codes.proofs.Pieces.{AllIn, row-all, all-row, all-append}
 use Rattle.codes.proofs.Pieces as pieces
 use Rattle.numeric.specs.Table.{characters, table, scheme}
 use Rattle.numeric.specs.Translation.{sent, itself, specials, translation, Apart, AllApart, Translates, translated}
@@ -39,72 +37,9 @@ use Rattle.numeric.specs.Writer.{own, baseOf, clashes, codedBehind, code
 use Rattle.numeric.proofs.Table as four-bits
 use Rattle.numeric.proofs.Translation.{mutes, itself-in}
 use Rattle.numeric.proofs.Clashes.{lines, distinct, ends, coded-apart, apart-coded, start-clear}
-use Rattle.numeric.proofs.InFour.{isBase, evened-length, sent-base, ours-binary}
+use Rattle.numeric.proofs.Fours.{itsOwn, distinct-texts, own-pieces, four-each, fours-says, fours-in, two-each}
+use Rattle.numeric.proofs.InFour.{evened-length, sent-base, ours-binary}
 use Rattle.numeric.proofs.Data.{character-in, text-built, one-built, never-malformed}
-
--- Base characters in four bits each
-
-abbrev itsOwn : ℕ → ℕ → List ℕ
-itsOwn before c = c ∷ []
-
-unfoldable fours : Entry → Bool
-fours e = eqb (length (e .code)) 4 && eqb (length (e .says)) 1
-
-all-fours : T (every fours table)
-unfolding table consecutive codeFor characters numbers low every fours
-all-fours = tt
-
-distinct-texts : T (unlike (λ e. e .says) table)
-unfolding table consecutive codeFor characters numbers every unlike same
-distinct-texts = tt
-
-own-piece : (u : List ℕ) → T (eqb (length u) 1) → Piece itsOwn u
-own-piece [] t = absurd t
-own-piece (c ∷ []) t = inl (c, refl, λ b. refl)
-own-piece (c ∷ d ∷ u) t = absurd (let no : ⊥ = omega (arith, eqb→eq (length (c ∷ d ∷ u)) 1 t) in no)
-
-own-pieces : (e : Entry) → In e table → Piece itsOwn (e .says)
-unfolding fours
-own-pieces e h = own-piece (e .says) (and-right (eqb (length (e .code)) 4) (eqb (length (e .says)) 1) (every-at fours table all-fours e h))
-
--- four bits for each character that is said
-four-each : (es : List Entry) → AllIn table es → length (codes es) ≡ 4 * length (texts es)
-unfolding codes texts fours
-four-each [] h = refl
-four-each (e ∷ es) h =
-    let t = every-at fours table all-fours e (h .0) in
-    let f = eqb→eq (length (e .code)) 4 (and-left (eqb (length (e .code)) 4) (eqb (length (e .says)) 1) t) in
-    let o = eqb→eq (length (e .says)) 1 (and-right (eqb (length (e .code)) 4) (eqb (length (e .says)) 1) t) in
-    omega (arith, length-append (e .code) (codes es), length-append (e .says) (texts es), f, o, four-each es (h .1))
-
-abbrev inFours : List ℕ → List Entry
-inFours = eachAfter (λ before c. saying table (c ∷ [])) 0
-
-each-own : (base : List ℕ) (b : ℕ) → eachAfter itsOwn b base ≡ base
-unfolding eachAfter
-each-own [] b = refl
-each-own (c ∷ base) b = ap (λ (l : List ℕ). c ∷ l) (each-own base c)
-
-fours-says : (base : List ℕ) → T (every isBase base) → texts (inFours base) ≡ base
-unfolding isBase
-fours-says base t =
-    pieces.pieces-says itsOwn table own-pieces distinct-texts (λ b c. inr (refl, inl (c, refl, λ b. refl))) base (coded-every isBase base t) 0 ∙ each-own base 0
-
-fours-in : (base : List ℕ) → AllIn table (inFours base)
-fours-in base = pieces.pieces-in itsOwn table own-pieces distinct-texts (λ b c. inr (refl, inl (c, refl, λ b. refl))) base 0
-
--- two base characters, eight bits, to a byte of data
-two-each : (base carried : List ℕ) → chain.Built scheme base carried → length base ≡ 2 * length carried
-two-each base carried b =
-    omega (
-      arith,
-      length-bits carried,
-      ap length (b .bits),
-      length-append (codes (b .entries)) (b .fill),
-      b .ends .few,
-      four-each (b .entries) (row-all table 0 0 0 (b .entries) (b .row)),
-      ap length (b .says),
-    )
 
 -- Base characters sent for a text
 
@@ -256,10 +191,9 @@ ours-entries t u b =
     written-entries four-bits.laws (ours t) (even-closes (length (codes (ours t))) (length (sentFor t)) (ours-size t) (sent-even t)) (ours-row t)
     (ours-binary t) (b .codes)
 
--- all data that carries what a text comes back as has the same base characters, so as many bytes
-same-base : (t carried : List ℕ) → AllCoded t → (b : Built (comesBack t) carried) → b .base ≡ sentFor t
-same-base t carried h b =
-    one-sending (b .base) (comesBack t) (b .translates) ∙ sym (one-sending (sentFor t) (comesBack t) (ours-translates t h))
+-- all data that carries one text has the same base characters
+same-base : (text a b : List ℕ) (p : Built text a) (q : Built text b) → p .base ≡ q .base
+same-base text a b p q = one-sending (p .base) text (p .translates) ∙ sym (one-sending (q .base) text (q .translates))
 
 -- four bits for each, before a fill that has none
 base-bits : (text carried : List ℕ) (b : Built text carried) → bitsIn (b .codes) ≡ 4 * length (b .base)
@@ -267,25 +201,18 @@ base-bits text carried b =
     let c = b .codes in
     four-each (c .entries) (row-all table 0 0 0 (c .entries) (c .row)) ∙ ap (λ (u : List ℕ). 4 * length u) (c .says)
 
--- data that carries one text has as many bits before its fill
+-- and so as many bits before its fill
 pub same-bits : (text a b : List ℕ) (p : Built text a) (q : Built text b) → bitsIn (p .codes) ≡ bitsIn (q .codes)
-same-bits text a b p q =
-    let base = one-sending (p .base) text (p .translates) ∙ sym (one-sending (q .base) text (q .translates)) in
-    base-bits text a p ∙ ap (λ (u : List ℕ). 4 * length u) base ∙ sym (base-bits text b q)
-
-no-fewer-bytes : (t carried : List ℕ) → AllCoded t → Built (comesBack t) carried → length (written (ours t)) ≤ length carried
-no-fewer-bytes t carried h b =
-    omega (arith, length-written (ours t), ours-size t, two-each (b .base) carried (b .codes), ap length (same-base t carried h b))
+same-bits text a b p q = base-bits text a p ∙ ap (λ (u : List ℕ). 4 * length u) (same-base text a b p q) ∙ sym (base-bits text b q)
 
 -- so there are no two buildings of a text
 pub one-building : (text a b : List ℕ) → Bytes a → Bytes b → Built text a → Built text b → a ≡ b
 one-building text a b h k p q =
     let c = p .codes in
     let d = q .codes in
-    let base = one-sending (p .base) text (p .translates) ∙ sym (one-sending (q .base) text (q .translates)) in
     same-data (lit< tt) a b c d
     (pieces.one-row itsOwn table own-pieces distinct-texts (c .entries) (d .entries) (row-all table 0 0 0 (c .entries) (c .row)) (row-all table 0 0 0 (d .entries) (d .row))
-    (c .says ∙ base ∙ sym (d .says)))
+    (c .says ∙ same-base text a b p q ∙ sym (d .says)))
     h k
 
 -- Texts that are carried
@@ -335,7 +262,6 @@ data-laws = record {
   carried-kept = kept;
   back-coded = back-coded;
   made-carries = ours-built;
-  no-fewer = no-fewer-bytes;
   carried-some = built-some;
   carried-none = built-none;
   given-some = given-some;

@@ -1,6 +1,6 @@
 -- Our writer cuts a whole run of one kind into the fullest indicators, with the remainder last.
 -- Assumes nothing.
-use mathlib.Core.Path.{_≡_, refl, sym, ap, _∙_}
+use mathlib.Core.Path.{_≡_, refl, sym, ap, subst, _∙_}
 use mathlib.Core.Logic.{inl, inr}
 use mathlib.Core.List.{List, [], _∷_, _++_, append-assoc}
 use Prim.Native.Nat.{ℕ, zero, suc, pred, _+_, _-_, _*_, _/_, _%_, _≤_, _<_}
@@ -13,6 +13,7 @@ use Rattle.pseudo_binary.specs.Table.{Kind, values, spaces, slashes, ind
 use Rattle.pseudo_binary.specs.Writer.{ourMost, ours, Alike}
 use Rattle.pseudo_binary.specs.Makers.{spelled}
 use Rattle.pseudo_binary.proofs.Characters.{Other}
+use Rattle.pseudo_binary.proofs.Entries.{pred-our-most}
 use Rattle.pseudo_binary.proofs.Writer.{ours-cut}
 
 -- ours count as many as one can, and that is one at the least
@@ -23,10 +24,7 @@ our-most spaces = refl
 our-most slashes = refl
 
 pred-most : (k : Kind) → suc (pred (most k)) ≡ most k
-unfolding most
-pred-most values = refl
-pred-most spaces = refl
-pred-most slashes = refl
+pred-most k = subst (λ (n : ℕ). suc (pred n) ≡ n) (our-most k) (pred-our-most k)
 
 -- n indicators, each as full as one can be, and what the characters that they count take besides
 unfoldable pub fullest : Kind → ℕ → List ℕ → List Entry

@@ -2,20 +2,21 @@
 -- Assumes nothing.
 use mathlib.Core.Path.{_≡_, refl, sym, ap, subst⁻¹, _∙_}
 use mathlib.Core.Bool.{Bool, true, cond, _||_}
-use mathlib.Core.List.{List, [], _∷_, _++_, append-nil}
+use mathlib.Core.List.{List, [], _∷_, append-nil}
 use Prim.Native.Nat.{ℕ, zero, suc, _+_, _*_, _≤_, _<_}
 use native.Mathlib.Numerals.{unary-clauses}
 use native.Mathlib.Omega.{arith}
 use lib.Dec.{T}
 use lib.ListN.{length, replicate}
 use borrow.Author.Tests.{eqb-true}
-use Rattle.codes.specs.Chain.{Entry, In, stateAfter, Row, codes, texts, bitsIn, Built}
+use Rattle.codes.specs.Chain.{Entry, In, stateAfter, codes, texts, bitsIn, Built}
 use Rattle.codes.specs.Pack.{low, written}
 use Rattle.codes.proofs.BitsInBytes.{gap-few, row-built}
 use Rattle.codes.proofs.CodedTexts.{coded-none, coded-cons, coded-rest}
 use Rattle.codes.proofs.Weighed.{weight, Weighing, times-at-most}
-use Rattle.pseudo_binary.specs.Table.{SPACE, SLASH, Kind, values, spaces, slashes, isOf, coded, AllCoded, characterOf, indicator, most, six, tables, scheme}
-use Rattle.pseudo_binary.specs.Writer.{kind, besides, ours, comesBack, Alike}
+use Rattle.pseudo_binary.specs.Table.{SPACE, SLASH, Kind, values, spaces, slashes, isOf, coded, AllCoded, indicator, most, six, tables, scheme}
+use Rattle.pseudo_binary.specs.Makers.{singly}
+use Rattle.pseudo_binary.specs.Writer.{kind, ours, comesBack, Alike}
 use Rattle.pseudo_binary.proofs.Characters.{of-kind, kind-of, characterOf-value}
 use Rattle.pseudo_binary.proofs.Entries.{pred-our-most, our-most-few, indicator-of, six-of, after-six}
 use Rattle.pseudo_binary.proofs.Length.{width, each, takes, bitsAfter, ourBits}
@@ -82,11 +83,6 @@ pub sixteen-times : {text : List ℕ} (a b : List ℕ) (p : Built scheme text a)
 sixteen-times a b p q = times-at-most weighing (p .entries) (q .entries) (p .row) (q .row) (p .says ∙ sym (q .says))
 
 -- ---- single ones
-
--- each character of a text under an indicator of its own
-unfoldable pub singly : List ℕ → List Entry
-singly [] = []
-singly (c ∷ text) = indicator (kind c) 0 ∷ (besides (kind c) c ++ singly text)
 
 singly-counted : (k : Kind) (t : List ℕ) → AllCoded t → Counted k 0 t (singly t)
 unfolding singly texts comesBack
