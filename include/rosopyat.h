@@ -139,6 +139,16 @@ typedef struct rosopyat_write_answer {
     size_t length;    /* bytes of `packet` that were written */
 } rosopyat_write_answer;
 
+/* How a packet's data compares with what rosopyat_write would have sent for the text that it carries, in its format. */
+typedef struct rosopyat_judge_answer {
+    uint32_t refusal;  /* enum rosopyat_refusal: the reader's, but 8 */
+    size_t number;     /* what the refusal says, or 0 */
+    size_t codes;      /* where the refusal is 7, the codes before the bad place; else 0 */
+    uint32_t as_ours;  /* 1: the data bytes are just the writer's; 0: they are not, or the packet is refused */
+    size_t departs_at; /* the first data bit that is not the writer's, which both have; 0 where as_ours is 1 or the packet is refused */
+    size_t more;       /* data bytes more than the writer's; never fewer */
+} rosopyat_judge_answer;
+
 /* Reads the packet that starts at packet[0] and writes its text to text[0..text_length]. Bytes behind the packet are not looked at, and bytes of
  * `text` behind the text stay as they were. A `text_room` of 0 asks for the text's length (refusal 8). At most one wrong header bit is mended. */
 rosopyat_read_answer rosopyat_read(bool rate_1200, const uint8_t *packet, size_t packet_length, uint8_t *text, size_t text_room);
@@ -158,6 +168,14 @@ rosopyat_read_answer rosopyat_read_mending(uint32_t mend, bool rate_1200, const 
  * refused (12). */
 rosopyat_write_answer rosopyat_write(bool rate_1200, uint32_t format, bool sync, const uint8_t *text, size_t text_length, uint8_t *packet,
                                      size_t packet_room);
+
+/* Judges the packet that starts at packet[0], as the bench does with another maker's transmitter: is it merely legal, or are its runs and line ends cut just
+ * as ours are? At most `mend` wrong header bits are mended: 0, 1 or 2. It is accepted where rosopyat_read_mending would read it, given room for its text, and
+ * refused with that function's `refusal`, `number` and `codes` where it would not; refusal 8 does not occur. No buffer is asked for.
+ *
+ * Data bits count from 0 through all sections, without the checksums, the top bit of each byte first. A packet of rosopyat_write, judged at the rate that it
+ * was written for, is as ours; so is every packet in Open, Numeric or SHEF, which leave a maker no choice. */
+rosopyat_judge_answer rosopyat_judge(uint32_t mend, bool rate_1200, const uint8_t *packet, size_t packet_length);
 
 #ifdef __cplusplus
 }

@@ -52,7 +52,8 @@ compile() {
 
 # compile_as_library WORDS: the independent implementation under the library's names
 compile_as_library() {
-    compile -Dindependent_read=rosopyat_read -Dindependent_read_mending=rosopyat_read_mending -Dindependent_write=rosopyat_write "$@"
+    compile -Dindependent_read=rosopyat_read -Dindependent_read_mending=rosopyat_read_mending -Dindependent_write=rosopyat_write \
+        -Dindependent_judge=rosopyat_judge "$@"
 }
 
 compile_cpp() {

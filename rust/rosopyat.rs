@@ -94,6 +94,23 @@ impl Reading<'_> {
     }
 }
 
+/// How a packet's data compares with what `write` would have sent for its text.
+#[derive(Clone, Copy, Debug, PartialEq, Eq)]
+pub struct Judgement {
+    /// The first data bit that is not the writer's, which both have; `None` means that the data bytes are just the writer's. Data bits count from 0 through all
+    /// sections, without the checksums, the top bit of each byte first.
+    pub departs_at: Option<usize>,
+    /// Data bytes more than the writer's; never fewer.
+    pub more: usize,
+}
+
+impl Judgement {
+    /// Whether the data bytes are just the writer's.
+    pub fn as_ours(&self) -> bool {
+        self.departs_at.is_none()
+    }
+}
+
 /// What a bit of the header belongs to, from the highest bit down.
 #[derive(Clone, Copy, Debug, PartialEq, Eq)]
 pub enum HeaderPart {
@@ -152,7 +169,7 @@ fn part_at(position: u32) -> HeaderPart {
     }
 }
 
-/// Why a packet was not read. The text buffer has not changed.
+/// Why a packet was not read or judged. The text buffer has not changed.
 #[derive(Clone, Copy, Debug, PartialEq, Eq)]
 pub enum ReadRefusal {
     /// 17, tested first of all: the number of header bits to mend is not one of 0 to 2
@@ -285,15 +302,21 @@ fn reading_of<'a>(answer: library::ReadAnswer, text: &'a [u8]) -> Result<Reading
             used: answer.used,
             text: &text[..answer.text_length],
         }),
-        1 => Err(ReadRefusal::Short),
-        2 => Err(ReadRefusal::NoHeader),
-        3 => Err(ReadRefusal::OtherType),
-        4 => Err(ReadRefusal::OtherLength),
-        5 => Err(ReadRefusal::CutOff),
-        6 => Err(ReadRefusal::Checksum { section: answer.number }),
-        7 => Err(ReadRefusal::Malformed { bit: answer.number, codes: answer.codes }),
-        8 => Err(ReadRefusal::NoRoom(answer.number)),
-        17 => Err(ReadRefusal::TooManyBits),
+        refusal => Err(read_refusal_of(refusal, answer.number, answer.codes)),
+    }
+}
+
+fn read_refusal_of(refusal: u32, number: usize, codes: usize) -> ReadRefusal {
+    match refusal {
+        1 => ReadRefusal::Short,
+        2 => ReadRefusal::NoHeader,
+        3 => ReadRefusal::OtherType,
+        4 => ReadRefusal::OtherLength,
+        5 => ReadRefusal::CutOff,
+        6 => ReadRefusal::Checksum { section: number },
+        7 => ReadRefusal::Malformed { bit: number, codes },
+        8 => ReadRefusal::NoRoom(number),
+        17 => ReadRefusal::TooManyBits,
         other => unknown("the reader's refusal", other),
     }
 }
@@ -309,6 +332,18 @@ pub fn write<'a>(rate: Rate, format: Format, sync: bool, text: &[u8], packet: &'
         11 => Err(WriteRefusal::TooLong),
         12 => Err(WriteRefusal::OtherFormat),
         other => unknown("the writer's refusal", other),
+    }
+}
+
+/// Judges the packet that starts at `packet[0]`, of a message sent at `rate`: are its data bytes those that `write` would have sent for the text that it
+/// carries, in its format? At most `mend` wrong header bits are mended: 0, 1 or 2. It is refused as `read_mending` would refuse it, given room for its text:
+/// `NoRoom` does not occur. A packet of `write`, judged at the rate that it was written for, is as ours; so is every packet in `Open`, `Numeric` or `Shef`.
+pub fn judge(mend: u32, rate: Rate, packet: &[u8]) -> Result<Judgement, ReadRefusal> {
+    let answer = unsafe { library::rosopyat_judge(mend, is_1200(rate), packet.as_ptr(), packet.len()) };
+    match answer.refusal {
+        0 => Ok(Judgement { departs_at: if answer.as_ours == 1 { None } else { Some(answer.departs_at) }, more: answer.more }),
+        8 => unknown("the judge's refusal", 8),
+        refusal => Err(read_refusal_of(refusal, answer.number, answer.codes)),
     }
 }
 
@@ -340,6 +375,16 @@ mod library {
         pub length: usize,
     }
 
+    #[repr(C)]
+    pub struct JudgeAnswer {
+        pub refusal: u32,
+        pub number: usize,
+        pub codes: usize,
+        pub as_ours: u32,
+        pub departs_at: usize,
+        pub more: usize,
+    }
+
     #[link(name = "rosopyat_c", kind = "static")]
     extern "C" {
         pub fn rosopyat_read(rate_1200: bool, packet: *const u8, packet_length: usize, text: *mut u8, text_room: usize) -> ReadAnswer;
@@ -353,5 +398,6 @@ mod library {
             packet: *mut u8,
             packet_room: usize,
         ) -> WriteAnswer;
+        pub fn rosopyat_judge(mend: u32, rate_1200: bool, packet: *const u8, packet_length: usize) -> JudgeAnswer;
     }
 }

@@ -8,6 +8,10 @@ of at most as many bits as are named, and the mask of the mended bits is put tog
 codes a packet has is known from its making, where a text's codes are listed one by one; section5.txt has it for the published packets; and for all others
 the codes are counted as they are read.
 
+A packet whose case names a number of bits is judged too: is its data what our writer sends for the text that it carries? What is made as our writer does is as
+ours; where a run or a line end is cut in another way it is known from the making which bit is the first that is not ours, and how many bits there are more;
+and for all others the two rows of bits are compared as strings. What is known from the making is held against that comparison too.
+
 Each case says its rate, 300 or 1200 bps, in the byte of the sync bit, to which 1200 adds two. At 1200 the data may have four sections; what a damaged, cut or
 malformed packet of several must give is known from its making.
 
@@ -326,6 +330,11 @@ def packet_length(data_length):
     return 4 + data_length + 2 * -(-data_length // SECTION)
 
 
+def parts_of(received, used):
+    """The sections of a packet of so many bytes, each with its checksum."""
+    return [received[start:min(start + SECTION + 2, used)] for start in range(4, used, SECTION + 2)]
+
+
 def read(received, room, named):
     if most_bits(named) > MOST_MENDED:
         return "refused 17", 0, b""
@@ -344,7 +353,7 @@ def read(received, room, named):
     used = packet_length(length)
     if len(received) < used:
         return "refused 5", 0, b""
-    parts = [received[start:min(start + SECTION + 2, used)] for start in range(4, used, SECTION + 2)]
+    parts = parts_of(received, used)
     for number, part in enumerate(parts):
         if part[-2:] != checksum(part[:-2]):
             return "refused 6", number, b""
@@ -376,6 +385,34 @@ def write(format, sync, text, room):
     return f"written {len(whole)}", len(whole), whole
 
 
+# ---- the judge
+
+OURS = "ours 0"  # just the data bytes of our writer
+
+
+def departs(bit, more):
+    """The first data bit that is not our writer's, and how many data bytes there are more than ours."""
+    return f"departs {bit} {more}"
+
+
+def compared(data, ours):
+    """How data compares with our writer's: neither row of bits is the front of the other."""
+    if data == ours:
+        return OURS
+    bits, our_bits = bits_of(data), bits_of(ours)
+    assert not bits.startswith(our_bits) and not our_bits.startswith(bits)
+    assert len(data) >= len(ours)
+    place = next(place for place, (bit, our_bit) in enumerate(zip(bits, our_bits)) if bit != our_bit)
+    return departs(place, len(data) - len(ours))
+
+
+def judge(format, data, text):
+    """How data that carries the text compares with our writer's. Open, Numeric and SHEF leave a maker no choice."""
+    judgement = compared(data, WRITE[format](text))
+    assert judgement == OURS or format in (PSEUDO, ASCII)
+    return judgement
+
+
 # ---- the cases
 
 STDIN, STDOUT = bytearray(), []
@@ -398,11 +435,16 @@ def codes_in(answer):
     return answer[3] if len(answer) > 3 else 0
 
 
-def examined(received, answer, named):
-    """What is found out without a buffer: what the reader answers, given the room for the text. All its numbers are in decimal, the mask too."""
+def given_room(received, answer, named):
+    """What the reader answers, given the room for the text."""
     if answer[0] == "refused 8":
         answer = read(received, answer[1], named)
         assert answer[0].startswith("ok "), answer
+    return answer
+
+
+def examined(answer):
+    """What is found out without a buffer. All its numbers are in decimal, the mask too."""
     word, *numbers = answer[0].split()
     if word == "ok":
         format, sync, mended, mask, *lengths = numbers
@@ -410,9 +452,23 @@ def examined(received, answer, named):
     return " ".join(map(str, [word, *numbers, answer[1], codes_in(answer)])) + "\n"
 
 
-def reads(received, room, answer=None, named=MOST_MENDED):
+def judged(received, answer, judgement):
+    """How a packet is judged, which its making says too where that is known. One that the reader refuses is refused in the same words."""
+    line, used, text = answer[:3]
+    if line.startswith("refused "):
+        return examined(answer)
+    found = judge(int(line.split()[1]), b"".join(part[:-2] for part in parts_of(received, used)), text)
+    assert judgement in (None, found), (judgement, found)
+    return f"{found}\n"
+
+
+def reads(received, room, answer=None, named=MOST_MENDED, judgement=None):
+    """A packet, with what its making says of the answer, and of how it is judged where it is read; what that does not say is worked out."""
     answer = answer or read(received, room, named)
-    STDOUT.append(examined(received, answer, named))
+    with_room = given_room(received, answer, named)
+    STDOUT.append(examined(with_room))
+    if named is not DEFAULT:
+        STDOUT.append(judged(received, with_room, judgement))
     line, beside, put = answer[:3]
     printed = f"{line}\ncodes {codes_in(answer)}", beside, put
     if named is DEFAULT:
@@ -468,9 +524,9 @@ def published():
             text += b" "
         ok = accepted(format, used, text, codes=codes)
         for more in b"", b"\x00", bytes(range(100)):
-            reads(sent + more, len(text) + 4, ok)
-        reads(sent, len(text), ok)
-        reads(sent, len(text) - 1, ("refused 8", len(text), b""))
+            reads(sent + more, len(text) + 4, ok, judgement=OURS)
+        reads(sent, len(text), ok, judgement=OURS)
+        reads(sent, len(text) - 1, ("refused 8", len(text), b""), judgement=OURS)
         reads(sent[:-1], len(text), ("refused 5", 0, b""))
         writes(format, text, used + 3, answer=written)
         writes(format, text, used, answer=written)
@@ -491,7 +547,7 @@ def messages():
             for sync in 0, 1:
                 whole = packet_of(format, WRITE[format](text), sync)
                 writes(format, text, 500, sync, (f"written {len(whole)}", len(whole), whole))
-                reads(whole, len(back) + 1, accepted(format, len(whole), back, sync))
+                reads(whole, len(back) + 1, accepted(format, len(whole), back, sync), judgement=OURS)
 
 
 def with_byte(head):
@@ -506,7 +562,7 @@ def edges():
         whole = packet_of(format, sent)
         if head:
             assert whole[:4] == bytes.fromhex(head)
-        reads(whole, len(text) + 2, accepted(format, len(whole), text))
+        reads(whole, len(text) + 2, accepted(format, len(whole), text), judgement=OURS)
         for same in text, *others:
             writes(format, same, len(whole) + 2, answer=(f"written {len(whole)}", len(whole), whole))
 
@@ -518,12 +574,12 @@ def edges():
     data(OPEN, b"\x37", "37", "400004DD")  # P2
     data(OPEN, bytes(4000), "00" * 4000, "403E80D1")  # P3
     data(ASCII, b"A", "83", "D0000430")  # P4, P12
-    reads(with_byte("C10004DD"), 3, ("ok 0 0 2 81000000 1 1", 7, b"\x37"))  # P5
+    reads(with_byte("C10004DD"), 3, ("ok 0 0 2 81000000 1 1", 7, b"\x37"), judgement=OURS)  # P5
     reads(bytes.fromhex("400004DA"), 3, ("refused 2", 0, b""))  # P6
     reads(bytes(4), 3, ("refused 3", 0, b""))  # P7
-    reads(with_byte("C00004DD"), 3, ("ok 0 0 1 80000000 1 1", 7, b"\x37"))  # M2
-    reads(with_byte("400004DC"), 3, ("ok 0 0 1 00000001 1 1", 7, b"\x37"))  # M3
-    reads(with_byte("408004DD"), 3, ("ok 0 0 1 00800000 1 1", 7, b"\x37"))
+    reads(with_byte("C00004DD"), 3, ("ok 0 0 1 80000000 1 1", 7, b"\x37"), judgement=OURS)  # M2
+    reads(with_byte("400004DC"), 3, ("ok 0 0 1 00000001 1 1", 7, b"\x37"), judgement=OURS)  # M3
+    reads(with_byte("408004DD"), 3, ("ok 0 0 1 00800000 1 1", 7, b"\x37"), judgement=OURS)
     data(PSEUDO, b"AB", "81042F")  # P8
     data(PSEUDO, b"/" * 16, "7F")  # P9
     data(PSEUDO, b"/" * 17, "7D0F")
@@ -555,7 +611,7 @@ def sixty_threes():
             back, other = (before + bytes(sixty_three if value == 63 else 64 + value for value in values) + behind for sixty_three in (0x3F, 0x7F))
             for text in back, other:
                 writes(PSEUDO, text, len(whole) + 1, answer=(f"written {len(whole)}", len(whole), whole))
-            reads(whole, len(back) + 1, accepted(PSEUDO, len(whole), back))
+            reads(whole, len(back) + 1, accepted(PSEUDO, len(whole), back), judgement=OURS)
 
 
 def line_ends_and_pairs():
@@ -586,7 +642,7 @@ def line_ends_and_pairs():
             (SHEF, "EBAF", b"\r\n\r\n", b"\r\r\n", b"\n\r", b"\n\n", b"\r\r", b"\r\n\n", b"\n\r\n"),
     ):
         whole = packet_of(format, bytes.fromhex(sent))
-        reads(whole, len(back) + 2, accepted(format, len(whole), back))
+        reads(whole, len(back) + 2, accepted(format, len(whole), back), judgement=OURS)
         for text in back, *others:
             writes(format, text, len(whole) + 2, answer=(f"written {len(whole)}", len(whole), whole))
     for text, index in ((b"++", 1), (b"+-", 1), (b"-+", 1), (b"--", 1), (b"..", 1), (b"+#", 1), (b"+=", 1), (b"-E", 1), (b".:", 1), (b"+\r\n", 1),
@@ -609,7 +665,7 @@ def headers():
         whole = packet_of(format, sent, sync)
         text, _ = READ[format](sent)
         for places in [()] + list(itertools.combinations(range(32), 1)) + (list(itertools.combinations(range(32), 2)) if format == PSEUDO else []):
-            reads(flipped(whole, places), len(text), accepted(format, len(whole), text, sync, places))
+            reads(flipped(whole, places), len(text), accepted(format, len(whole), text, sync, places), judgement=OURS)
         for place in range(32):
             for second, third in (7, 13), (1, 2), (3, 20):
                 reads(flipped(whole, (place, (place + second) % 32, (place + third) % 32)), len(text))
@@ -713,7 +769,7 @@ def longest():
     for n in 65536, 65552, 85328:
         sent = packet_of(PSEUDO, bytes_of("011111" * (n // 16)))
         for room in sorted({65536, n - 1, n}):
-            reads(sent, room)
+            reads(sent, room, judgement=OURS)
     for length in 4000, 4001:
         reads(packet_of(OPEN, b"x" * length), 4001)
     for format, unit, most in ((OPEN, b"x", 4000), (PSEUDO, b"A", 5277), (ASCII, b"0", 5333), (ASCII, b"A", 4571), (ASCII, b"\r\n", 3555),
@@ -722,7 +778,7 @@ def longest():
         fullest = packet_of(format, WRITE[format](unit * most))
         assert len(fullest) == LONGEST + 6
         for room in len(unit) * most, len(unit) * most - 1:
-            reads(fullest, room)
+            reads(fullest, room, judgement=OURS)
         writes(format, unit * most, 4006, answer=("written 4006", 4006, fullest))
         writes(format, unit * (most + 1), 4006, answer=("refused 11", 0, b""))
     for format, most in (NUMERIC, 4000), (SHEF, 5333):  # line ends of one character
@@ -780,7 +836,7 @@ def texts():
         sync = generator.randrange(2)
         whole = packet_of(format, WRITE[format](text), sync)
         writes(format, text, len(whole) + generator.randrange(-1, 3), sync)
-        reads(whole + generator.randbytes(generator.randrange(3)), len(normal(format, text)) + generator.randrange(-1, 3))
+        reads(whole + generator.randbytes(generator.randrange(3)), len(normal(format, text)) + generator.randrange(-1, 3), judgement=OURS)
 
 
 def as_sent(named, flips):
@@ -795,14 +851,14 @@ def edges_named():
         reads(with_byte("C10004DD"), 3, ("refused 2", 0, b""), named)  # P5
         reads(bytes.fromhex("400004DA"), 3, ("refused 2", 0, b""), named)  # P6
         reads(bytes(4), 3, ("refused 2" if named == 0 else "refused 3", 0, b""), named)  # P7
-        reads(with_byte("400004DD"), 3, ("ok 0 0 0 00000000 1 1", 7, b"\x37"), named)  # M2
+        reads(with_byte("400004DD"), 3, ("ok 0 0 0 00000000 1 1", 7, b"\x37"), named, OURS)  # M2
         for head, mask in ("C00004DD", "80000000"), ("400004DC", "00000001"), ("408004DD", "00800000"):  # M2, M3
-            reads(with_byte(head), 3, ("refused 2", 0, b"") if named == 0 else (f"ok 0 0 1 {mask} 1 1", 7, b"\x37"), named)
+            reads(with_byte(head), 3, ("refused 2", 0, b"") if named == 0 else (f"ok 0 0 1 {mask} 1 1", 7, b"\x37"), named, OURS)
         for sent, message, codes in section_5().values():
             format = sent[0] >> 2 & 7
             text = sent[4:-2] if format == OPEN else message + b" " * (format == NUMERIC)
-            reads(sent, len(text), accepted(format, len(sent), text, codes=codes), named)
-            reads(sent, len(text) - 1, ("refused 8", len(text), b""), named)
+            reads(sent, len(text), accepted(format, len(sent), text, codes=codes), named, OURS)
+            reads(sent, len(text) - 1, ("refused 8", len(text), b""), named, OURS)
             reads(sent[:-1], len(text), ("refused 5", 0, b""), named)
         for length in range(4):
             reads(bytes.fromhex("400004DD")[:length], 4, ("refused 1", 0, b""), named)
@@ -817,7 +873,7 @@ def flipped_headers():
         flips, whole, text = len(set(places)), packet_of(format, sent, sync), READ[format](sent)[0]
         ok = accepted(format, len(whole), text, sync, places)
         for named in ways[flips]:
-            reads(flipped(whole, places), len(text), ok if as_sent(named, flips) else ("refused 2", 0, b""), named)
+            reads(flipped(whole, places), len(text), ok if as_sent(named, flips) else ("refused 2", 0, b""), named, OURS)
 
 
 def tests_behind():
@@ -840,11 +896,32 @@ def too_many_bits():
             reads(packet_of(format, sent, sync), 0 if format == OPEN else 9, ("refused 17", 0, b""), named)
 
 
-def built(format, codes, text):
-    """Data put together of these codes and fill, read in the room for its text and in one byte less."""
+def built(format, codes, text, judgement=OURS):
+    """Data put together of these codes and fill, read in the room for its text and in one byte less; it is as ours, unless something else is said."""
     whole = packet_of(format, bytes_of("".join(codes)))
-    reads(whole, len(text), accepted(format, len(whole), text, codes=len(codes)))
-    reads(whole, len(text) - 1, ("refused 8", len(text), b""))
+    reads(whole, len(text), accepted(format, len(whole), text, codes=len(codes)), judgement=judgement)
+    reads(whole, len(text) - 1, ("refused 8", len(text), b""), judgement=judgement)
+
+
+def bytes_for(bits):
+    return -(-bits // 8)
+
+
+def judged_runs(*runs):
+    """How Pseudo Binary is judged, by its making: runs of other kinds than their neighbours, each with the lengths of the parts that it is sent in. Ours are as
+    full as can be. The first part that is not ours departs in its indicator, whose last bits are the length less one; and each part more has an indicator
+    more."""
+    bits, more, place = 0, 0, None
+    for character, parts in runs:
+        fullest, indicator, each = (16, 6, 0) if character in (b" ", b"/") else (128, 8, 6)
+        full, rest = divmod(sum(parts), fullest)
+        ours = [fullest] * full + [rest] * (rest > 0)
+        for part, our_part in itertools.zip_longest(parts, ours):
+            if place is None and part != our_part:
+                place = bits + indicator - (part - 1 ^ our_part - 1).bit_length()
+            bits += indicator + each * part
+        more += indicator * (len(parts) - len(ours))
+    return OURS if place is None else departs(place, bytes_for(bits) - bytes_for(bits - more))
 
 
 def most_codes():
@@ -854,7 +931,7 @@ def most_codes():
                                                (ASCII, 6, b" ", 4 * length // 3)):
             codes = ["0" * width] * most
             assert len(bytes_of("".join(codes))) == length
-            built(format, codes, character * most)
+            built(format, codes, character * most, judged_runs((b" ", (1,) * most)) if format == PSEUDO else OURS)
 
 
 def fills():
@@ -862,7 +939,7 @@ def fills():
     for count in range(1, 9):
         for format, code, character in ((PSEUDO, "010000", b"/"), (SHEF, "00001", b"1"), (SHEF, "100000", b"A"), (ASCII, "000001", b"!"),
                                         (ASCII, "1000001", b"A"), (ASCII, "111111100", b"\t")):
-            built(format, [code] * count, character * count)
+            built(format, [code] * count, character * count, judged_runs((b"/", (1,) * count)) if format == PSEUDO else OURS)
         built(PSEUDO, values_codes([63] * count), b"?" * count)
 
 
@@ -870,9 +947,9 @@ def cut_runs():
     """One text in runs that are cut in several ways: each has an indicator more."""
     for runs in (16,), (8, 8), (15, 1), (1, 14, 1), (1,) * 16:
         for kind, character in ("00", b" "), ("01", b"/"):
-            built(PSEUDO, [f"{kind}{run - 1:04b}" for run in runs], character * 16)
+            built(PSEUDO, [f"{kind}{run - 1:04b}" for run in runs], character * 16, judged_runs((character, runs)))
     for runs in (128,), (64, 64), (1, 127), (127, 1), (1, 126, 1), (1,) * 128:
-        built(PSEUDO, [code for run in runs for code in values_codes([33] * run)], b"a" * 128)
+        built(PSEUDO, [code for run in runs for code in values_codes([33] * run)], b"a" * 128, judged_runs((b"a", runs)))
     built(PSEUDO, ["000000", *values_codes([1, 2]), "010001", "000010", *values_codes([3])], b" AB//   C")
 
 
@@ -881,7 +958,7 @@ def line_ends_counted():
     for count in *range(1, 10), 100:
         built(SHEF, ["111010"] * count, b"\r\n" * count)
         built(ASCII, ["111111111"] * count, b"\r\n" * count)
-        built(ASCII, ["111111101", "111111110"] * count, b"\r\n" * count)
+        built(ASCII, ["111111101", "111111110"] * count, b"\r\n" * count, departs(7, bytes_for(18 * count) - bytes_for(9 * count)))
         built(NUMERIC, ["1011", "1011"] * count, b"\r\n" * count)
     built(ASCII, ["111111101", "111111111", "111111110"], b"\r\r\n\n")
     for base, text in (b"++", b"\r\n"), (b"+-", b"#"), (b"-+", b"="), (b"..", b":"), (b"--", b"E"), (b"1 ", b"1 "), (b"1++ ", b"1\r\n "), (b"+++ ", b"\r\n+ "):
@@ -1010,34 +1087,36 @@ def lengths_1200():
 
 def other_makers_1200():
     """Codes that our writer would not choose, over the ends of sections; and as many codes as data can have."""
-    for codes, text in (["111111101", "111111110"], b"\r\n"), (["111111101", "111111111", "111111110"], b"\r\r\n\n"):
+    for codes, text, judgement in ((["111111101", "111111110"], b"\r\n", departs(31998, 3)),
+                                   (["111111101", "111111111", "111111110"], b"\r\r\n\n", OURS)):
         building = Building(ASCII)
         for section in 1, 2:
             building.fill_to(8 * SECTION * section - 9)
             building.add(text, codes)
-        read_building(building)
-    for unit, codes in (b"/", ["010000"]), (b" ", ["000000"]), (b"A", ["10000000", "000001"]), (b"A" * 127 + b"B", values_codes([1] * 127) + values_codes([2])):
+        read_building(building, judgement)
+    for unit, codes, parts in ((b"/", ["010000"], (1,)), (b" ", ["000000"], (1,)), (b"A", ["10000000", "000001"], (1,)),
+                               (b"A" * 127 + b"B", values_codes([1] * 127) + values_codes([2]), (127, 1))):
         building = Building(PSEUDO)
         while building.bits <= 8 * 2 * SECTION:
             building.add(unit, codes)
-        read_building(building)
+        read_building(building, judged_runs((unit[:1], parts * (len(building.text) // len(unit)))))
     for format, width, character in (PSEUDO, 6, b" "), (NUMERIC, 4, b"0"), (SHEF, 5, b"0"), (ASCII, 6, b" "):
         building = Building(format)
         most = 8 * LONGEST_1200 // width
         building.add(character * most, ["0" * width] * most)
-        read_building(building)
+        read_building(building, judged_runs((b" ", (1,) * most)) if format == PSEUDO else OURS)
 
 
-def read_building(building):
+def read_building(building, judgement):
     whole = packet_of(building.format, building.data())
-    reads(whole, len(building.text), accepted(building.format, len(whole), building.text, codes=len(building.codes)))
+    reads(whole, len(building.text), accepted(building.format, len(whole), building.text, codes=len(building.codes)), judgement=judgement)
 
 
 def longest_1200():
     """Both sides of the limits of length and room."""
     longest_text = packet_of(PSEUDO, bytes_of("011111" * 21333))
-    reads(longest_text, 341328, accepted(PSEUDO, 16012, b"/" * 341328, codes=21333))
-    reads(longest_text, 341327, ("refused 8", 341328, b""))
+    reads(longest_text, 341328, accepted(PSEUDO, 16012, b"/" * 341328, codes=21333), judgement=OURS)
+    reads(longest_text, 341327, ("refused 8", 341328, b""), judgement=OURS)
     for format, unit, most in (OPEN, b"x", 16000), (PSEUDO, b"A", 21113), (NUMERIC, b":", 16000), (SHEF, b"A", 21333), (ASCII, b"\t", 14222):
         fullest = packet_of(format, WRITE[format](unit * most))
         assert len(fullest) == 16012
@@ -1050,9 +1129,9 @@ def longest_1200():
         text, whole = building.text, packet_of(format, building.data())
         for room in 0, 4006, 4008:
             writes(format, text, room, answer=("refused 8", 4009, b""))
-        reads(whole + b"\x00", len(text) + 3, accepted(format, 4009, text, codes=len(building.codes)))
+        reads(whole + b"\x00", len(text) + 3, accepted(format, 4009, text, codes=len(building.codes)), judgement=OURS)
         for room in 0, len(text) - 1:
-            reads(whole, room, ("refused 8", len(text), b""))
+            reads(whole, room, ("refused 8", len(text), b""), judgement=OURS)
 
 
 def header_lengths_1200():
@@ -1164,7 +1243,7 @@ def flipped_1200():
         whole = flipped(packet_of(format, building.data(), 1), places)
         ok = accepted(format, len(whole), building.text, 1, places, len(building.codes))
         for named in 0, 1, 2, DEFAULT:
-            reads(whole, len(building.text), ok if as_sent(named, len(places)) else ("refused 2", 0, b""), named)
+            reads(whole, len(building.text), ok if as_sent(named, len(places)) else ("refused 2", 0, b""), named, OURS)
         reads(whole, 9, ("refused 17", 0, b""), 3)
 
 
@@ -1179,24 +1258,225 @@ def sections_at_300():
 
 def spread():
     """Texts that another maker spreads over as much as one packet holds, each character or line end by itself: read, and written in so many data bytes."""
-    parts = (PSEUDO, ["010000"], b"/"), (PSEUDO, values_codes([1]), b"A"), (ASCII, ["111111101", "111111110"], b"\r\n")
+    parts = (PSEUDO, ["010000"], b"/", 2), (PSEUDO, values_codes([1]), b"A", 1), (ASCII, ["111111101", "111111110"], b"\r\n", 7)
     ours = ((21333, 1001), (9142, 6929), (7111, 8000)) if RATE_1200 else ((5333, 251), (2285, 1732), (1777, 2000))
-    for (format, codes, unit), (count, length) in zip(parts, ours):
+    for (format, codes, unit, place), (count, length) in zip(parts, ours):
         text = unit * count
-        whole = packet_of(format, bytes_of("".join(codes * count)))
+        data = bytes_of("".join(codes * count))
+        whole = packet_of(format, data)
         assert len(whole) <= packet_length(most_data()) < len(packet_of(format, bytes_of("".join(codes * (count + 1)))))
-        reads(whole, len(text), accepted(format, len(whole), text, codes=len(codes) * count))
+        reads(whole, len(text), accepted(format, len(whole), text, codes=len(codes) * count), judgement=departs(place, len(data) - length))
         needed = packet_length(length)
         writes(format, text, needed - 1, answer=("refused 8", needed, b""))
         writes(format, text, needed, answer=(f"written {needed}", needed, packet_of(format, WRITE[format](text))))
 
 
+# ---- packets of other makers, which are judged
+
+CR, LF, CR_LF = "111111101", "111111110", "111111111"
+
+
+def read_flipped(format, data, text, codes, judgement, places=(), named=MOST_MENDED):
+    """Data that carries the text in so many codes, behind a header that is flipped at these places: read in the room for the text, or refused."""
+    whole = packet_of(format, data)
+    answer = accepted(format, len(whole), text, 0, places, codes) if as_sent(named, len(places)) else ("refused 2", 0, b"")
+    reads(flipped(whole, places), len(text), answer, named, judgement)
+
+
+def departures():
+    """By hand: data, the text that it carries in so many codes, and how it is judged. Our writer's data stands beside it where it is other."""
+    for format, sent, text, codes, judgement in (
+            (PSEUDO, "47", b"//", 1, OURS),
+            (PSEUDO, "410F", b"//", 2, departs(5, 1)),  # 47
+            (PSEUDO, "000F", b"  ", 2, departs(5, 1)),  # 07
+            (PSEUDO, "8006002F", b"AB", 4, departs(7, 1)),  # 81042F
+            (PSEUDO, "80FE03FF", b"??", 4, departs(7, 1)),  # 81FFFF
+            (PSEUDO, "41043F", b"///", 3, departs(4, 2)),  # 4B
+            (PSEUDO, "451F", b"////", 2, departs(4, 1)),  # 4F
+            (PSEUDO, "490F", b"////", 2, departs(5, 1)),  # 4F
+            (PSEUDO, "790F", b"/" * 16, 2, departs(5, 1)),  # 7F
+            (PSEUDO, "5D7F", b"/" * 16, 2, departs(2, 1)),  # 7F
+            (PSEUDO, "7D0F", b"/" * 17, 2, OURS),
+            (PSEUDO, "41FF", b"/" * 17, 2, departs(2, 0)),  # 7D0F
+            (PSEUDO, "5D8F", b"/" * 17, 2, departs(2, 0)),  # 7D0F
+            (PSEUDO, "40043F", b"/ /", 3, OURS),
+            (PSEUDO, "400410", b"/ //", 4, departs(17, 0)),  # 40047F, which ends in six bits of fill
+            (PSEUDO, "4900D30F", b"////    ////    ", 5, departs(5, 1)),  # 4C34C3
+            (PSEUDO, "4C34C203", b"////    ////    ", 5, departs(23, 1)),  # 4C34C3
+            (PSEUDO, "8005043F", b"A//", 4, departs(19, 1)),  # 80051F
+            (ASCII, "FFFF", b"\r\n", 1, OURS),
+            (ASCII, "FEFFBF", b"\r\n", 2, departs(7, 1)),  # FFFF
+            (ASCII, "83FDFF7F", b"A\r\n", 3, departs(14, 2)),  # 83FF
+            (ASCII, "FEFFA0FF", b"\r\nA", 3, departs(7, 2)),  # FFC1
+            (ASCII, "FF7F7F", b"\n\r", 2, OURS),
+            (ASCII, "FEFFFF", b"\r\r\n", 2, OURS),
+            (ASCII, "FEFF7FDF", b"\r\r\n", 3, departs(16, 1)),  # FEFFFF
+    ):
+        read_flipped(format, bytes.fromhex(sent), text, codes, judgement)
+
+
+def run_of(kind, length):
+    """So many spaces, slashes, or values that vary."""
+    return kind * length if kind in (b" ", b"/") else bytes(value_character((7 * index + length) % 64) for index in range(length))
+
+
+def part_codes(part):
+    """Pseudo Binary: a part of a run, behind one indicator."""
+    blank = {b" ": "00", b"/": "01"}.get(part[:1])
+    return [f"{blank}{len(part) - 1:04b}"] if blank else values_codes([value_of(character) for character in part])
+
+
+def read_runs(*runs):
+    """Pseudo Binary: runs of these kinds, each in parts of these lengths."""
+    text, codes = b"", []
+    for kind, parts in runs:
+        run = run_of(kind, sum(parts))
+        text += run
+        for part in parts:
+            codes += part_codes(run[:part])
+            run = run[part:]
+    read_flipped(PSEUDO, bytes_of("".join(codes)), text, len(codes), judged_runs(*runs))
+
+
+def runs_cut_anywhere():
+    """Runs of each kind, cut as our writer does not: by themselves, and as the first, the middle and the last of three, of which the others are as ours; then
+    several in one packet, where the first that is cut says at which bit it departs."""
+    blanks = (1, 1), (8, 8), (12, 4), (14, 2), (15, 1), (1, 16), (16, 15, 1), (11, 11, 11)
+    values = (1, 1), (64, 64), (96, 32), (112, 16), (120, 8), (124, 4), (126, 2), (1, 128), (128, 1, 128)
+    lengths = itertools.cycle((1, 2, 5, 16, 3, 9, 4))
+    for kind, cuts in (b" ", blanks), (b"/", blanks), (b"A", values):
+        for parts in cuts:
+            read_runs((kind, parts))
+            for place in range(3):
+                runs = [(other, (next(lengths),)) for other in (b"/", b"A", b" ") if other != kind]
+                read_runs(*runs[:place], (kind, parts), *runs[place:])
+    for runs in (
+            ((b"/", (1, 1)), (b"A", (1, 1)), (b" ", (1, 1))),
+            ((b"A", (128,)), (b" ", (15, 1)), (b"A", (127, 1)), (b"/", (16,))),
+            ((b" ", (16, 16)), (b"/", (16, 15, 1)), (b" ", (1, 1))),
+            ((b"A", (3,)), (b"/", (16, 4)), (b"A", (128, 128, 1)), (b" ", (9,)), (b"A", (128, 1, 1))),
+            ((b"A", (1,) * 20), (b"/", (1,) * 20), (b"A", (1,) * 20)),
+            ((b"/", (8, 9)), (b" ", (16, 1)), (b"/", (9, 8))),
+            ((b"A", (64, 65)), (b" ", (1,)), (b"A", (127, 2))),
+    ):
+        read_runs(*runs)
+
+
+def line_ends_in_two():
+    """Full ASCII: CR and LF in a code each, at any choice of a text's line ends. Each departs in the eighth bit of our code, and has nine bits more."""
+    end = b"\r\n"
+    for parts in ([end], [end, end], [end, b"AB", end, b"1,2", end], [b"Stage 1.23", end, end, b"\t0.0~", end, b"\n"], [b"\r", end, b"\n"],
+                  [b"zzzzzzz", end]):
+        ends = [index for index, part in enumerate(parts) if part == end]
+        for chosen in (chosen for count in range(len(ends) + 1) for chosen in itertools.combinations(ends, count)):
+            codes, places = [], []
+            for index, part in enumerate(parts):
+                places += [len("".join(codes)) + 7] if index in chosen else []
+                codes += [CR, LF] if index in chosen else ascii_codes(part)
+            bits = len("".join(codes))
+            judgement = departs(places[0], bytes_for(bits) - bytes_for(bits - 9 * len(chosen))) if chosen else OURS
+            read_flipped(ASCII, bytes_of("".join(codes)), b"".join(parts), len(codes), judgement)
+    for which, judgement in (0, departs(7, 1)), (1, departs(16, 1)), (50, departs(457, 1)), (99, departs(898, 1)):  # of 100
+        codes = [CR_LF] * which + [CR, LF] + [CR_LF] * (99 - which)
+        read_flipped(ASCII, bytes_of("".join(codes)), end * 100, 101, judgement)
+
+
+def departures_refused():
+    """Packets that depart: with header bits flipped and each number of bits named, and refused for something else."""
+    for format, sent, text, judgement in (PSEUDO, "410F", b"//", departs(5, 1)), (ASCII, "FEFFBF", b"\r\n", departs(7, 1)):
+        data = bytes.fromhex(sent)
+        for places, numbers in ((), (0, 1, 2)), ((30,), (0, 1, 2)), ((4, 22), (0, 1, 2)), ((0, 7), (1, 2)), ((3, 12, 29), (0, 1)):
+            for named in numbers:
+                read_flipped(format, data, text, 2, judgement, places, named)
+        whole = packet_of(format, data)
+        reads(whole + b"\x00", 2, accepted(format, len(whole), text, codes=2), 0, judgement)
+        reads(whole, 0, ("refused 8", 2, b""), 0, judgement)
+        reads(whole, 2, ("refused 17", 0, b""), 3)
+        reads(whole[:-1], 2, ("refused 5", 0, b""), 0)
+        reads(damaged(whole, len(whole) - 3), 2, ("refused 6", 0, b""), 1)
+    malformed_behind(PSEUDO, ["010000", "010000", "10000000"], "0000")
+    malformed_behind(PSEUDO, ["000000", "000000", "010000", "010000", "11111111"], "")
+    malformed_behind(ASCII, [CR, LF], "100000")
+
+
+# A text in the codes of another maker, the first bit of these that is not ours, and how many bits there are more. In Pseudo Binary a blank ends it, and slashes
+# have a space before them: so no run goes on in what a building has beside it.
+SLASHES = b" //", ["000000", "010000", "010000"], 11, 6
+SPACES = b"  ", ["000000", "000000"], 5, 6
+VALUES = b"AB ", values_codes([1]) + values_codes([2]) + ["000000"], 7, 8
+LINE_END = b"\r\n", [CR, LF], 7, 9
+
+
+def read_cut(format, cuts, tail=b""):
+    """A building with such texts from these bits on, our writer's codes between them, and a tail; how it is judged is put together beside it."""
+    building, places, more = Building(format), [], 0
+    for bit, (text, codes, place, more_bits) in cuts:
+        building.fill_to(bit)
+        building.add(text, codes)
+        places.append(bit + place)
+        more += more_bits
+    if tail:
+        building.add(tail)
+    read_building(building, departs(places[0], bytes_for(building.bits) - bytes_for(building.bits - more)))
+
+
+def longest_departing():
+    """As many data bytes as a packet has at most, of which our writer needs one less: the last run or line end is cut."""
+    bits = 8 * most_data()
+    for format, bit, cut in (PSEUDO, bits - 20, SLASHES), (PSEUDO, bits - 14, SPACES), (PSEUDO, bits - 34, VALUES), (ASCII, bits - 18, LINE_END):
+        read_cut(format, [(bit, cut)])
+
+
+def departures_1200():
+    """Runs and line ends cut in the middle of each section, over the end of each, and in several; data that is a section longer than ours; and the longest
+    data that is as ours."""
+    kinds = (PSEUDO, SLASHES, b"Z/"), (PSEUDO, SPACES, b"Z/"), (PSEUDO, VALUES, b"Z/"), (ASCII, LINE_END, b"Z!")
+    for section in range(4):
+        for index, (format, cut, tail) in enumerate(kinds):
+            read_cut(format, [(8 * SECTION * section + 16000 + 250 * index, cut)], tail)
+    sections = itertools.cycle((1, 2, 3))
+    befores = (12, 10, 8), (12, 8, 6, 4, 2), (20, 14, 8, 6, 2), (17, 9, 8, 7, 1)  # bits before the section's end
+    for (format, cut, tail), before in ((kind, before) for kind, bits in zip(kinds, befores) for before in bits):
+        read_cut(format, [(8 * SECTION * next(sections) - before, cut)], tail)
+    for format, *cuts in (
+            (PSEUDO, (20000, SLASHES), (52000, SPACES), (84000, VALUES), (116000, SLASHES)),
+            (PSEUDO, (52002, VALUES), (116004, VALUES)),
+            (PSEUDO, (31996, SPACES), (63992, SLASHES), (95994, VALUES)),
+            (ASCII, (20000, LINE_END), (52000, LINE_END), (84000, LINE_END), (116000, LINE_END)),
+            (ASCII, (31995, LINE_END), (63994, LINE_END), (95993, LINE_END)),
+    ):
+        read_cut(format, cuts)
+    for end in 32000, 64000, 96000:
+        read_cut(PSEUDO, [(end - 12, SLASHES)])
+        read_cut(ASCII, [(end - 9, LINE_END)])
+    for format in FORMATS:
+        read_building(filled(format, 16000 - 2 * format, []), OURS)
+
+
+def departures_refused_1200():
+    """A packet of two sections that departs in the first: with header bits flipped, and refused for something else in either."""
+    building = Building(PSEUDO)
+    building.fill_to(20000)
+    building.add(*SLASHES[:2])
+    building.fill_to(8 * 4005 + 6)  # ours end with the byte before
+    data, text, codes = building.data(), building.text, len(building.codes)
+    for places, named in ((), 0), ((9,), 0), ((9,), 1), ((2, 31), 1), ((2, 31), 2):
+        read_flipped(PSEUDO, data, text, codes, departs(20011, 1), places, named)
+    whole = packet_of(PSEUDO, data)
+    reads(whole, 9, ("refused 17", 0, b""), 3)
+    reads(whole[:-1], 9, ("refused 5", 0, b""), 1)
+    for section in 0, 1:
+        reads(damaged(whole, places_in(section, 4006)[1]), 9, ("refused 6", section, b""), 0)
+    building.add(b"", ["10000001", "110011"])
+    read_malformed(building, "1" * (-building.bits % 8))
+
+
 AT_300 = (published, messages, edges, sixty_threes, line_ends_and_pairs, headers, reader_refusals, endings, compact_data, longest, writer_refusals, texts,
           edges_named, flipped_headers, tests_behind, too_many_bits, most_codes, fills, cut_runs, line_ends_counted, codes_before_six_ones, values_missing,
-          sections_at_300, spread)
+          sections_at_300, spread, departures, runs_cut_anywhere, line_ends_in_two, departures_refused, longest_departing)
 # Packets of one section have the same answers.
 AT_1200 = (published, edges, edges_named, endings, lengths_1200, other_makers_1200, longest_1200, header_lengths_1200, cut_off_1200, damage_1200,
-           other_checksums, malformed_1200, flipped_1200, spread)
+           other_checksums, malformed_1200, flipped_1200, spread, departures, longest_departing, departures_1200, departures_refused_1200)
 
 
 def make():

@@ -6,7 +6,10 @@
  * answer or any byte of a buffer, a byte changed outside of what the answer allows, a read or write past a buffer's end, a mask that does not lead from the
  * received header to a valid one by as many bits as were mended, more codes than the data can have, an answer other than the one known from how the packet
  * was made, or another at the other rate where both have the same ends the run with status 1. So does, in a run of MEANT_CASES or more, an outcome that never
- * occurred, of the list below, of an answer in a format at a rate or of a header bit mended. */
+ * occurred, of the list below, of an answer in a format at a rate or of a header bit mended.
+ *
+ * When all cases are through, their packets are made once more and judged: those that were read, and those that the library wrote. So a wrong reader or writer
+ * is told by what is known of reading and writing, and not by the judging of what it read or wrote. */
 #define _GNU_SOURCE
 #include "independent.h"
 #include "maker.h"
@@ -147,6 +150,20 @@ enum outcome {
     WRITTEN_LAST_63,
     WRITE_ONE_SHORT,
     WRITE_SHORT_OF_CHECKSUMS,
+    JUDGE_REFUSED, /* and its number, up to 17 */
+    JUDGED_AS_OURS = JUDGE_REFUSED + 18, /* and five times the rate, and the format */
+    JUDGED_DEPARTS = JUDGED_AS_OURS + 5 * RATES, /* and twice the format, and ten times the rate, and 1 where there are data bytes more */
+    JUDGED_SECTIONS = JUDGED_DEPARTS + 2 * 5 * RATES, /* several of them, and twice the format, and 1 where it departs */
+    JUDGED_DEPARTS_IN_SECTION = JUDGED_SECTIONS + 2 * 5, /* of several, and its number */
+    JUDGED_DEPARTS_LAST = JUDGED_DEPARTS_IN_SECTION + MOST_SECTIONS,
+    JUDGED_MENDED, /* and 1 where it departs, and twice the header bits flipped */
+    JUDGED_TRAILING = JUDGED_MENDED + 2 * 3, /* and 1 where it departs, as in what follows */
+    JUDGED_AT_BOTH_RATES = JUDGED_TRAILING + 2,
+    JUDGED_UNKNOWN = JUDGED_AT_BOTH_RATES + 2,
+    JUDGED_AS_MADE = JUDGED_UNKNOWN + 2,
+    JUDGED_CUT = JUDGED_AS_MADE + 2, /* and the kind of what was cut, as in `indicators`, or LINE_END */
+    JUDGED_WRITTEN = JUDGED_CUT + 4, /* and the header bits flipped */
+    JUDGED_WRITTEN_SECTIONS = JUDGED_WRITTEN + 3,
     OUTCOMES
 };
 
@@ -303,6 +320,65 @@ static const char *const outcome_name[OUTCOMES] = {
     [WRITTEN_LAST_63] = "  right before a space or slash",
     [WRITE_ONE_SHORT] = "packet buffer one byte too short",
     [WRITE_SHORT_OF_CHECKSUMS] = "packet buffer of 6 bytes more than the data, or more, too short",
+    [JUDGE_REFUSED + 1] = "judge refused 1, fewer than 4 bytes",
+    [JUDGE_REFUSED + 2] = "judge refused 2, no valid header",
+    [JUDGE_REFUSED + 3] = "judge refused 3, type or spare bit",
+    [JUDGE_REFUSED + 4] = "judge refused 4, length",
+    [JUDGE_REFUSED + 5] = "judge refused 5, cut short",
+    [JUDGE_REFUSED + 6] = "judge refused 6, checksum",
+    [JUDGE_REFUSED + 7] = "judge refused 7, malformed",
+    [JUDGE_REFUSED + 17] = "judge refused 17, too many bits",
+    [JUDGED_AS_OURS + 0] = "judged as ours, Open",
+    [JUDGED_AS_OURS + 1] = "judged as ours, Compact Pseudo Binary",
+    [JUDGED_AS_OURS + 2] = "judged as ours, Compact Numeric",
+    [JUDGED_AS_OURS + 3] = "judged as ours, Compact SHEF",
+    [JUDGED_AS_OURS + 4] = "judged as ours, Compact Full ASCII",
+    [JUDGED_AS_OURS + 5] = "judged as ours, Open at 1200",
+    [JUDGED_AS_OURS + 6] = "judged as ours, Compact Pseudo Binary at 1200",
+    [JUDGED_AS_OURS + 7] = "judged as ours, Compact Numeric at 1200",
+    [JUDGED_AS_OURS + 8] = "judged as ours, Compact SHEF at 1200",
+    [JUDGED_AS_OURS + 9] = "judged as ours, Compact Full ASCII at 1200",
+    /* a line end in two codes has nine bits more, and fill has seven at most: so there are data bytes more */
+    [JUDGED_DEPARTS + 2] = "judged to depart, Compact Pseudo Binary with as many bytes",
+    [JUDGED_DEPARTS + 3] = "judged to depart, Compact Pseudo Binary with more bytes",
+    [JUDGED_DEPARTS + 9] = "judged to depart, Compact Full ASCII with more bytes",
+    [JUDGED_DEPARTS + 12] = "judged to depart, Compact Pseudo Binary at 1200 with as many bytes",
+    [JUDGED_DEPARTS + 13] = "judged to depart, Compact Pseudo Binary at 1200 with more bytes",
+    [JUDGED_DEPARTS + 19] = "judged to depart, Compact Full ASCII at 1200 with more bytes",
+    [JUDGED_SECTIONS + 0] = "judged as ours, Open in several sections",
+    [JUDGED_SECTIONS + 2] = "judged as ours, Compact Pseudo Binary in several sections",
+    [JUDGED_SECTIONS + 4] = "judged as ours, Compact Numeric in several sections",
+    [JUDGED_SECTIONS + 6] = "judged as ours, Compact SHEF in several sections",
+    [JUDGED_SECTIONS + 8] = "judged as ours, Compact Full ASCII in several sections",
+    [JUDGED_SECTIONS + 3] = "judged to depart, Compact Pseudo Binary in several sections",
+    [JUDGED_SECTIONS + 9] = "judged to depart, Compact Full ASCII in several sections",
+    [JUDGED_DEPARTS_IN_SECTION + 0] = "  at a bit of section 0",
+    [JUDGED_DEPARTS_IN_SECTION + 1] = "  at a bit of section 1",
+    [JUDGED_DEPARTS_IN_SECTION + 2] = "  at a bit of section 2",
+    [JUDGED_DEPARTS_IN_SECTION + 3] = "  at a bit of section 3",
+    [JUDGED_DEPARTS_LAST] = "judged to depart in the last byte of ours",
+    [JUDGED_MENDED + 0] = "judged as ours, under a header as sent",
+    [JUDGED_MENDED + 2] = "judged as ours, under a header with 1 bit flipped",
+    [JUDGED_MENDED + 4] = "judged as ours, under a header with 2 bits flipped",
+    [JUDGED_MENDED + 1] = "judged to depart, under a header as sent",
+    [JUDGED_MENDED + 3] = "judged to depart, under a header with 1 bit flipped",
+    [JUDGED_MENDED + 5] = "judged to depart, under a header with 2 bits flipped",
+    [JUDGED_TRAILING + 0] = "judged as ours, with bytes behind the packet",
+    [JUDGED_TRAILING + 1] = "judged to depart, with bytes behind the packet",
+    [JUDGED_AT_BOTH_RATES + 0] = "judged as ours at both rates",
+    [JUDGED_AT_BOTH_RATES + 1] = "judged to depart at both rates",
+    [JUDGED_UNKNOWN + 0] = "judged as ours, where no text is known from the making",
+    [JUDGED_UNKNOWN + 1] = "judged to depart, where no text is known from the making",
+    [JUDGED_AS_MADE + 0] = "judged as ours, as made",
+    [JUDGED_AS_MADE + 1] = "judged to depart, as made",
+    [JUDGED_CUT + 0] = "  at an indicator of spaces",
+    [JUDGED_CUT + 1] = "  at an indicator of slashes",
+    [JUDGED_CUT + 2] = "  at an indicator of values",
+    [JUDGED_CUT + 3] = "  at a line end (Compact Full ASCII)",
+    [JUDGED_WRITTEN + 0] = "judged as ours, what the library wrote",
+    [JUDGED_WRITTEN + 1] = "  under a header with 1 bit flipped",
+    [JUDGED_WRITTEN + 2] = "  under a header with 2 bits flipped",
+    [JUDGED_WRITTEN_SECTIONS] = "  in several sections",
 };
 
 static uint64_t outcomes[OUTCOMES];
@@ -322,7 +398,7 @@ static const struct {
     {"Compact Full ASCII", 0x1f1, 0xf01},
 };
 
-static uint64_t read_answers[RATES][FORMATS][REFUSALS], write_answers[RATES][FORMATS][REFUSALS];
+static uint64_t read_answers[RATES][FORMATS][REFUSALS], write_answers[RATES][FORMATS][REFUSALS], judge_answers[RATES][FORMATS][REFUSALS];
 
 /* The bits of a format's shortest code, and how many codes so many bits have at most: n bytes of data 4n/3 in Compact Pseudo Binary and Full ASCII, 2n in
  * Numeric, 8n/5 in SHEF. In Open there are none. */
@@ -427,6 +503,11 @@ static void dump_write_answer(const char *name, rosopyat_write_answer a)
     printf("%s: refusal %u number %zu length %zu\n", name, a.refusal, a.number, a.length);
 }
 
+static void dump_judge_answer(const char *name, rosopyat_judge_answer a)
+{
+    printf("%s: refusal %u number %zu codes %zu as_ours %u departs_at %zu more %zu\n", name, a.refusal, a.number, a.codes, a.as_ours, a.departs_at, a.more);
+}
+
 static void dump_outputs(const char *name, struct place place, size_t ours, size_t theirs)
 {
     if (ours <= place.length) {
@@ -512,6 +593,7 @@ struct made {
     bool of_data;   /* and the header is that of the data */
     bool cut;       /* then: the packet is not there to its end */
     bool known;     /* the outcome is known from the making: this format, sync and text, in so many codes */
+    bool departs;   /* and then it is not what the writer makes of that text: first at the bit `departs_at`, for what was cut there, and in so many bits more */
     bool malformed; /* and then it is refused as malformed, at the bit `bad`, with so many codes before it */
     bool damaged;   /* known too: refused by checksum, for a damage of this kind in this section, and maybe others in those behind it */
     unsigned kind, section;
@@ -519,6 +601,8 @@ struct made {
     unsigned format, sync;
     unsigned flag, header_length; /* that the header says */
     size_t data_length, text_length, codes, bad;
+    size_t departs_at, bits_before_fill, bits_more;
+    unsigned cut_kind;
 };
 
 static struct made made;
@@ -589,17 +673,74 @@ static unsigned value_character(unsigned value)
     return value == 63 ? '?' : 64 + value;
 }
 
+/* Up to which bit a maker cuts runs and line ends as the writer does. */
+static size_t some_care(size_t most_bits)
+{
+    if (chance(50))
+        return chance(60) ? 0 : most_bits;
+    return most_bits - below(chance(50) ? most_bits : most_bits / 4 + 1);
+}
+
+/* The indicators of Compact Pseudo Binary as they were put, and where, so that it is known which of them count less than they could. */
+
+enum { SPACE, SLASH, VALUES, LINE_END, MOST_INDICATORS = ROSOPYAT_MOST_DATA_1200 * 8 / 6 };
+
+static struct indicator {
+    unsigned kind;
+    size_t run, at;
+} indicators[MOST_INDICATORS];
+static size_t indicators_put;
+
+static size_t most_of_kind(unsigned kind)
+{
+    return kind == VALUES ? 128 : 16;
+}
+
+static void put_indicator(struct maker_bits *bits, unsigned kind, size_t run)
+{
+    indicators[indicators_put++] = (struct indicator){kind, run, bits->bits};
+    if (kind == VALUES)
+        maker_code(bits, 0x80 | (run - 1), 8);
+    else
+        maker_code(bits, kind << 4 | (run - 1), 6);
+}
+
+/* This kind, or another where a run would be cut. */
+static unsigned careful_kind(unsigned kind)
+{
+    if (indicators_put == 0)
+        return kind;
+    const struct indicator *last = &indicators[indicators_put - 1];
+    if (last->kind != kind || last->run == most_of_kind(kind))
+        return kind;
+    return kind == VALUES ? below(2) : kind ^ 1;
+}
+
+/* One more space or slash by itself, where the last indicator is not full, and there is fill for another. */
+static void cut_last(struct maker_bits *bits)
+{
+    struct indicator last = indicators[indicators_put - 1];
+    if (last.kind == VALUES || last.run == 16 || chance(20))
+        return;
+    put_indicator(bits, last.kind, 1);
+    add_text(last.kind == SLASH ? '/' : ' ', 1);
+}
+
 /* `longest`: full runs of space and slash only. */
 static void make_pseudo_binary(struct maker_bits *bits, size_t most_bits, bool longest)
 {
+    size_t careful_until = some_care(most_bits);
+    indicators_put = 0;
     while (one_more(most_bits - bits->bits, 6)) {
         size_t rest = most_bits - bits->bits;
-        unsigned kind = longest ? below(2) : below(4);
-        if (kind >= 2 && rest >= 14) {
+        unsigned kind = longest || chance(50) ? below(2) : VALUES;
+        if (bits->bits < careful_until)
+            kind = careful_kind(kind);
+        if (kind == VALUES && rest >= 14) {
             size_t run = some_run(128);
             if (8 + 6 * run > rest)
                 run = (rest - 8) / 6;
-            maker_code(bits, 0x80 | (run - 1), 8);
+            put_indicator(bits, VALUES, run);
             for (size_t i = 0; i < run; i++) {
                 unsigned value = chance(10) ? 63 : below(64);
                 maker_code(bits, value, 6);
@@ -607,21 +748,63 @@ static void make_pseudo_binary(struct maker_bits *bits, size_t most_bits, bool l
             }
         } else {
             size_t run = longest ? 16 : some_run(16);
-            maker_code(bits, (kind & 1) << 4 | (run - 1), 6);
-            add_text(kind & 1 ? '/' : ' ', run);
+            kind = kind == VALUES ? below(2) : kind;
+            put_indicator(bits, kind, run);
+            add_text(kind == SLASH ? '/' : ' ', run);
         }
     }
+    if (most_bits - bits->bits == 6)
+        cut_last(bits);
+}
+
+/* Where the first of the indicators that were put differs from the fullest, and how many bits more they all have. They are taken from the last on, and `rest`
+ * counts the characters from an indicator to the end of its run. */
+static void find_cuts(void)
+{
+    size_t rest = 0;
+    for (size_t i = indicators_put; i-- > 0;) {
+        const struct indicator *put = &indicators[i];
+        size_t most = most_of_kind(put->kind), width = put->kind == VALUES ? 8 : 6;
+        bool first = i == 0 || put[-1].kind != put->kind, last = i + 1 == indicators_put || put[1].kind != put->kind;
+        rest = last ? put->run : rest + put->run;
+        size_t fullest = rest < most ? rest : most;
+        if (put->run != fullest) {
+            made.departs = true;
+            made.cut_kind = put->kind;
+            made.departs_at = put->at + width - 32 + __builtin_clz((put->run - 1) ^ (fullest - 1));
+        }
+        made.bits_more += width;
+        if (first)
+            made.bits_more -= (rest + most - 1) / most * width;
+    }
+}
+
+/* A CR and an LF behind it, each in a code of its own: the nine bits of the CR end in 01, where those of both in one code end in 11. */
+static void note_line_end(size_t cr_at)
+{
+    if (!made.departs)
+        made.departs_at = cr_at + 7;
+    made.departs = true;
+    made.cut_kind = LINE_END;
+    made.bits_more += 9;
 }
 
 /* `shortest`: codes of six bits only. */
 static void make_full_ascii(struct maker_bits *bits, size_t most_bits, bool shortest)
 {
     unsigned controls = shortest ? 0 : chance(20) ? 60 : 8, letters = shortest ? 0 : 50;
+    size_t careful_until = some_care(most_bits), behind_cr = 0; /* the bit behind the last CR that was put by itself */
     while (one_more(most_bits - bits->bits, 6)) {
         size_t rest = most_bits - bits->bits;
         if (rest >= 9 && chance(controls)) {
             unsigned code = below(4);
+            bool cut = code == 2 && behind_cr == bits->bits && behind_cr > 0;
+            if (cut && bits->bits < careful_until)
+                code = 3;
+            else if (cut)
+                note_line_end(behind_cr - 9);
             maker_code(bits, 0x1fc | code, 9);
+            behind_cr = code == 1 ? bits->bits : 0;
             if (code == 3)
                 add_text('\r', 1);
             add_text("\t\r\n\n"[code], 1);
@@ -770,9 +953,10 @@ static size_t make_data(unsigned format, bool for_1200, uint8_t *data)
                 data[i] = sign_codes[below(3)] << 4 | sign_codes[below(3)];
         return length;
     }
-    if (format == 1)
+    if (format == 1) {
         make_pseudo_binary(&bits, 8 * length, longest);
-    else if (format == 2)
+        find_cuts();
+    } else if (format == 2)
         make_numeric(&bits, 8 * length, longest);
     else if (format == 3)
         make_shef(&bits, 8 * length, longest, shortest);
@@ -799,6 +983,7 @@ static size_t make_data(unsigned format, bool for_1200, uint8_t *data)
     if (dice < (length < SECTION - 10 ? 58 : 68) && format != 2 && length <= most - 100)
         make_malformed(format, &bits);
     made.codes = bits.codes;
+    made.bits_before_fill = bits.bits;
     return maker_fill(&bits);
 }
 
@@ -922,9 +1107,9 @@ static unsigned some_format(void)
 static void make_packet(void)
 {
     made.known = true;
-    made.headed = made.of_data = made.cut = made.damaged = made.malformed = false;
+    made.headed = made.of_data = made.cut = made.damaged = made.malformed = made.departs = false;
     made.flag = 0;
-    made.text_length = made.codes = 0;
+    made.text_length = made.codes = made.departs_at = made.bits_more = 0;
     if (chance(4)) { /* any bytes at all */
         made.known = false;
         made.length = below(80);
@@ -1176,6 +1361,12 @@ static const char *compare_written_again(rosopyat_read_answer answer, const uint
     return written.length <= answer.used ? NULL : "what was read is written again in more bytes";
 }
 
+/* Whether a refusal is of data in one of the formats: which one, the header tells that was made and found. */
+static bool refused_in_format(uint32_t mend, uint32_t refusal)
+{
+    return is_found(mend) && refusal > 3 && made.flag >> 5 == 2 && (made.flag >> 2 & 7) < FORMATS;
+}
+
 static void count_refusal(struct naming naming, rosopyat_read_answer answer, size_t room)
 {
     bool too_many = answer.refusal == 17;
@@ -1184,7 +1375,7 @@ static void count_refusal(struct naming naming, rosopyat_read_answer answer, siz
     outcomes[TOO_MANY_LOW_8_OURS] += too_many && may_be_named(naming.mend & 0xff);
     outcomes[TOO_MANY_LOW_16_OURS] += too_many && may_be_named(naming.mend & 0xffff);
     outcomes[NO_ROOM_ONE_SHORT] += answer.refusal == 8 && room + 1 == answer.number;
-    if (is_found(naming.mend) && answer.refusal > 3 && made.flag >> 5 == 2 && (made.flag >> 2 & 7) < FORMATS) {
+    if (refused_in_format(naming.mend, answer.refusal)) {
         read_answers[rate_1200][made.flag >> 2 & 7][answer.refusal]++;
         outcomes[OTHER_LENGTH + rate_1200] += answer.refusal == 4 && made.header_length == most_data(rate_1200) + 1;
     }
@@ -1233,12 +1424,19 @@ static void count_reading(struct naming naming, rosopyat_read_answer answer, siz
     outcomes[READ_LONG_TAIL] += made.length > answer.used + 4000;
 }
 
-static bool reader_case(void)
+/* A packet, and the bits to mend. */
+static struct naming make_reading(void)
 {
     struct naming naming = some_naming();
     make_packet();
     if (!may_be_named(naming.mend) && chance(20)) /* 17 comes before 1 */
         made.length = below(4);
+    return naming;
+}
+
+static bool reader_case(void)
+{
+    struct naming naming = make_reading();
     struct place packet = place_input(made.packet, made.length);
     rosopyat_read_answer needed = read_independently(naming, input + packet.start, packet.length, untouched + REGION, 0);
     size_t room = some_room(needed.refusal == 8 ? needed.number : below(100));
@@ -1550,13 +1748,22 @@ static uint32_t some_number(void)
     }
 }
 
-static bool writer_case(void)
+/* A text, in made_text, for a format. Answers its length. */
+static size_t make_writing(uint32_t *format, bool *sync)
 {
-    uint32_t format = some_number();
-    bool sync = below(2);
-    size_t length = make_text(format, made_text);
+    *format = some_number();
+    *sync = below(2);
+    size_t length = make_text(*format, made_text);
     if (length > 0 && chance(10))
         damage_text(length);
+    return length;
+}
+
+static bool writer_case(void)
+{
+    uint32_t format;
+    bool sync;
+    size_t length = make_writing(&format, &sync);
     struct place text = place_input(made_text, length);
     rosopyat_write_answer needed = independent_write(rate_1200, format, sync, input + text.start, length, untouched + REGION, 0);
     size_t room = some_room(needed.refusal == 8 ? needed.number : below(100));
@@ -1590,6 +1797,167 @@ static bool writer_case(void)
         ours.refusal == 11 && !rate_1200 && independent_write(true, format, sync, input + text.start, length, untouched + REGION, 0).refusal == 8;
     put_back(packet, ours.length);
     count_writing(ours, room, format, sync, input + text.start, length);
+    return true;
+}
+
+/* Judging. */
+
+static bool same_judge_answer(rosopyat_judge_answer a, rosopyat_judge_answer b)
+{
+    return a.refusal == b.refusal && a.number == b.number && a.codes == b.codes && a.as_ours == b.as_ours && a.departs_at == b.departs_at && a.more == b.more;
+}
+
+/* Whether the packet's outcome is known from the making, and it is one that is accepted. */
+static bool is_known(uint32_t mend)
+{
+    return is_found(mend) && made.known && !made.malformed && made.data_length <= most_data(rate_1200);
+}
+
+static const char *compare_judged_making(uint32_t mend, rosopyat_judge_answer answer)
+{
+    if (!is_known(mend))
+        return NULL;
+    size_t fewest = (made.bits_before_fill - made.bits_more + 7) / 8;
+    rosopyat_judge_answer wanted = {.as_ours = !made.departs};
+    if (made.departs) {
+        wanted.departs_at = made.departs_at;
+        wanted.more = made.data_length - fewest;
+    }
+    return same_judge_answer(answer, wanted) ? NULL : "the packet is not judged as made";
+}
+
+/* Of so many data bits that two packets both have: the first that they have not alike, or `bits`. */
+static size_t first_other_bit(const uint8_t *one, const uint8_t *other, size_t bits)
+{
+    size_t byte = 0;
+    while (byte < bits / 8 && one[maker_place(byte)] == other[maker_place(byte)])
+        byte++;
+    if (byte == bits / 8)
+        return bits;
+    return 8 * byte + __builtin_clz(one[maker_place(byte)] ^ other[maker_place(byte)]) - 24;
+}
+
+/* By the library's reader, which has room for any text, and its writer. */
+static const char *compare_judged_writing(uint32_t mend, rosopyat_judge_answer answer, const uint8_t *packet, rosopyat_read_answer *read)
+{
+    static uint8_t text[ROSOPYAT_MOST_TEXT_1200], again[ROSOPYAT_MOST_PACKET_1200];
+    *read = rosopyat_read_mending(mend, rate_1200, packet, made.length, text, sizeof text);
+    rosopyat_judge_answer refused = {.refusal = read->refusal, .number = read->number, .codes = read->codes};
+    if (read->refusal != 0)
+        return same_judge_answer(answer, refused) ? NULL : "it is not refused as the reader refuses it";
+    rosopyat_write_answer written = rosopyat_write(rate_1200, read->format, read->sync, text, read->text_length, again, sizeof again);
+    if (written.refusal != 0 || written.length > read->used)
+        return "what was read is not written again in as many bytes or fewer";
+    size_t bits = 8 * data_length_of(written.length), departs_at = first_other_bit(packet, again, bits);
+    bool departs = departs_at < bits;
+    if (!departs && written.length < read->used)
+        return "what is written again is the start of the data alone";
+    rosopyat_judge_answer wanted = {.as_ours = !departs, .departs_at = departs ? departs_at : 0, .more = read->data_length - bits / 8};
+    if (!same_judge_answer(answer, wanted))
+        return "the answer is not by what is written again";
+    return !departs || read->format == 1 || read->format == 4 ? NULL : "it departs where the format leaves no choice";
+}
+
+/* At the other rate, where the header is found and says that there is no more than one section. */
+static const char *compare_judged_rates(uint32_t mend, rosopyat_judge_answer answer, struct place packet)
+{
+    if (!is_found(mend) || made.header_length > SECTION)
+        return NULL;
+    rosopyat_judge_answer other = rosopyat_judge(mend, !rate_1200, at_place(input, packet), packet.length);
+    outcomes[JUDGED_AT_BOTH_RATES + !answer.as_ours] += answer.refusal == 0;
+    return same_judge_answer(answer, other) ? compare_input(packet) : "the answer is another at the other rate";
+}
+
+static void count_departing(rosopyat_judge_answer answer, rosopyat_read_answer read)
+{
+    outcomes[JUDGED_DEPARTS + 10 * rate_1200 + 2 * read.format + (answer.more > 0)]++;
+    outcomes[JUDGED_DEPARTS_IN_SECTION + answer.departs_at / (8 * SECTION)] += read.data_length > SECTION;
+    outcomes[JUDGED_DEPARTS_LAST] += answer.departs_at / 8 + 1 == read.data_length - answer.more;
+}
+
+static void count_judging(uint32_t mend, rosopyat_judge_answer answer, rosopyat_read_answer read)
+{
+    bool departs = !answer.as_ours;
+    if (answer.refusal != 0) {
+        outcomes[JUDGE_REFUSED + answer.refusal]++;
+        if (refused_in_format(mend, answer.refusal))
+            judge_answers[rate_1200][made.flag >> 2 & 7][answer.refusal]++;
+        return;
+    }
+    judge_answers[rate_1200][read.format][0]++;
+    outcomes[JUDGED_AS_OURS + 5 * rate_1200 + read.format] += answer.as_ours;
+    outcomes[JUDGED_SECTIONS + 2 * read.format + departs] += read.data_length > SECTION;
+    outcomes[JUDGED_MENDED + 2 * read.mended + departs]++;
+    outcomes[JUDGED_TRAILING + departs] += made.length > read.used;
+    outcomes[(is_known(mend) ? JUDGED_AS_MADE : JUDGED_UNKNOWN) + departs]++;
+    outcomes[JUDGED_CUT + made.cut_kind] += is_known(mend) && departs;
+    if (departs)
+        count_departing(answer, read);
+}
+
+/* The packet that was made. */
+static bool judge_packet(uint32_t mend)
+{
+    struct place packet = place_input(made.packet, made.length);
+    rosopyat_read_answer read = {0};
+    rosopyat_judge_answer ours = rosopyat_judge(mend, rate_1200, at_place(input, packet), packet.length);
+    const char *wrong = compare_input(packet);
+    rosopyat_judge_answer theirs = independent_judge(mend, rate_1200, input + packet.start, packet.length);
+    if (!wrong)
+        wrong = compare_input(packet);
+    if (!wrong && !same_judge_answer(ours, theirs))
+        wrong = "the answers differ";
+    if (!wrong)
+        wrong = compare_judged_making(mend, ours);
+    if (!wrong)
+        wrong = compare_judged_writing(mend, ours, input + packet.start, &read);
+    if (!wrong)
+        wrong = compare_judged_rates(mend, ours, packet);
+    if (wrong) {
+        printf("differs: judge: %s\n", wrong);
+        dump_case();
+        printf("%s bps, %" PRIu32 " bits to mend\n", rate_name(), mend);
+        dump_judge_answer("library    ", ours);
+        dump_judge_answer("independent", theirs);
+        dump_bytes("packet", input_copy + packet.start, packet.length);
+        return false;
+    }
+    count_judging(mend, ours, read);
+    return true;
+}
+
+/* The packet of a reader case. */
+static bool judge_read_case(void)
+{
+    return judge_packet(make_reading().mend);
+}
+
+/* What the library writes of the text of a writer case, given room, with header bits flipped. */
+static bool judge_written_case(void)
+{
+    uint32_t format;
+    bool sync;
+    size_t length = make_writing(&format, &sync);
+    rosopyat_write_answer written = rosopyat_write(rate_1200, format, sync, made_text, length, made.packet, ROSOPYAT_MOST_PACKET_1200);
+    if (written.refusal != 0)
+        return true;
+    made.known = made.headed = made.of_data = true;
+    made.cut = made.damaged = made.malformed = made.departs = false;
+    made.format = format;
+    made.sync = sync;
+    made.flag = 0x40 | format << 2 | sync << 1;
+    made.length = written.length;
+    made.data_length = made.header_length = data_length_of(written.length);
+    damage_header();
+    if (chance(30))
+        add_tail();
+    uint32_t mend = some_mend();
+    if (!judge_packet(mend))
+        return false;
+    if (is_found(mend)) {
+        outcomes[JUDGED_WRITTEN + made.flipped]++;
+        outcomes[JUDGED_WRITTEN_SECTIONS] += made.data_length > SECTION;
+    }
     return true;
 }
 
@@ -1655,6 +2023,7 @@ static bool print_outcomes(bool all_meant)
         unsigned rate = i / FORMATS, format = i % FORMATS;
         missing |= print_answers("reader", rate, format, read_answers[rate][format], all_meant ? formats[format].read : 0);
         missing |= print_answers("writer", rate, format, write_answers[rate][format], all_meant ? formats[format].written : 0);
+        missing |= print_answers("judge", rate, format, judge_answers[rate][format], all_meant ? formats[format].read & ~(1u << ROSOPYAT_NO_ROOM) : 0);
     }
     for (int i = 0; i < OUTCOMES; i++)
         if (outcome_name[i])
@@ -1662,6 +2031,18 @@ static bool print_outcomes(bool all_meant)
     missing |= print_mended_bits(all_meant);
     printf("%10d  of the 32 types in a header\n", __builtin_popcount(types_made));
     return !missing && (!all_meant || types_made == ~0u);
+}
+
+/* The one or the other for each case, by its number. Whether all went through without a difference. */
+static bool go_through(uint64_t first, uint64_t cases, bool (*of_reader)(void), bool (*of_writer)(void))
+{
+    for (case_number = first; case_number < first + cases; case_number++) {
+        state = (seed + 1) * 0xd1342543de82ef95 + case_number * 0xaf251af3b0f025b5;
+        rate_1200 = chance(45);
+        if (!(chance(60) ? of_reader() : of_writer()))
+            return false;
+    }
+    return true;
 }
 
 int main(int count, char **words)
@@ -1672,12 +2053,8 @@ int main(int count, char **words)
     printf("seed %" PRIu64 ", %" PRIu64 " cases\n", seed, cases);
     fflush(stdout);
     prepare();
-    for (case_number = first; case_number < first + cases; case_number++) {
-        state = (seed + 1) * 0xd1342543de82ef95 + case_number * 0xaf251af3b0f025b5;
-        rate_1200 = chance(45);
-        if (!(chance(60) ? reader_case() : writer_case()))
-            return 1;
-    }
+    if (!go_through(first, cases, reader_case, writer_case) || !go_through(first, cases, judge_read_case, judge_written_case))
+        return 1;
     bool complete = print_outcomes(cases >= MEANT_CASES);
     printf("%" PRIu64 " cases, no difference%s\n", cases, complete ? "" : ", but an outcome never occurred");
     return !complete;

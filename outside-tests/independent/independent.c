@@ -690,3 +690,46 @@ rosopyat_write_answer independent_write(bool rate_1200, uint32_t format, bool sy
     answer.length = packet_size(length);
     return answer;
 }
+
+/* Judging: the text that a packet carries is written again, and the bits of both are laid side by side. */
+
+enum { MOST_TEXT = MOST_SECTIONS * SECTION * 8 / 6 * 16 }; /* as many indicators as there is room for, of 16 slashes each */
+
+static size_t first_other_bit(const uint8_t *one, const uint8_t *other, size_t bits)
+{
+    size_t at = 0;
+    while (at < bits && bit_at(one, at) == bit_at(other, at))
+        at++;
+    return at;
+}
+
+static rosopyat_judge_answer refuse_judging(rosopyat_read_answer read)
+{
+    rosopyat_judge_answer answer = {0};
+    answer.refusal = read.refusal;
+    answer.number = read.number;
+    answer.codes = read.codes;
+    return answer;
+}
+
+rosopyat_judge_answer independent_judge(uint32_t mend, bool rate_1200, const uint8_t *packet, size_t packet_length)
+{
+    uint8_t text[MOST_TEXT];
+    uint8_t data[MOST_SECTIONS * SECTION];
+    uint8_t ours[MOST_SECTIONS * SECTION];
+    size_t bad = 0;
+    rosopyat_read_answer read = independent_read_mending(mend, rate_1200, packet, packet_length, text, sizeof text);
+    if (read.refusal != 0)
+        return refuse_judging(read);
+    read_sections(packet, read.data_length, data, &bad);
+    struct bit_row row = {ours, 0};
+    write_data(read.format, &row, text, read.text_length);
+
+    rosopyat_judge_answer answer = {0};
+    size_t same = first_other_bit(data, ours, row.bits);
+    answer.more = read.data_length - row.bits / 8;
+    answer.as_ours = same == row.bits && answer.more == 0;
+    if (!answer.as_ours)
+        answer.departs_at = same;
+    return answer;
+}

@@ -43,7 +43,7 @@ use Rattle.demands.specs.Demand3.{RefusedByChecksum, Demand3}
 use Rattle.demands.specs.Makers.{Made, Flipped, FlippedBeyond, arriving, readingWith}
 
 module _ (terms : Terms) (named : MayBeNamed terms) (format : Format) (sync : Bool) (text packet : List ℕ) (made : Made terms format sync text packet) where
-  small : length (made .carried) < 2 ^ 14
+  pub small : length (made .carried) < 2 ^ 14
   small = omega (arith, made .few, named .bytes)
 
   -- the header that was sent
@@ -53,10 +53,10 @@ module _ (terms : Terms) (named : MayBeNamed terms) (format : Format) (sync : Bo
       ap received (made .is)
       ∙ received-front (headerFor format sync (length (made .carried))) (inSections (made .carried)) (header-valid format sync (length (made .carried)) small .bits)
 
-  near : (word : ℕ) → Flipped terms packet word → distance word (headerFor format sync (length (made .carried))) ≤ terms .mend
+  pub near : (word : ℕ) → Flipped terms packet word → distance word (headerFor format sync (length (made .carried))) ≤ terms .mend
   near word flipped = subst (λ (h : ℕ). distance word h ≤ terms .mend) packet-header (flipped .few)
 
-  arrives : (word : ℕ) (after : List ℕ) → arriving word packet after ≡ arrived word (inSections (made .carried)) after
+  pub arrives : (word : ℕ) (after : List ℕ) → arriving word packet after ≡ arrived word (inSections (made .carried)) after
   unfolding arriving packetOf bytesOf
   arrives word after = ap (λ (l : List ℕ). bytesOf word ++ (drop 4 l ++ after)) (made .is)
 

@@ -5,6 +5,7 @@ pub mod Demand3
 pub mod Edges
 pub mod HeaderTests
 pub mod HowManyCodes
+pub mod Judging
 pub mod NoShorter
 pub mod OneAnswer
 pub mod Parts

@@ -10,6 +10,7 @@ use Rattle.demands.proofs.Demand1 as first
 use Rattle.demands.proofs.Demand2 as second
 use Rattle.demands.proofs.Demand3 as third
 use Rattle.demands.proofs.HowManyCodes as counted
+use Rattle.demands.proofs.Judging as judged
 use Rattle.demands.proofs.NoShorter as fewest
 use Rattle.demands.proofs.OneAnswer as beside
 use Rattle.demands.proofs.WhichBits as which
@@ -29,6 +30,7 @@ kept terms bytes = record {
   how-many-codes = counted.how-many-codes terms bytes;
   no-shorter = fewest.no-shorter terms;
   waste = fewest.waste;
+  judging = judged.judging terms bytes;
 }
 
 pub kept-naming : (mend : ℕ) (rate-1200 : Bool) → Promised (naming mend rate-1200)

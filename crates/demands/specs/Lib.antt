@@ -3,6 +3,7 @@ pub mod Demand2
 pub mod Demand3
 pub mod Edges
 pub mod HowManyCodes
+pub mod Judging
 pub mod Makers
 pub mod NoShorter
 pub mod OneAnswer

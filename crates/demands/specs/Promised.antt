@@ -6,6 +6,7 @@ use Rattle.demands.specs.Demand1.{Demand1, Conditions}
 use Rattle.demands.specs.Demand2.{Demand2}
 use Rattle.demands.specs.Demand3.{Demand3}
 use Rattle.demands.specs.HowManyCodes.{HowManyCodes}
+use Rattle.demands.specs.Judging.{Judging}
 use Rattle.demands.specs.NoShorter.{NoShorter, Waste}
 use Rattle.demands.specs.OneAnswer.{OneAnswer, OneBuilding, Buildings, Agreement, NothingAfter}
 use Rattle.demands.specs.WhichBits.{WhichBits}
@@ -24,3 +25,4 @@ pub record Promised (terms : Terms) : Type 0 where
   pub how-many-codes : HowManyCodes terms
   pub no-shorter : NoShorter terms
   pub waste : Waste
+  pub judging : Judging terms

@@ -64,10 +64,10 @@ module _ (terms : Terms) (named : MayBeNamed terms) (packet : List ℕ) where
 
   -- and has one text and one reading
   module _ (a b : Reading) (t u : List ℕ) (p : Accepts terms packet a t) (q : Accepts terms packet b u) where
-    same-header : p .header ≡ q .header
+    pub same-header : p .header ≡ q .header
     same-header = one-header terms named packet (p .header) (q .header) (p .allowed .framed .near) (q .allowed .framed .near)
 
-    same-format : p .format ≡ q .format
+    pub same-format : p .format ≡ q .format
     same-format = one-format (subst (λ (h : ℕ). HasFormat (fieldsIn h) (p .format)) same-header (p .allowed .framed .typed)) (q .allowed .framed .typed)
 
     -- by a building of the same data in as many codes

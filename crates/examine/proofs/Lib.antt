@@ -1,3 +1,4 @@
+pub mod AcceptedData
 pub mod ExamineAnswers
 pub mod ExamineOnce
 pub mod ExamineStages

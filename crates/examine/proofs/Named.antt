@@ -2,14 +2,15 @@
 -- Assumes nothing.
 use mathlib.Core.Bool.{Bool}
 use mathlib.Core.List.{List}
-use mathlib.Core.Path.{_≡_, ap₂, subst, _∙_}
+use mathlib.Core.Path.{_≡_}
 use Prim.Native.Nat.{ℕ}
 use Rattle.terms.specs.declared.Terms.{Terms}
 use Rattle.terms.specs.Terms.{naming}
+use Rattle.terms.proofs.Usual.{naming-so}
 use Rattle.examine.specs.declared.ExamineAnswer.{ExamineAnswer}
 use Rattle.examine.specs.Examine.{Examines}
 
 module _ (terms : Terms) (given mend : ℕ) (named-1200 rate-1200 : Bool) (is : terms ≡ naming given named-1200) (same : given ≡ mend)
     (rate : named-1200 ≡ rate-1200) (packet : List ℕ) where
   pub examines-naming : (answer : ExamineAnswer) → Examines terms packet answer → Examines (naming mend rate-1200) packet answer
-  examines-naming answer = subst (λ (t : Terms). Examines t packet answer) (is ∙ ap₂ naming same rate)
+  examines-naming answer = naming-so (λ (t : Terms). Examines t packet answer) terms given mend named-1200 rate-1200 is same rate

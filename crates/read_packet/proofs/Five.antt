@@ -21,7 +21,8 @@ use Rattle.reader.specs.Reader.{Reads}
 use Rattle.terms.specs.Terms.{naming}
 use Rattle.demands.specs.Makers.{Made, Flipped, arriving, readingWith}
 use Rattle.demands.proofs.Promised.{kept-naming}
-use Rattle.report.specs.Line.{decimalIn, decimal, hexadecimalDigit, hexadecimalIn, hexadecimal, spaced, line as lineWith, lineOf}
+use Rattle.lines.specs.Line.{decimalIn, decimal, hexadecimalDigit, hexadecimalIn, hexadecimal, spaced, line as lineWith}
+use Rattle.report.specs.Line.{lineOf}
 use Rattle.report.specs.Report.{Prints}
 
 -- in ASCII

@@ -1,3 +1,2 @@
-pub mod Coming
 pub mod Five
 pub mod Six

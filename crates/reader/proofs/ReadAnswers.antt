@@ -22,7 +22,7 @@ use Rattle.packet.specs.Packet.{wholeLength, dataIn}
 use Rattle.sections.specs.Sections.{sentLength, joined}
 use Rattle.reader.specs.Reader.{ReadFault, Reads}
 use Rattle.terms.specs.Terms.{MayBeNamed}
-use Rattle.examine.proofs.ExamineAnswers.{rest-long, data-there}
+use Rattle.examine.proofs.AcceptedData as accepted
 use Rattle.examine.proofs.ExamineOnce.{accepts-no-fault}
 
 module _ (terms : Terms) (packet : List ℕ) where
@@ -55,28 +55,11 @@ module _ (terms : Terms) (packet : List ℕ) where
   -- ---- the data, as the code takes it
 
   module _ (named : MayBeNamed terms) (reading : Reading) (text : List ℕ) (a : Accepts terms packet reading text) where
-    data-long : reading .«data_length» ≡ lengthIn (a .header)
-    data-long = ap (λ (r : Reading). r .«data_length») (a .is)
-
-    pub whole : wholeLength (reading .«data_length») ≤ length packet
-    whole = omega (arith, data-long, a .allowed .framed .whole)
-
-    pub short : reading .«data_length» ≤ 16000
-    short = omega (arith, data-long, a .allowed .framed .few, named .bytes)
-
-    abbrev rest : List ℕ
-    rest = take (length packet - 4) (drop 4 packet)
-
-    pub all-there : sentLength (reading .«data_length») ≤ length rest
-    all-there = rest-long packet (reading .«data_length») whole
-
     abbrev data-in : List ℕ
-    data-in = joined (reading .«data_length») rest
+    data-in = accepted.data-in terms packet (named .bytes) reading text a
 
     carried : Carries (reading .format) text data-in
-    carried =
-        subst₂ (λ (k : Format) (l : List ℕ). Carries k text l) (ap (λ (r : Reading). r .format) (sym (a .is)))
-        (sym (data-there packet (a .header) (reading .«data_length») data-long)) (a .allowed .carries)
+    carried = accepted.carried terms packet (named .bytes) reading text a
 
     module _ (entry : List ℕ) (held : reading .«text_length» ≤ length entry) where
       pub room : HasRoom (reading .format) data-in (length entry)

@@ -1,4 +1,2 @@
-pub mod Decimal
 pub mod Once
-pub mod Putting
 pub mod Told

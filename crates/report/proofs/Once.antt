@@ -17,7 +17,8 @@ use Rattle.refusals.specs.declared.ExamineRefusal.the-variants.{NoHeader}
 use Rattle.reader.specs.Reader.{ReadRefuses, Reads}
 use Rattle.terms.specs.Terms.{naming}
 use Rattle.reader.proofs.ReadOnce.{reads-one}
-use Rattle.report.specs.Line.{decimalIn, decimal, spaced, line, lineOf}
+use Rattle.lines.specs.Line.{decimalIn, decimal, spaced, line}
+use Rattle.report.specs.Line.{lineOf}
 use Rattle.report.specs.Report.{Prints}
 use Rattle.report.specs.Steps.Put.{PutsLine}
 

@@ -16,32 +16,17 @@ use Rattle.reader.specs.declared.ReadAnswer.the-variants.{Accepted, Refused}
 use Rattle.refusals.specs.Refusals.{numberIn, readTold}
 use Rattle.reader.specs.Reader.{Reads}
 use Rattle.terms.specs.Terms.{mostAt}
-use Rattle.report.specs.Line.{ok, refused, decimal, decimals, hexadecimal, spaced, line, lineOf}
-use Rattle.report.specs.Steps.Put.{room, PutsRow, PutsLine}
-use Rattle.report.proofs.Decimal.{spaced-within, hexadecimal-length}
-use Rattle.report.proofs.Putting.{Still, still-all, piece-held, still-next, front}
-
--- another row that is the same
-pub front-same : {row row′ out out′ : List ℕ} {r : ℕ} → Fronted row out out′ r → row ≡ row′ → Fronted row′ out out′ r
-front-same {row} {row′} {out} {out′} {r} p e = subst (λ (l : List ℕ). Fronted l out out′ r) e p
+use Rattle.lines.specs.Line.{refused, decimal, decimals, hexadecimal, spaced, line}
+use Rattle.lines.specs.Steps.Put.{room, PutsRow}
+use Rattle.lines.proofs.Decimal.{spaced-within, hexadecimal-length}
+use Rattle.lines.proofs.Putting.{Still, still-all, piece-held, still-next}
+use Rattle.lines.proofs.Told.{spaced-append}
+use Rattle.report.specs.Line.{ok, lineOf}
+use Rattle.report.specs.Steps.Put.{PutsLine}
 
 -- a piece in front of others
 fore : {n m : List ℕ} {rest rest′ : List (List ℕ)} → n ≡ m → rest ≡ rest′ → n ∷ rest ≡ m ∷ rest′
 fore = ap₂ (λ (n : List ℕ) (rest : List (List ℕ)). n ∷ rest)
-
-spaced-append : (a b : List (List ℕ)) → spaced (a ++ b) ≡ spaced a ++ spaced b
-unfolding spaced
-spaced-append [] b = refl
-spaced-append (field ∷ a) b =
-    ap (λ (row : List ℕ). (32 ∷ field) ++ row) (spaced-append a b) ∙ sym (append-assoc (32 ∷ field) (spaced a) (spaced b))
-
--- where the end of the line is still to be put, there is room for it, and with it the line stands at the front
-module _ {row entry last : List ℕ} {end : ℕ} (l : Still row entry 0 (10 ∷ []) last end) where
-  pub end-held : end < length last
-  end-held = omega (arith, l .held)
-
-  pub line-put : {exit : List ℕ} {r : ℕ} → PutsRow (10 ∷ []) last exit end r → Fronted row entry exit r
-  line-put {exit} {r} n = front (l .rest exit r n)
 
 -- ---- a packet that was read: five numbers, and the mask among them
 
@@ -109,33 +94,6 @@ module _ (format sync mended mask long count : ℕ) where
         module _ (last : List ℕ) (end : ℕ) (w : PutsRow (spaced (decimals lengths)) masked last after end) where
           pub behind-lengths : Still whole entry 0 (10 ∷ []) last end
           behind-lengths = still-next (spaced (decimals lengths)) (10 ∷ []) behind-mask w
-
--- ---- a packet that is refused: a number
-
-module _ (number : ℕ) (entry : List ℕ) (held : room ≤ length entry) where
-  pub number-held : length refused + length (spaced (decimals (number ∷ []))) ≤ length entry
-  number-held = omega (arith, held, spaced-within (number ∷ []))
-
-  refused-pieces : line refused (decimal number ∷ []) ≡ (refused ++ spaced (decimals (number ∷ []))) ++ (10 ∷ [])
-  unfolding line decimals
-  refused-pieces = sym (append-assoc refused (spaced (decimal number ∷ [])) (10 ∷ []))
-
-  refused-all : Still (line refused (decimal number ∷ [])) entry 0 ((refused ++ spaced (decimals (number ∷ []))) ++ (10 ∷ [])) entry 0
-  refused-all =
-      subst (λ (left : List ℕ). Still (line refused (decimal number ∷ [])) entry 0 left entry 0) refused-pieces
-      (still-all (line refused (decimal number ∷ [])) entry 0
-      (omega (
-        arith,
-        held,
-        ap length refused-pieces,
-        length-append (refused ++ spaced (decimals (number ∷ []))) (10 ∷ []),
-        length-append refused (spaced (decimals (number ∷ []))),
-        spaced-within (number ∷ []),
-      )))
-
-  module _ (last : List ℕ) (end : ℕ) (p : PutsRow (refused ++ spaced (decimals (number ∷ []))) entry last 0 end) where
-    pub behind-number : Still (line refused (decimal number ∷ [])) entry 0 (10 ∷ []) last end
-    behind-number = still-next (refused ++ spaced (decimals (number ∷ []))) (10 ∷ []) refused-all p
 
 pub told-refused : (refusal : ReadRefusal) (number : ℕ) → number ≡ numberIn (readTold refusal) → line refused (decimal number ∷ []) ≡ lineOf (Refused refusal)
 told-refused refusal number e = ap (λ (n : ℕ). line refused (decimal n ∷ [])) e

@@ -1,11 +1,15 @@
-// The reader and the writer for C and Rust: the entry points that need a buffer, their answers as plain structs.
+// The reader, the writer and the judging for C and Rust: their answers as plain structs.
 use header::Header;
+use judge::Comparison;
+use judge::JudgeAnswer;
+use judge::Judgement;
 use reader::ReadAnswer;
 use rosopyat_logger::WriteReply;
 ghost use mathlib.Core.Path.{_≡_};
 ghost use Rattle.terms.specs.Terms.{naming, usual};
 ghost use Rattle.rosopyat_logger.specs.Replies.{RepliesToWrite};
-ghost use Rattle.rosopyat_c.specs.Replies.{readReply, RepliesToRead};
+ghost use Rattle.judge.specs.declared.JudgeAnswer.the-variants.{Judged};
+ghost use Rattle.rosopyat_c.specs.Replies.{readReply, judgeReply, RepliesToRead, RepliesToJudge};
 
 // A packet that was read (`refusal` 0), or why not: then every member but `refusal`, `number` and `codes` is 0.
 #[repr(C)]
@@ -57,6 +61,59 @@ fn reply(answer: ReadAnswer) -> ReadReply
     }
 }
 
+// A packet that was judged (`refusal` 0), or why not: then `as_ours`, `departs_at` and `more` are 0.
+#[repr(C)]
+pub struct JudgeReply {
+    pub refusal: u32,
+    pub number: usize,
+    pub codes: usize,
+    pub as_ours: u32,
+    pub departs_at: usize,
+    pub more: usize,
+}
+
+// A judgement as a plain struct.
+fn judgement_reply(judgement: Judgement) -> JudgeReply
+    ensures { λ r. ⌜ r ≡ judgeReply (Judged judgement) ⌝ }
+{
+    let comparison = judgement.comparison;
+    match comparison {
+        Comparison::AsOurs => JudgeReply {
+            refusal: 0,
+            number: 0,
+            codes: 0,
+            as_ours: 1,
+            departs_at: 0,
+            more: judgement.more,
+        },
+        Comparison::Departs(bit) => JudgeReply {
+            refusal: 0,
+            number: 0,
+            codes: 0,
+            as_ours: 0,
+            departs_at: bit,
+            more: judgement.more,
+        },
+    }
+}
+
+// The answer of judging as a plain struct.
+fn judge_reply(answer: JudgeAnswer) -> JudgeReply
+    ensures { λ r. ⌜ r ≡ judgeReply answer ⌝ }
+{
+    match answer {
+        JudgeAnswer::Judged(judgement) => judgement_reply(judgement),
+        JudgeAnswer::Refused(refusal) => JudgeReply {
+            refusal: refusal.number(),
+            number: refusal.value(),
+            codes: refusal.codes(),
+            as_ours: 0,
+            departs_at: 0,
+            more: 0,
+        },
+    }
+}
+
 #[no_mangle]
 pub extern "C" fn rosopyat_read_mending(
     mend: u32,
@@ -88,4 +145,11 @@ pub extern "C" fn rosopyat_write(
     ensures { λ r. ⌜ RepliesToWrite «rate_1200» format sync (now (text .entry)) (now (packet .entry)) r (now (packet .exit)) ⌝ }
 {
     rosopyat_logger::rosopyat_write(rate_1200, format, sync, text, packet)
+}
+
+#[no_mangle]
+pub extern "C" fn rosopyat_judge(mend: u32, rate_1200: bool, packet: &[u8]) -> JudgeReply
+    ensures { λ r. ⌜ RepliesToJudge (naming mend «rate_1200») (now (packet .entry)) r ⌝ }
+{
+    judge_reply(judge::judge(mend, rate_1200, packet))
 }

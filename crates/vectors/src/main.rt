@@ -2,13 +2,18 @@
 // adds two; the number that is named, the length of the lent buffer and that of the packet or text (three bytes each, high byte first); and the packet or text.
 // In a case `r` the number is that of the header bits to mend, in a case `w` that of the writer's format, and in a case `d` the reader is called without one.
 // For each packet it prints what is found out without a buffer: `readable` and the eight numbers of the answer, or `refused` with the refusal's number, the
-// one that comes with it and the codes. Then for each packet or text the answer's line; for a packet `codes` and how many were read; and the number that
-// comes with a refusal, or the bytes used, then the lent buffer's Adler-32, and its first 512 bytes.
+// one that comes with it and the codes. In a case `r` it then prints what is judged of it: `ours` and how many bytes more than ours the data has, or
+// `departs`, the bit and how many, or the refusal as before. Then for each packet or text the answer's line; for a packet `codes` and how many were read; and
+// the number that comes with a refusal, or the bytes used, then the lent buffer's Adler-32, and its first 512 bytes.
 use examine::ExamineAnswer;
 use header::Header;
+use judge::Comparison;
+use judge::JudgeAnswer;
+use judge::Judgement;
 use libc::STDIN_FILENO;
 use libc::STDOUT_FILENO;
 use reader::ReadAnswer;
+use refusals::ExamineRefusal;
 use writer::WriteAnswer;
 ghost use mathlib.Core.Path.{_≡_};
 ghost use lib.ListN.{length};
@@ -74,6 +79,11 @@ fn print_line(word: &[u8], numbers: &[usize]) {
     io::write_all(STDOUT_FILENO, b"\n");
 }
 
+fn print_refused(refusal: ExamineRefusal) {
+    let numbers = [refusal.number() as usize, refusal.value(), refusal.codes()];
+    print_line(b"refused", &numbers);
+}
+
 fn print_examined(answer: ExamineAnswer) {
     match answer {
         ExamineAnswer::Readable(reading) => {
@@ -90,10 +100,22 @@ fn print_examined(answer: ExamineAnswer) {
             ];
             print_line(b"readable", &numbers);
         }
-        ExamineAnswer::Refused(refusal) => {
-            let numbers = [refusal.number() as usize, refusal.value(), refusal.codes()];
-            print_line(b"refused", &numbers);
-        }
+        ExamineAnswer::Refused(refusal) => print_refused(refusal),
+    }
+}
+
+fn print_judgement(judgement: Judgement) {
+    let comparison = judgement.comparison;
+    match comparison {
+        Comparison::AsOurs => print_line(b"ours", &[judgement.more]),
+        Comparison::Departs(bit) => print_line(b"departs", &[bit, judgement.more]),
+    }
+}
+
+fn print_judged(answer: JudgeAnswer) {
+    match answer {
+        JudgeAnswer::Judged(judgement) => print_judgement(judgement),
+        JudgeAnswer::Refused(refusal) => print_refused(refusal),
     }
 }
 
@@ -123,6 +145,7 @@ fn print_read(answer: ReadAnswer, text: &[u8]) {
 
 fn run_reader(mend: u32, rate_1200: bool, packet: &[u8], text: &mut [u8]) {
     print_examined(examine::examine_mending(mend, rate_1200, packet));
+    print_judged(judge::judge(mend, rate_1200, packet));
     let answer = reader::read_mending(mend, rate_1200, packet, text);
     print_read(answer, text);
 }

@@ -2,7 +2,7 @@
 -- Assumes nothing.
 use mathlib.Core.Path.{sym, subst}
 use lib.Seq.{length-take-le}
-use Rattle.read_packet.specs.Steps.Input.{Within}
+use Rattle.standard_input.specs.Steps.Input.{Within}
 use borrow.Author.Needs.{needs}
 use Rattle.read_packet.proofs.main.Statement.{statement}
 use Rattle.read_packet.proofs.main.Tie as tie

@@ -1,7 +1,8 @@
 -- `reader::read_text` meets its contract.
 -- Assumes nothing.
 use native.Mathlib.Omega.{arith}
-use Rattle.reader.proofs.ReadAnswers.{no-room, short, all-there, room, put-in}
+use Rattle.examine.proofs.AcceptedData.{short, all-there}
+use Rattle.reader.proofs.ReadAnswers.{no-room, room, put-in}
 use borrow.Author.Needs.{needs}
 use Rattle.reader.proofs.read_text.Statement.{statement}
 use Rattle.reader.proofs.read_text.Tie as tie
@@ -27,8 +28,8 @@ put-text-requires c κs =
     let t = s .args .terms in
     let p = s .args .packet .now in
     let r = s .args .reading in (
-      short t p (s .pre .0) r (s .pre .1 .0) (s .pre .1 .1),
-      all-there t p (s .pre .0) r (s .pre .1 .0) (s .pre .1 .1),
+      short t p (s .pre .0 .bytes) r (s .pre .1 .0) (s .pre .1 .1),
+      all-there t p (s .pre .0 .bytes) r (s .pre .1 .0) (s .pre .1 .1),
       room t p (s .pre .0) r (s .pre .1 .0) (s .pre .1 .1) (s .args .text .now) (omega (arith, c .before .before .if1 .left)),
     )
 

@@ -4,7 +4,8 @@ use mathlib.Core.Path.{sym, ap, _∙_}
 use native.Mathlib.Omega.{arith}
 use borrow.Author.Needs.{needs}
 use Rattle.report.specs.Line.{lineOf}
-use Rattle.report.proofs.Told.{front-same, told-refused}
+use Rattle.lines.proofs.Told.{front-same}
+use Rattle.report.proofs.Told.{told-refused}
 use Rattle.report.proofs.line.Statement.{statement}
 use Rattle.report.proofs.line.Tie as tie
 

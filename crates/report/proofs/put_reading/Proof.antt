@@ -2,7 +2,8 @@
 -- Assumes nothing.
 use native.Mathlib.Omega.{arith}
 use borrow.Author.Needs.{needs}
-use Rattle.report.proofs.Told.{front-same, end-held, line-put, told-accepted, counts-held, mask-held, lengths-held, behind-lengths}
+use Rattle.lines.proofs.Told.{front-same, end-held, line-put}
+use Rattle.report.proofs.Told.{told-accepted, counts-held, mask-held, lengths-held, behind-lengths}
 use Rattle.report.proofs.put_reading.Statement.{statement}
 use Rattle.report.proofs.put_reading.Tie as tie
 

@@ -1,0 +1,3 @@
+pub mod NoFront
+pub mod Once
+pub mod Parted

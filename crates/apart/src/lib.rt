@@ -1,0 +1,40 @@
+// Where two rows of bytes part: the first bit at which they differ.
+ghost use mathlib.Core.Path.{_≡_};
+ghost use Prim.Native.Nat.{_<_};
+ghost use lib.ListN.{length};
+ghost use Rattle.apart.specs.Steps.Parting.{countable, HighestApart, PartsAt};
+
+pub enum Parting {
+    At(usize),
+    Nowhere,
+}
+
+// The weight of the highest bit in which two bytes differ, as the power of two that it is.
+fn highest_apart(a: u8, b: u8) -> u32
+    requires { ⌜ (a ≡ b → ⊥) ⌝ }
+    ensures { λ r. ⌜ HighestApart a b r ⌝ }
+{
+    let mut power: u32 = 7;
+    while a >> power == b >> power {
+        power -= 1;
+    }
+    power
+}
+
+// The first bit at which two rows of bytes differ, the top bit of each byte first; or that there is none, since one is the front of the other.
+pub fn first_apart(a: &[u8], b: &[u8]) -> Parting
+    requires { ⌜ length (now a) < countable ⌝ }
+    ensures { λ r. ⌜ PartsAt (now (a .entry)) (now (b .entry)) r ⌝ }
+{
+    let mut i: usize = 0;
+    while i < a.len() {
+        if b.len() <= i {
+            return Parting::Nowhere; // the other ends
+        }
+        if a[i] != b[i] {
+            return Parting::At(8 * i + 7 - highest_apart(a[i], b[i]) as usize);
+        }
+        i += 1;
+    }
+    Parting::Nowhere
+}
