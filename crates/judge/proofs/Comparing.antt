@@ -1,25 +1,23 @@
--- Data held against ours: in two rows, and by way of buffers for the text and for our data.
+-- Data held against ours: in two rows, and by way of a buffer for our data.
 -- Assumes nothing.
 use mathlib.Core.List.{List, _++_}
 use mathlib.Core.Logic.{_⊎_, inl, inr}
 use mathlib.Core.Path.{_≡_, sym, ap, subst, subst⁻¹, _∙_}
-use Prim.Native.Nat.{ℕ, _+_, _-_, _*_, _/_, _≤_, _<_}
+use Prim.Native.Nat.{ℕ, _-_, _≤_, _<_}
 use native.Mathlib.Omega.{arith}
 use lib.ListN.{length, take, drop, length-append, take-append-drop}
 use lib.Seq.{take-all, take-at}
 use Rattle.header.specs.declared.Format.{Format}
 use Rattle.codes.specs.Steps.Laid.{Fronted}
 use Rattle.codes.specs.Steps.Measure.{countable}
-use Rattle.formats.specs.Data.{Carries, AllCoded, dataOf}
-use Rattle.formats.specs.Steps.Text.{HasRoom, PutsText}
+use Rattle.formats.specs.Data.{Carries, dataOf}
 use Rattle.formats.proofs.Bits.{no-fewer}
-use Rattle.formats.proofs.Formats.{carries-one, carries-coded, carries-kept, carries-again}
+use Rattle.formats.proofs.Formats.{carries-coded, carries-kept, carries-again}
 use Rattle.sections.specs.Sections.{joined}
 use Rattle.sections.proofs.Found.{joined-length}
 use Rattle.judge.specs.declared.Judgement.{Judgement}
 use Rattle.judge.specs.Judge.{Against}
-use Rattle.judge.specs.Steps.Comparing.{Comparable, MayBeJudged, Fits, JudgesData}
-use Rattle.judge.proofs.Longest.{text-few}
+use Rattle.judge.specs.Steps.Comparing.{Comparable, MayBeJudged, Fits}
 use Rattle.judge.proofs.Makers.{none-behind}
 
 -- rows that part nowhere are the same
@@ -54,27 +52,17 @@ module _ (format : Format) (theirs text : List ℕ) (carries : Carries format te
         none-behind format text (dataOf format text) rest (carries-again format text theirs carries) (subst (Carries format text) is carries);
   }
 
--- the text as it stands in the buffer
-module _ {format : Format} {theirs entry exit : List ℕ} {r : ℕ} (p : PutsText format theirs entry exit r) where
-  pub put-carries : Carries format (take (r - 0) exit) theirs
-  put-carries = subst⁻¹ (λ (t : List ℕ). Carries format t theirs) (front-part (p .front)) (p .carries)
-
-  pub put-coded : AllCoded format (take (r - 0) exit)
-  put-coded = carries-coded format (take (r - 0) exit) theirs put-carries
-
 -- ---- the data of sections, in one piece
 
-module _ {most : ℕ} {format : Format} {n : ℕ} {came : List ℕ} (f : Fits most format n came) (piece : List ℕ) (is : piece ≡ joined n came) where
-  -- room for the longest text that so much data carries, and for as much data
-  pub may-be-judged : (text ours : ℕ) → most ≤ 16000 → 16 * (8 * most / 6) ≤ text → most ≤ ours → MayBeJudged format piece text ours
-  may-be-judged text ours few characters bytes =
+module _ {most : ℕ} {format : Format} {n : ℕ} {came text : List ℕ} (f : Fits most format n came text) (piece : List ℕ) (is : piece ≡ joined n came) where
+  pub may-be-judged : (ours : ℕ) → most ≤ 16000 → most ≤ ours → MayBeJudged format piece text ours
+  may-be-judged ours few bytes =
       let long : length piece ≡ n = ap length is ∙ joined-length n came (f .whole) in
-      let carries : Carries format (f .text) piece = subst⁻¹ (Carries format (f .text)) is (f .carries) in
       record {
         few = omega (arith, long, f .few);
-        room = record { text = f .text; carries = carries; fits = omega (arith, long, f .few, text-few format (f .text) piece carries) };
-        data-room = omega (arith, long, f .few);
+        carries = subst⁻¹ (Carries format text) is (f .carries);
+        room = omega (arith, long, f .few);
       }
 
-  pub judged-joined : (j : Judgement) → JudgesData format piece j → JudgesData format (joined n came) j
-  judged-joined j = subst (λ (l : List ℕ). JudgesData format l j) is
+  pub judged-joined : (j : Judgement) → Against piece (dataOf format text) j → Against (joined n came) (dataOf format text) j
+  judged-joined j = subst (λ (l : List ℕ). Against l (dataOf format text) j) is

@@ -1,20 +1,18 @@
 // Judging other makers' transmitters: the entry point `judge`. No buffer is asked for: text and data stand on the stack (docs/DECISIONS.md has why).
 use apart::Parting;
-use examine::ExamineAnswer;
-use examine::Reading;
 use header::Format;
+use reader::ReadAnswer;
 use refusals::ExamineRefusal;
+use refusals::ReadRefusal;
 use sections::Section;
-use terms::Terms;
-ghost use mathlib.Core.Path.{_≡_};
+ghost use mathlib.Core.Bool.{true, false};
 ghost use Prim.Native.Nat.{_≤_};
 ghost use lib.ListN.{length};
-ghost use Rattle.sections.specs.Sections.{sentLength, joined};
-ghost use Rattle.terms.specs.Terms.{OnePacket, naming};
-ghost use Rattle.examine.specs.declared.ExamineAnswer.the-variants.{Readable};
-ghost use Rattle.examine.specs.Examine.{Examines};
+ghost use Rattle.formats.specs.Data.{dataOf};
+ghost use Rattle.sections.specs.Sections.{joined};
+ghost use Rattle.terms.specs.Terms.{mostAt, naming};
 ghost use Rattle.judge.specs.Judge.{Against, Judges};
-ghost use Rattle.judge.specs.Steps.Comparing.{Comparable, MayBeJudged, Fits, JudgesData};
+ghost use Rattle.judge.specs.Steps.Comparing.{longestOf, Comparable, MayBeJudged, Fits, RefusesAs};
 
 // The longest texts that 4,000 and 16,000 data bytes carry: sixteen characters for each six bits.
 const TEXT: usize = 85328;
@@ -57,61 +55,85 @@ fn compare(theirs: &[u8], ours: &[u8]) -> Judgement
     }
 }
 
-// Data against what our writer sends for its text, by way of a buffer for the text and one for ours.
-fn judge_data(format: Format, theirs: &[u8], text: &mut [u8], ours: &mut [u8]) -> Judgement
-    requires { ⌜ MayBeJudged format (now theirs) (length (now text)) (length (now ours)) ⌝ }
-    ensures { λ r. ⌜ JudgesData format (now (theirs .entry)) r ⌝ }
+// Data against what our writer sends for the text that it carries, by way of a buffer for ours.
+fn judge_data(format: Format, theirs: &[u8], text: &[u8], ours: &mut [u8]) -> Judgement
+    requires { ⌜ MayBeJudged format (now theirs) (now text) (length (now ours)) ⌝ }
+    ensures { λ r. ⌜ Against (now (theirs .entry)) (dataOf format (now (text .entry))) r ⌝ }
 {
-    let characters = formats::put_text(format, theirs, text);
-    let bytes = formats::put_data(format, &text[0..characters], ours);
+    let bytes = formats::put_data(format, text, ours);
     compare(theirs, &ours[0..bytes])
 }
 
 // One section, where it lies.
-fn judge_one(format: Format, n: usize, came: &[u8]) -> Judgement
-    requires { ⌜ Fits 4000 format n (now came) ⌝ }
-    ensures { λ r. ⌜ JudgesData format (joined n (now (came .entry))) r ⌝ }
+fn judge_one(format: Format, n: usize, came: &[u8], text: &[u8]) -> Judgement
+    requires { ⌜ Fits 4000 format n (now came) (now text) ⌝ }
+    ensures { λ r. ⌜ Against (joined n (now (came .entry))) (dataOf format (now (text .entry))) r ⌝ }
 {
-    let mut text = [0u8; TEXT];
     let mut ours = [0u8; Section::MOST];
-    judge_data(format, &came[0..n], &mut text, &mut ours)
+    judge_data(format, &came[0..n], text, &mut ours)
 }
 
 // Several, joined.
-fn judge_several(format: Format, n: usize, came: &[u8]) -> Judgement
-    requires { ⌜ Fits 16000 format n (now came) ⌝ }
-    ensures { λ r. ⌜ JudgesData format (joined n (now (came .entry))) r ⌝ }
+fn judge_several(format: Format, n: usize, came: &[u8], text: &[u8]) -> Judgement
+    requires { ⌜ Fits 16000 format n (now came) (now text) ⌝ }
+    ensures { λ r. ⌜ Against (joined n (now (came .entry))) (dataOf format (now (text .entry))) r ⌝ }
 {
-    let mut text = [0u8; TEXT_1200];
     let mut theirs = [0u8; Section::ALL];
     let mut ours = [0u8; Section::ALL];
     sections::join(n, came, &mut theirs);
-    judge_data(format, &theirs[0..n], &mut text, &mut ours)
+    judge_data(format, &theirs[0..n], text, &mut ours)
 }
 
-// The data of a packet that can be read. The terms are those that it was found under; the contract names them.
-fn judge_readable(terms: Terms, reading: Reading, packet: &[u8]) -> JudgeAnswer
-    requires { ⌜ OnePacket (terms .most) × Examines terms (now packet) (Readable reading) ⌝ }
-    ensures { λ r. ⌜ Judges terms (now (packet .entry)) r ⌝ }
+// The n data bytes that came in sections, and the text that they carry.
+fn judge_sections(format: Format, n: usize, came: &[u8], text: &[u8]) -> Judgement
+    requires { ⌜ Fits 16000 format n (now came) (now text) ⌝ }
+    ensures { λ r. ⌜ Against (joined n (now (came .entry))) (dataOf format (now (text .entry))) r ⌝ }
 {
-    let format = reading.format;
-    let n = reading.data_length;
     if Section::MOST < n {
-        return JudgeAnswer::Judged(judge_several(format, n, &packet[4..]));
+        return judge_several(format, n, came, text);
     }
-    JudgeAnswer::Judged(judge_one(format, n, &packet[4..]))
+    judge_one(format, n, came, text)
 }
 
-// The packet at the front of a slice, under terms.
-fn judge_under(terms: Terms, packet: &[u8]) -> JudgeAnswer
-    requires { ⌜ OnePacket (terms .most) ⌝ }
-    ensures { λ r. ⌜ Judges terms (now (packet .entry)) r ⌝ }
+// The reader's refusal, which is one of the packet.
+fn refuse(refusal: ReadRefusal) -> JudgeAnswer
+    ensures { λ r. ⌜ RefusesAs refusal r ⌝ }
 {
-    let examined = examine::examine_under(terms, packet);
-    match examined {
-        ExamineAnswer::Readable(reading) => judge_readable(terms, reading, packet),
-        ExamineAnswer::Refused(refusal) => JudgeAnswer::Refused(refusal),
+    match refusal {
+        ReadRefusal::Packet(packet) => JudgeAnswer::Refused(packet),
+        ReadRefusal::NoRoom(_) => JudgeAnswer::Refused(ExamineRefusal::OtherLength), // never: there is room for every text
     }
+}
+
+// The packet at the front of a slice, read into a buffer that holds the longest text at the rate.
+fn judge_into(mend: u32, rate_1200: bool, packet: &[u8], text: &mut [u8]) -> JudgeAnswer
+    requires { ⌜ longestOf (mostAt «rate_1200») ≤ length (now text) ⌝ }
+    ensures { λ r. ⌜ Judges (naming mend «rate_1200») (now (packet .entry)) r ⌝ }
+{
+    let read = reader::read_mending(mend, rate_1200, packet, text);
+    match read {
+        ReadAnswer::Accepted(reading) => {
+            let format = reading.format;
+            let n = reading.data_length;
+            let characters = reading.text_length;
+            JudgeAnswer::Judged(judge_sections(format, n, &packet[4..], &text[0..characters]))
+        }
+        ReadAnswer::Refused(refusal) => refuse(refusal),
+    }
+}
+
+fn judge_300(mend: u32, packet: &[u8]) -> JudgeAnswer
+    ensures { λ r. ⌜ Judges (naming mend false) (now (packet .entry)) r ⌝ }
+{
+    let mut text = [0u8; TEXT];
+    judge_into(mend, false, packet, &mut text)
+}
+
+fn judge_1200(mend: u32, packet: &[u8]) -> JudgeAnswer
+    ensures { λ r. ⌜ Judges (naming mend true) (now (packet .entry)) r ⌝ }
+{
+    let mut text = [0u8; TEXT_1200];
+    judge_into(mend, true, packet, &mut text)
 }
 
 // Judges the packet at the front of a slice, at most so many header bits mended, at 1200 bps or else at 300: whether its data is just what our writer would
@@ -119,5 +141,8 @@ fn judge_under(terms: Terms, packet: &[u8]) -> JudgeAnswer
 pub fn judge(mend: u32, rate_1200: bool, packet: &[u8]) -> JudgeAnswer
     ensures { λ r. ⌜ Judges (naming mend «rate_1200») (now (packet .entry)) r ⌝ }
 {
-    judge_under(Terms::naming(mend, rate_1200), packet)
+    if rate_1200 {
+        return judge_1200(mend, packet);
+    }
+    judge_300(mend, packet)
 }

@@ -2,26 +2,32 @@
 -- Assumes nothing.
 use native.Mathlib.Omega.{arith}
 use borrow.Author.Needs.{needs}
-use mathlib.Core.Path.{refl}
+use mathlib.Core.Bool.{true, false}
+use mathlib.Core.Path.{refl, sym}
 use Rattle.terms.specs.declared.Terms.{Terms}
-use Rattle.terms.proofs.Usual.{bytes-so, naming-so}
+use Rattle.terms.specs.Terms.{naming}
+use Rattle.terms.proofs.Usual.{naming-so}
 use Rattle.judge.specs.Judge.{Judges}
 use Rattle.judge.proofs.judge.Statement.{statement}
 use Rattle.judge.proofs.judge.Tie as tie
 
-naming-requires : tie.Need-naming-requires
-naming-requires c κs = search needs
-
-judge-under-requires : tie.Need-judge-under-requires
-judge-under-requires c κs = bytes-so (c .naming .result) _ (c .before .before .args .rate-1200) (c .naming .ensures)
+judge-1200-requires : tie.Need-judge-1200-requires
+judge-1200-requires c κs = search needs
 
 returns : tie.Need-returns
 returns c =
-    let terms = c .before .naming in
     let s = c .before .before .before in
-    let rate = s .args .rate-1200 in
-    naming-so (λ (t : Terms). Judges t (s .args .packet .now) (c .judge-under .result)) (terms .result) _ _ rate rate (terms .ensures) (omega arith) refl
-    (c .judge-under .ensures)
+    naming-so (λ (t : Terms). Judges t (s .args .packet .now) (c .judge-1200 .result)) (naming _ true) _ (s .args .mend) true (s .args .rate-1200) refl (omega arith) (sym (c .before .if1 .taken))
+    (c .judge-1200 .ensures)
+
+judge-300-requires : tie.Need-judge-300-requires
+judge-300-requires c κs = search needs
+
+returns-2 : tie.Need-returns-2
+returns-2 c =
+    let s = c .before .before .before in
+    naming-so (λ (t : Terms). Judges t (s .args .packet .now) (c .judge-300 .result)) (naming _ false) _ (s .args .mend) false (s .args .rate-1200) refl (omega arith) (sym (c .before .if1 .left))
+    (c .judge-300 .ensures)
 
 pub judge-spec : {M : Type 1} → statement M
-judge-spec = tie.close (tie.spec naming-requires judge-under-requires returns)
+judge-spec = tie.close (tie.spec judge-1200-requires returns judge-300-requires returns-2)

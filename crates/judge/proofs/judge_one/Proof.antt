@@ -19,17 +19,14 @@ part-judge-data-end c = search needs
 slice-aggregate-judge-data : tie.Need-slice-aggregate-judge-data
 slice-aggregate-judge-data c = search needs
 
-slice-aggregate-judge-data-2 : tie.Need-slice-aggregate-judge-data-2
-slice-aggregate-judge-data-2 c = search needs
-
 judge-data-requires : tie.Need-judge-data-requires
 judge-data-requires c κs =
     let s = c .before .before .before .before in
-    may-be-judged (s .pre) _ (part-is (s .args .n) (s .args .came .now) (s .pre .few)) _ _ (omega arith) (omega arith) (omega arith)
+    may-be-judged (s .pre) _ (part-is (s .args .n) (s .args .came .now) (s .pre .few)) _ (omega arith) (omega arith)
 
 returns : tie.Need-returns
 returns c =
-    let d = c .before .before in
+    let d = c .before in
     let s = d .before .before .before .before .before in
     judged-joined (s .pre) _ (part-is (s .args .n) (s .args .came .now) (s .pre .few)) (d .judge-data .result) (d .judge-data .ensures)
 
@@ -41,6 +38,5 @@ judge-one-spec =
     part-judge-data-start
     part-judge-data-end
     slice-aggregate-judge-data
-    slice-aggregate-judge-data-2
     judge-data-requires
     returns)

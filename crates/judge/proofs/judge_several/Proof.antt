@@ -25,20 +25,17 @@ part-judge-data-end c = search needs
 slice-aggregate-judge-data : tie.Need-slice-aggregate-judge-data
 slice-aggregate-judge-data c = search needs
 
-slice-aggregate-judge-data-2 : tie.Need-slice-aggregate-judge-data-2
-slice-aggregate-judge-data-2 c = search needs
-
 judge-data-requires : tie.Need-judge-data-requires
 judge-data-requires c κs =
-    let j = c .before .before .before .before .before in
-    let s = j .before .before .before in
-    may-be-judged (s .pre) _ (front-is (s .args .n) (s .args .came .now) (s .pre .whole) _ _ (j .join .ensures)) _ _ (omega arith) (omega arith) (omega arith)
+    let j = c .before .before .before .before in
+    let s = j .before .before .before .before in
+    may-be-judged (s .pre) _ (front-is (s .args .n) (s .args .came .now) (s .pre .whole) _ _ (j .join .ensures)) _ (omega arith) (omega arith)
 
 returns : tie.Need-returns
 returns c =
-    let d = c .before .before in
-    let j = d .before .before .before .before .before .before in
-    let s = j .before .before .before in
+    let d = c .before in
+    let j = d .before .before .before .before .before in
+    let s = j .before .before .before .before in
     judged-joined (s .pre) _ (front-is (s .args .n) (s .args .came .now) (s .pre .whole) _ _ (j .join .ensures)) (d .judge-data .result) (d .judge-data .ensures)
 
 pub judge-several-spec : {M : Type 1} → statement M
@@ -51,6 +48,5 @@ judge-several-spec =
     part-judge-data-start
     part-judge-data-end
     slice-aggregate-judge-data
-    slice-aggregate-judge-data-2
     judge-data-requires
     returns)

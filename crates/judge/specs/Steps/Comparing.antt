@@ -2,15 +2,20 @@
 -- Assumes nothing.
 use mathlib.Core.List.{List, _++_}
 use mathlib.Core.Path.{_≡_}
-use Prim.Native.Nat.{ℕ, _≤_, _<_}
+use Prim.Native.Nat.{ℕ, _*_, _/_, _≤_, _<_}
 use lib.ListN.{length}
 use Rattle.header.specs.declared.Format.{Format}
 use Rattle.codes.specs.Steps.Measure.{countable}
-use Rattle.formats.specs.Data.{Carries, dataOf}
-use Rattle.formats.specs.Steps.Text.{HasRoom}
+use Rattle.formats.specs.Data.{Carries}
 use Rattle.sections.specs.Sections.{sentLength, joined}
-use Rattle.judge.specs.declared.Judgement.{Judgement}
-use Rattle.judge.specs.Judge.{Against}
+use Rattle.refusals.specs.declared.ReadRefusal.{ReadRefusal}
+use Rattle.refusals.specs.declared.ReadRefusal.the-variants.{Packet, NoRoom}
+use Rattle.judge.specs.declared.JudgeAnswer.{JudgeAnswer}
+use Rattle.judge.specs.declared.JudgeAnswer.the-variants.{Refused}
+
+-- the longest text of n data bytes, in any format: sixteen characters for each six bits
+abbrev pub longestOf : ℕ → ℕ
+longestOf n = 16 * (8 * n / 6)
 
 -- rows of which the one is no shorter than the other, and not longer by something behind it
 pub record Comparable (theirs ours : List ℕ) : Type 0 where
@@ -18,21 +23,19 @@ pub record Comparable (theirs ours : List ℕ) : Type 0 where
   pub no-shorter : length ours ≤ length theirs
   pub no-front : (rest : List ℕ) → theirs ≡ ours ++ rest → length rest ≡ 0
 
--- data that carries a text, with room for it and for as much data
-pub record MayBeJudged (format : Format) (theirs : List ℕ) (text ours : ℕ) : Type 0 where
+-- data that carries a text, with room for as much data
+pub record MayBeJudged (format : Format) (theirs text : List ℕ) (ours : ℕ) : Type 0 where
   pub few : length theirs < countable
-  pub room : HasRoom format theirs text
-  pub data-room : length theirs ≤ ours
+  pub carries : Carries format text theirs
+  pub room : length theirs ≤ ours
 
--- so many data bytes at most, which came in sections and carry a text
-pub record Fits (most : ℕ) (format : Format) (n : ℕ) (came : List ℕ) : Type 0 where
+-- so many data bytes at most, which came in sections and carry the text
+pub record Fits (most : ℕ) (format : Format) (n : ℕ) (came text : List ℕ) : Type 0 where
   pub few : n ≤ most
   pub whole : sentLength n ≤ length came
-  pub text : List ℕ
   pub carries : Carries format text (joined n came)
 
--- the data against what our writer sends for its text
-pub record JudgesData (format : Format) (theirs : List ℕ) (judgement : Judgement) : Type 0 where
-  pub text : List ℕ
-  pub carries : Carries format text theirs
-  pub against : Against theirs (dataOf format text) judgement
+-- the reader's refusal of a packet is the answer; that there is no room for a text is none that the caller can meet
+abbrev pub RefusesAs : ReadRefusal → JudgeAnswer → Type 0
+RefusesAs (Packet refusal) answer = answer ≡ Refused refusal
+RefusesAs (NoRoom needed) answer = Unit {0}
