@@ -1,7 +1,8 @@
-/* Times the library, plain C (the independent implementation: bit by bit, double loop, bitwise checksum), tuned C and small C in one run, one after the
- * other within each round, and prints the library's time over each of the others': bench [ROUNDS]. */
+/* Times the library, plain C (the independent implementation: bit by bit, double loop, bitwise checksum), tuned C and small C, which does not judge, in one
+ * run, one after the other within each round, and prints the library's time over each of the others': bench [ROUNDS]. */
 #define _POSIX_C_SOURCE 200809L
 #include "independent.h"
+#include "maker.h"
 #include "rosopyat.h"
 #include "small.h"
 #include "tuned.h"
@@ -11,15 +12,17 @@
 #include <string.h>
 #include <time.h>
 
-enum { MOST_ROUNDS = 101, IMPLEMENTATIONS = 4, LONG_TEXT = 48000 };
+enum { MOST_ROUNDS = 101, IMPLEMENTATIONS = 4, JUDGES = 3, LONG_TEXT = 48000 };
 
 typedef rosopyat_read_answer reader(bool, const uint8_t *, size_t, uint8_t *, size_t);
 typedef rosopyat_read_answer mending_reader(uint32_t, bool, const uint8_t *, size_t, uint8_t *, size_t);
 typedef rosopyat_write_answer writer(bool, uint32_t, bool, const uint8_t *, size_t, uint8_t *, size_t);
+typedef rosopyat_judge_answer judge(uint32_t, bool, const uint8_t *, size_t);
 
 static reader *const readers[IMPLEMENTATIONS] = {rosopyat_read, independent_read, tuned_read, small_read};
 static mending_reader *const mending_readers[IMPLEMENTATIONS] = {rosopyat_read_mending, independent_read_mending, tuned_read_mending, small_read_mending};
 static writer *const writers[IMPLEMENTATIONS] = {rosopyat_write, independent_write, tuned_write, small_write};
+static judge *const judges[JUDGES] = {rosopyat_judge, independent_judge, tuned_judge};
 
 static uint8_t source[LONG_TEXT + 400], packet[ROSOPYAT_MOST_PACKET_1200], output[ROSOPYAT_MOST_TEXT], first_output[ROSOPYAT_MOST_TEXT];
 
@@ -112,16 +115,78 @@ static size_t part_for(unsigned format, size_t size)
     return fits;
 }
 
+/* Packets of another maker, of the source's characters: at most `most` of one kind are counted by an indicator of Pseudo Binary, and a line end of Full ASCII
+ * is two codes. */
+
+struct piece {
+    size_t characters;
+    uint32_t code; /* with the values under it */
+    unsigned width;
+};
+
+static bool is_value(unsigned character)
+{
+    return character != ' ' && character != '/';
+}
+
+static struct piece piece_of_values(const uint8_t *text, size_t most)
+{
+    struct piece piece = {0, 0, 8};
+    for (; piece.characters < most && is_value(text[piece.characters]); piece.characters++, piece.width += 6)
+        piece.code = piece.code << 6 | (text[piece.characters] == '?' ? 63 : text[piece.characters] - 64);
+    piece.code |= (0x80 | (piece.characters - 1)) << (piece.width - 8);
+    return piece;
+}
+
+static struct piece piece_of_pseudo_binary(const uint8_t *text, size_t most)
+{
+    size_t run = 1;
+    if (is_value(text[0]))
+        return piece_of_values(text, most);
+    while (run < most && text[run] == text[0])
+        run++;
+    return (struct piece){run, (text[0] == '/' ? 0x10 : 0) | (run - 1), 6};
+}
+
+static struct piece piece_of_full_ascii(const uint8_t *text, size_t most)
+{
+    (void)most;
+    if (text[0] < 32)
+        return (struct piece){1, text[0] == '\r' ? 0x1fd : 0x1fe, 9};
+    return text[0] < 64 ? (struct piece){1, text[0] - 32, 6} : (struct piece){1, text[0], 7};
+}
+
+typedef struct piece next_piece(const uint8_t *, size_t);
+
+/* The data length of a packet of as many pieces as `size` bytes have room for. */
+static size_t put_pieces(next_piece *next, size_t most, unsigned flag, size_t size)
+{
+    struct maker_bits row = {packet + 4, 0, 0};
+    const uint8_t *text = source;
+    for (struct piece piece = next(text, most); row.bits + piece.width <= 8 * size; piece = next(text, most)) {
+        maker_put(&row, piece.code, piece.width);
+        text += piece.characters;
+    }
+    size_t data_length = maker_fill(&row);
+    maker_close(packet, flag, data_length);
+    return data_length;
+}
+
 /* One row of the table. */
 
 struct job {
-    enum { READ, READ_MENDING, WRITE } call;
+    enum { READ, READ_MENDING, WRITE, JUDGE } call;
     uint32_t mend; /* the header bits that are named */
     bool rate_1200;
     unsigned format;
     size_t text_length, packet_length;
-    uint32_t refusal; /* that all must answer */
+    uint32_t refusal, as_ours; /* that all must answer */
 };
+
+static int sides(const struct job *job)
+{
+    return job->call == JUDGE ? JUDGES : IMPLEMENTATIONS;
+}
 
 static uint32_t once(const struct job *job, int who)
 {
@@ -129,10 +194,12 @@ static uint32_t once(const struct job *job, int who)
         return readers[who](job->rate_1200, packet, job->packet_length, output, sizeof output).refusal;
     if (job->call == READ_MENDING)
         return mending_readers[who](job->mend, job->rate_1200, packet, job->packet_length, output, sizeof output).refusal;
+    if (job->call == JUDGE)
+        return judges[who](job->mend, job->rate_1200, packet, job->packet_length).refusal;
     return writers[who](job->rate_1200, job->format, true, source, job->text_length, output, sizeof output).refusal;
 }
 
-/* What a reading answers, which all must answer alike; nothing of a writing. */
+/* What a reading answers, which all must answer alike; nothing of the other calls. */
 static rosopyat_read_answer reading_of(const struct job *job, int who)
 {
     if (job->call == READ)
@@ -146,6 +213,17 @@ static bool same_reading(rosopyat_read_answer a, rosopyat_read_answer b)
 {
     return a.refusal == b.refusal && a.number == b.number && a.format == b.format && a.sync == b.sync && a.mended == b.mended && a.mask == b.mask &&
            a.codes == b.codes && a.data_length == b.data_length && a.text_length == b.text_length && a.used == b.used;
+}
+
+/* The same of a judging. */
+static rosopyat_judge_answer judging_of(const struct job *job, int who)
+{
+    return job->call == JUDGE ? judges[who](job->mend, job->rate_1200, packet, job->packet_length) : (rosopyat_judge_answer){0};
+}
+
+static bool same_judging(rosopyat_judge_answer a, rosopyat_judge_answer b)
+{
+    return a.refusal == b.refusal && a.number == b.number && a.codes == b.codes && a.as_ours == b.as_ours && a.departs_at == b.departs_at && a.more == b.more;
 }
 
 static double seconds(void)
@@ -177,41 +255,56 @@ static double median(double *values, int count)
 
 static void same_outputs(const struct job *job)
 {
-    for (int who = 0; who < IMPLEMENTATIONS; who++) {
+    for (int who = 0; who < sides(job); who++) {
         memset(output, 0, sizeof output);
         uint32_t refusal = once(job, who);
         if (who == 0)
             memcpy(first_output, output, sizeof output);
         bool same = refusal == job->refusal && memcmp(first_output, output, sizeof output) == 0;
-        if (!same || !same_reading(reading_of(job, who), reading_of(job, 0))) {
+        same = same && same_reading(reading_of(job, who), reading_of(job, 0)) && same_judging(judging_of(job, who), judging_of(job, 0));
+        if (!same || judging_of(job, who).as_ours != job->as_ours) {
             fprintf(stderr, "the implementations differ\n");
             exit(1);
         }
     }
 }
 
-static void measure(const char *what, const char *format_name, size_t size, const struct job *job, int rounds)
+/* How often a side is called in a round. */
+static long repeats_of(const struct job *job, int who)
 {
     const double sample = 0.01;
-    double times[IMPLEMENTATIONS][MOST_ROUNDS], to_plain[MOST_ROUNDS], to_tuned[MOST_ROUNDS], to_small[MOST_ROUNDS];
+    long repeats = 1;
+    while (time_of(job, who, repeats) * repeats < sample)
+        repeats *= 2;
+    return repeats;
+}
+
+static void print_median(bool there, double *values, int rounds)
+{
+    if (there)
+        printf(" %.2f |", median(values, rounds));
+    else
+        printf(" – |");
+}
+
+static void measure(const char *what, const char *format_name, size_t size, const struct job *job, int rounds)
+{
+    double times[IMPLEMENTATIONS][MOST_ROUNDS], ratios[IMPLEMENTATIONS][MOST_ROUNDS]; /* in µs; the library's time over each */
     long repeats[IMPLEMENTATIONS];
     same_outputs(job);
-    for (int who = 0; who < IMPLEMENTATIONS; who++) {
-        repeats[who] = 1;
-        while (time_of(job, who, repeats[who]) * repeats[who] < sample)
-            repeats[who] *= 2;
-    }
-    for (int round = 0; round < rounds; round++) {
-        for (int who = 0; who < IMPLEMENTATIONS; who++)
-            times[who][round] = time_of(job, who, repeats[who]);
-        to_plain[round] = times[0][round] / times[1][round];
-        to_tuned[round] = times[0][round] / times[2][round];
-        to_small[round] = times[0][round] / times[3][round];
-    }
+    for (int who = 0; who < sides(job); who++)
+        repeats[who] = repeats_of(job, who);
+    for (int round = 0; round < rounds; round++)
+        for (int who = 0; who < sides(job); who++) {
+            times[who][round] = time_of(job, who, repeats[who]) * 1e6;
+            ratios[who][round] = times[0][round] / times[who][round];
+        }
     printf("| %s | %s | %zu |", what, format_name, size);
     for (int who = 0; who < IMPLEMENTATIONS; who++)
-        printf(" %.2f |", median(times[who], rounds) * 1e6);
-    printf(" %.2f | %.2f | %.2f |\n", median(to_plain, rounds), median(to_tuned, rounds), median(to_small, rounds));
+        print_median(who < sides(job), times[who], rounds);
+    for (int who = 1; who < IMPLEMENTATIONS; who++)
+        print_median(who < sides(job), ratios[who], rounds);
+    printf("\n");
     fflush(stdout);
 }
 
@@ -245,6 +338,33 @@ static void measure_wrong_headers(int rounds)
     }
 }
 
+static void measure_another_makers(int rounds)
+{
+    static const struct {
+        const char *what, *format_name;
+        unsigned flag;
+        bool rate_1200;
+        size_t size, most;
+        void (*make)(void);
+        next_piece *next;
+    } rows[] = {{"judge, another maker's values", "Pseudo Binary", MAKER_FLAG_PSEUDO_BINARY, false, 4000, 1, make_pseudo_binary, piece_of_pseudo_binary},
+                {"judge at 1200, another maker's values", "Pseudo Binary", MAKER_FLAG_PSEUDO_BINARY, true, 16000, 1, make_pseudo_binary, piece_of_pseudo_binary},
+                {"judge, another maker's readings", "Pseudo Binary", MAKER_FLAG_PSEUDO_BINARY, false, 4000, 3, make_pseudo_binary, piece_of_pseudo_binary},
+                {"judge at 1200, another maker's readings", "Pseudo Binary", MAKER_FLAG_PSEUDO_BINARY, true, 16000, 3, make_pseudo_binary, piece_of_pseudo_binary},
+                {"judge, another maker's lines", "Full ASCII", MAKER_FLAG_FULL_ASCII, false, 4000, 1, make_full_ascii, piece_of_full_ascii},
+                {"judge at 1200, another maker's lines", "Full ASCII", MAKER_FLAG_FULL_ASCII, true, 16000, 1, make_full_ascii, piece_of_full_ascii}};
+    printf("\nJudged, packets of another maker of the same texts, which depart from ours: each value, slash and space has an indicator of its own (values), or each\n"
+           "reading has (readings); each CR LF is two codes (lines):\n\n");
+    print_heading();
+    for (int r = 0; r < 6; r++) {
+        state = 1;
+        rows[r].make();
+        size_t data_length = put_pieces(rows[r].next, rows[r].most, rows[r].flag, rows[r].size);
+        struct job job = {.call = JUDGE, .mend = 1, .rate_1200 = rows[r].rate_1200, .packet_length = maker_length(data_length)};
+        measure(rows[r].what, rows[r].format_name, data_length, &job, rounds);
+    }
+}
+
 int main(int count, char **words)
 {
     static const struct {
@@ -259,12 +379,12 @@ int main(int count, char **words)
     static const struct {
         bool rate_1200;
         size_t size;
-        const char *read, *write;
-    } rows[] = {{false, 100, "read", "write"},
-                {false, 1000, "read", "write"},
-                {false, 4000, "read", "write"},
-                {true, 8000, "read at 1200", "write at 1200"},
-                {true, 16000, "read at 1200", "write at 1200"}};
+        const char *read, *write, *judge;
+    } rows[] = {{false, 100, "read", "write", "judge"},
+                {false, 1000, "read", "write", "judge"},
+                {false, 4000, "read", "write", "judge"},
+                {true, 8000, "read at 1200", "write at 1200", "judge at 1200"},
+                {true, 16000, "read at 1200", "write at 1200", "judge at 1200"}};
     int rounds = count > 1 ? atoi(words[1]) : 15;
     if (rounds < 1 || rounds > MOST_ROUNDS)
         rounds = 15;
@@ -282,8 +402,13 @@ int main(int count, char **words)
             measure(rows[r].read, formats[f].name, data_length, &job, rounds);
             job.call = WRITE;
             measure(rows[r].write, formats[f].name, data_length, &job, rounds);
+            job.call = JUDGE;
+            job.mend = 1;
+            job.as_ours = 1;
+            measure(rows[r].judge, formats[f].name, data_length, &job, rounds);
         }
     }
+    measure_another_makers(rounds);
     measure_wrong_headers(rounds);
     return 0;
 }

@@ -282,14 +282,20 @@ static ALWAYS_INLINE bool text_of_shef(const uint8_t *data, size_t length, uint8
     return true;
 }
 
-/* Both readers have a copy of all this, so that the number of bits to mend costs nothing where it is known. */
-static ALWAYS_INLINE rosopyat_read_answer read_packet(uint32_t mend, bool rate_1200, const uint8_t *packet, size_t packet_length, uint8_t *text,
-                                                      size_t text_room)
+/* What a valid header says, and what was mended in it. */
+struct opened {
+    uint32_t mask;
+    unsigned mended, flag, format;
+    size_t length;
+};
+
+/* Why a packet is refused by its header and its length alone, or 0. */
+static ALWAYS_INLINE uint32_t open_packet(uint32_t mend, bool rate_1200, const uint8_t *packet, size_t packet_length, struct opened *opened)
 {
     if (mend > 2)
-        return refuse_reading(17, 0);
+        return 17;
     if (packet_length < 4)
-        return refuse_reading(1, 0);
+        return 1;
     uint32_t header;
     memcpy(&header, packet, 4);
     header = __builtin_bswap32(header);
@@ -300,18 +306,29 @@ static ALWAYS_INLINE rosopyat_read_answer read_packet(uint32_t mend, bool rate_1
         mended++;
     }
     if (mended > mend)
-        return refuse_reading(2, 0);
+        return 2;
     header ^= mask;
     unsigned flag = header >> 24, format = flag >> 2 & 7;
     if ((flag & 0x61) != 0x40 || format > 4)
-        return refuse_reading(3, 0);
+        return 3;
     size_t length = header >> 10 & 0x3fff;
     if (length - 1 >= most_data(rate_1200))
-        return refuse_reading(4, 0);
-    if (packet_length < packet_size(length))
-        return refuse_reading(5, 0);
+        return 4;
+    *opened = (struct opened){mask, mended, flag, format, length};
+    return packet_length < packet_size(length) ? 5 : 0;
+}
+
+/* Both readers have a copy of all this, so that the number of bits to mend costs nothing where it is known. */
+static ALWAYS_INLINE rosopyat_read_answer read_packet(uint32_t mend, bool rate_1200, const uint8_t *packet, size_t packet_length, uint8_t *text,
+                                                      size_t text_room)
+{
+    struct opened opened;
+    uint32_t refusal = open_packet(mend, rate_1200, packet, packet_length, &opened);
+    if (refusal != 0)
+        return refuse_reading(refusal, 0);
+    unsigned format = opened.format;
+    size_t length = opened.length, count = length, codes = 0, bad;
     uint8_t joined[MOST_DATA + 2];
-    size_t count = length, codes = 0, bad;
     const uint8_t *data = data_in_one_part(packet, length, joined, &bad);
     if (!data)
         return refuse_reading(6, bad);
@@ -349,9 +366,9 @@ static ALWAYS_INLINE rosopyat_read_answer read_packet(uint32_t mend, bool rate_1
         memcpy(text, own, count);
     }
     return (rosopyat_read_answer){.format = format,
-                                  .sync = flag >> 1 & 1,
-                                  .mended = mended,
-                                  .mask = mask,
+                                  .sync = opened.flag >> 1 & 1,
+                                  .mended = opened.mended,
+                                  .mask = opened.mask,
                                   .codes = codes,
                                   .data_length = length,
                                   .text_length = count,
@@ -366,6 +383,198 @@ rosopyat_read_answer tuned_read(bool rate_1200, const uint8_t *packet, size_t pa
 rosopyat_read_answer tuned_read_mending(uint32_t mend, bool rate_1200, const uint8_t *packet, size_t packet_length, uint8_t *text, size_t text_room)
 {
     return read_packet(mend, rate_1200, packet, packet_length, text, text_room);
+}
+
+/* Judging, as a packet is read: no text is put together. Open and Numeric are as ours once the checksums are right, SHEF once its codes are read. */
+
+static rosopyat_judge_answer refuse_judging(uint32_t refusal, size_t number, size_t codes)
+{
+    return (rosopyat_judge_answer){.refusal = refusal, .number = number, .codes = codes};
+}
+
+enum { VALUES = 2, NO_KIND = 3 }; /* spaces are 0, slashes 1 */
+
+struct indicator {
+    unsigned kind, count, most, width; /* `most` is what one of its kind counts at most */
+};
+
+static ALWAYS_INLINE struct indicator indicator_at(const uint8_t *data, size_t at)
+{
+    unsigned pair = data[at / 8] << 8 | data[at / 8 + 1];
+    unsigned indicator = pair >> (8 - at % 8) & 0xff;
+    if (indicator >= 0x80)
+        return (struct indicator){VALUES, (indicator & 0x7f) + 1, 128, 8};
+    return (struct indicator){indicator >> 6, (indicator >> 2 & 15) + 1, 16, 6};
+}
+
+static inline size_t bits_under(struct indicator indicator)
+{
+    return indicator.kind == VALUES ? 6 * indicator.count : 0;
+}
+
+/* Of an indicator that has one of its kind behind it and counts fewer than it might: its first bit that is not ours, whose indicator counts as many of the run
+ * as it may. */
+static size_t departure_of(const uint8_t *data, size_t bits, size_t from)
+{
+    struct indicator theirs = indicator_at(data, from), next = theirs;
+    unsigned run = 0;
+    for (size_t at = from; run < theirs.most && bits - at >= theirs.width; at += next.width + bits_under(next)) {
+        next = indicator_at(data, at);
+        if (next.kind != theirs.kind)
+            break;
+        run += next.count;
+    }
+    unsigned ours = run < theirs.most ? run : theirs.most;
+    return from + theirs.width - (32 - __builtin_clz((theirs.count - 1) ^ (ours - 1)));
+}
+
+/* `room` is how many more of the run our last indicator may count: one of theirs that counts no more than that is one that ours does not have. */
+static rosopyat_judge_answer judge_pseudo_binary(const uint8_t *data, size_t length)
+{
+    size_t bits = 8 * length, at = 0, before = 0, passed = 0, spared = 0, departs = SIZE_MAX;
+    unsigned kind = NO_KIND, room = 0;
+    for (;;) {
+        size_t rest = bits - at;
+        struct indicator next = indicator_at(data, at);
+        if (unlikely(rest <= 7)) {
+            if (all_ones(window(data, length + 2, at), rest))
+                break;
+            if (rest < 6 || next.kind == VALUES)
+                return refuse_judging(7, at, passed);
+        }
+        size_t under = bits_under(next);
+        if (unlikely(rest < next.width + under)) {
+            size_t whole = (rest - 8) / 6;
+            return refuse_judging(7, at + 8 + 6 * whole, passed + 1 + whole);
+        }
+        if (next.kind != kind)
+            room = 0;
+        else if (room > 0 && departs == SIZE_MAX)
+            departs = before;
+        spared += next.count <= room ? next.width : 0;
+        room = next.count <= room ? room - next.count : room + next.most - next.count;
+        kind = next.kind;
+        before = at;
+        passed += 1 + (next.kind == VALUES ? next.count : 0);
+        at += next.width + under;
+    }
+    bool departed = departs != SIZE_MAX;
+    return (rosopyat_judge_answer){
+        .as_ours = !departed, .departs_at = departed ? departure_of(data, bits, departs) : 0, .more = length - (at - spared + 7) / 8};
+}
+
+/* Nine codes of at most six bits at a time, as long as 64 bits are left and none is six ones. */
+static inline void pass_shef(const uint8_t *data, size_t bits, size_t *at, size_t *passed)
+{
+    while (bits - *at >= 64) {
+        uint64_t buffer = load_64(data + *at / 8) << *at % 8;
+        unsigned taken = 9 * 5, bad = 0;
+        for (int i = 0; i < 9; i++) {
+            unsigned six = buffer >> 63;
+            bad |= buffer >= (uint64_t)SIX_ONES << 58;
+            buffer = six ? buffer << 6 : buffer << 5;
+            taken += six;
+        }
+        if (unlikely(bad))
+            return;
+        *passed += 9;
+        *at += taken;
+    }
+}
+
+static rosopyat_judge_answer judge_shef(const uint8_t *data, size_t length)
+{
+    size_t bits = 8 * length, at = 0, passed = 0;
+    pass_shef(data, bits, &at, &passed);
+    for (;;) {
+        size_t rest = bits - at;
+        uint64_t top = rest == 0 ? 0 : window(data, length, at);
+        if (rest <= 7 && all_ones(top, rest))
+            return (rosopyat_judge_answer){.as_ours = 1};
+        unsigned width = 5 + (top >> 63);
+        if (rest < width || top >> 58 == SIX_ONES)
+            return refuse_judging(7, at, passed);
+        passed++;
+        at += width;
+    }
+}
+
+/* Full ASCII: of CR and LF in two codes ours is one, which has a one where CR's has its only zero. */
+
+struct lines {
+    size_t at, passed, in_two, departs_at;
+};
+
+static inline void pass_control(const uint8_t *data, size_t length, struct lines *lines)
+{
+    enum { CR_AND_LF = 0x1fd << 9 | 0x1fe };
+    bool in_two = 8 * length - lines->at >= 18 && window(data, length, lines->at) >> 46 == CR_AND_LF;
+    if (in_two && lines->in_two++ == 0)
+        lines->departs_at = lines->at + 7;
+    lines->passed += in_two ? 2 : 1;
+    lines->at += in_two ? 18 : 9;
+}
+
+/* Eight codes at a time of at most seven bits, or up to a control code and that, as long as 64 bits are left. */
+static inline void pass_full_ascii(const uint8_t *data, size_t length, struct lines *lines)
+{
+    while (8 * length - lines->at >= 64) {
+        uint64_t buffer = load_64(data + lines->at / 8) << lines->at % 8;
+        unsigned taken = 0;
+        int i = 0;
+        for (; i < 8 && likely(buffer >> 57 != 0x7f); i++) {
+            unsigned seven = buffer >> 63;
+            buffer = seven ? buffer << 7 : buffer << 6;
+            taken += 6 + seven;
+        }
+        lines->passed += i;
+        lines->at += taken;
+        if (i < 8)
+            pass_control(data, length, lines);
+    }
+}
+
+static rosopyat_judge_answer judge_full_ascii(const uint8_t *data, size_t length)
+{
+    struct lines lines = {0, 0, 0, 0};
+    pass_full_ascii(data, length, &lines);
+    for (;;) {
+        size_t rest = 8 * length - lines.at;
+        uint64_t top = rest == 0 ? 0 : window(data, length, lines.at);
+        if (rest <= 7 && all_ones(top, rest))
+            break;
+        unsigned width = top >> 63 ? top >> 57 == 0x7f ? 9 : 7 : 6;
+        if (rest < width)
+            return refuse_judging(7, lines.at, lines.passed);
+        if (width == 9)
+            pass_control(data, length, &lines);
+        else {
+            lines.passed++;
+            lines.at += width;
+        }
+    }
+    return (rosopyat_judge_answer){
+        .as_ours = lines.in_two == 0, .departs_at = lines.departs_at, .more = length - (lines.at - 9 * lines.in_two + 7) / 8};
+}
+
+rosopyat_judge_answer tuned_judge(uint32_t mend, bool rate_1200, const uint8_t *packet, size_t packet_length)
+{
+    struct opened opened;
+    uint32_t refusal = open_packet(mend, rate_1200, packet, packet_length, &opened);
+    if (refusal != 0)
+        return refuse_judging(refusal, 0, 0);
+    uint8_t joined[MOST_DATA + 2];
+    size_t bad;
+    const uint8_t *data = data_in_one_part(packet, opened.length, joined, &bad);
+    if (!data)
+        return refuse_judging(6, bad, 0);
+    if (opened.format == 1)
+        return judge_pseudo_binary(data, opened.length);
+    if (opened.format == 3)
+        return judge_shef(data, opened.length);
+    if (opened.format == 4)
+        return judge_full_ascii(data, opened.length);
+    return (rosopyat_judge_answer){.as_ours = 1};
 }
 
 /* The bits that a text takes, or the index of its first character without a code. */

@@ -1,3 +1,4 @@
+pub mod Comparing
 pub mod NoFront
 pub mod Once
 pub mod Parted

@@ -1,2 +1,3 @@
 pub mod Apart
+pub mod Comparison
 pub mod Steps

@@ -1,8 +1,9 @@
-// Where two rows of bytes part: the first bit at which they differ.
+// Where two rows of bytes part: the first bit at which they differ; and how another maker's data compares with ours.
 ghost use mathlib.Core.Path.{_≡_};
 ghost use Prim.Native.Nat.{_<_};
 ghost use lib.ListN.{length};
-ghost use Rattle.apart.specs.Steps.Parting.{countable, HighestApart, PartsAt};
+ghost use Rattle.apart.specs.Comparison.{Against};
+ghost use Rattle.apart.specs.Steps.Parting.{countable, HighestApart, PartsAt, Comparable};
 
 pub enum Parting {
     At(usize),
@@ -37,4 +38,35 @@ pub fn first_apart(a: &[u8], b: &[u8]) -> Parting
         i += 1;
     }
     Parting::Nowhere
+}
+
+// Whether data is just ours, or the bit at which it departs from ours.
+pub enum Comparison {
+    AsOurs,
+    Departs(usize),
+}
+
+// That, and how many bytes more than ours it has.
+pub struct Judgement {
+    pub comparison: Comparison,
+    pub more: usize,
+}
+
+// Data against ours.
+pub fn compare(theirs: &[u8], ours: &[u8]) -> Judgement
+    requires { ⌜ Comparable (now theirs) (now ours) ⌝ }
+    ensures { λ r. ⌜ Against (now (theirs .entry)) (now (ours .entry)) r ⌝ }
+{
+    let more = theirs.len() - ours.len();
+    let parting = first_apart(theirs, ours);
+    match parting {
+        Parting::At(bit) => Judgement {
+            comparison: Comparison::Departs(bit),
+            more,
+        },
+        Parting::Nowhere => Judgement {
+            comparison: Comparison::AsOurs,
+            more,
+        },
+    }
 }

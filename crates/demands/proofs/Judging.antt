@@ -26,13 +26,15 @@ use Rattle.examine.specs.declared.ExamineAnswer.the-variants.{Readable, Refused
 use Rattle.examine.specs.Examine.{Allowed, Examines}
 use Rattle.examine.proofs.ExamineOnce.{examines-one, accepts-no-fault}
 use Rattle.examine.proofs.Sent.{sent-allowed}
-use Rattle.judge.specs.declared.Comparison.{Comparison}
-use Rattle.judge.specs.declared.Comparison.the-variants.{AsOurs, Departs}
-use Rattle.judge.specs.declared.Judgement.{Judgement}
+use Rattle.apart.specs.declared.Comparison.{Comparison}
+use Rattle.apart.specs.declared.Comparison.the-variants.{AsOurs, Departs}
+use Rattle.apart.specs.declared.Judgement.{Judgement}
 use Rattle.judge.specs.declared.JudgeAnswer.{JudgeAnswer}
 use Rattle.judge.specs.declared.JudgeAnswer.the-variants.{Judged, Refused}
-use Rattle.judge.specs.Judge.{Compares, Against, Judges}
-use Rattle.judge.proofs.JudgeOnce.{one-comparison, one-judgement, allowed-accepts, held-so, judges-one}
+use Rattle.apart.specs.Comparison.{Compares, Against}
+use Rattle.judge.specs.Judge.{Judges}
+use Rattle.apart.proofs.Comparing.{one-comparison, one-judgement}
+use Rattle.judge.proofs.JudgeOnce.{allowed-accepts, held-so, judges-one}
 use Rattle.judge.proofs.Makers.{none-behind, written-again, one-way-ours}
 use Rattle.writer.specs.declared.WriteAnswer.the-variants.{Written}
 use Rattle.writer.specs.Writer.{ourPacket, WriteAccepts, Writes}

@@ -21,11 +21,12 @@ use Rattle.terms.specs.Terms.{MayMend}
 use Rattle.examine.specs.declared.ExamineAnswer.{ExamineAnswer}
 use Rattle.examine.specs.declared.ExamineAnswer.the-variants.{Refused as NotReadable}
 use Rattle.examine.specs.Examine.{Allowed, Examines}
-use Rattle.judge.specs.declared.Comparison.the-variants.{AsOurs, Departs}
-use Rattle.judge.specs.declared.Judgement.{Judgement}
+use Rattle.apart.specs.declared.Comparison.the-variants.{AsOurs, Departs}
+use Rattle.apart.specs.declared.Judgement.{Judgement}
 use Rattle.judge.specs.declared.JudgeAnswer.{JudgeAnswer}
 use Rattle.judge.specs.declared.JudgeAnswer.the-variants.{Judged, Refused}
-use Rattle.judge.specs.Judge.{Against, Judges}
+use Rattle.apart.specs.Comparison.{Against}
+use Rattle.judge.specs.Judge.{Judges}
 use Rattle.writer.specs.declared.WriteAnswer.the-variants.{Written}
 use Rattle.writer.specs.Writer.{ourPacket, Writes}
 use Rattle.demands.specs.Makers.{Made, Flipped, arriving}

@@ -26,10 +26,11 @@ use Rattle.examine.proofs.ExamineAnswers.{data-there}
 use Rattle.reader.specs.declared.ReadAnswer.the-variants.{Accepted, Refused as NotRead}
 use Rattle.reader.specs.Reader.{ReadRefuses, Reads}
 use Rattle.reader.proofs.ReadOnce.{packet-refused}
-use Rattle.judge.specs.declared.Judgement.{Judgement}
+use Rattle.apart.specs.declared.Judgement.{Judgement}
+use Rattle.apart.specs.Comparison.{Against}
 use Rattle.judge.specs.declared.JudgeAnswer.{JudgeAnswer}
-use Rattle.judge.specs.Judge.{Against, HeldAgainst, Judges}
-use Rattle.judge.specs.Steps.Comparing.{longestOf, Fits, RefusesAs}
+use Rattle.judge.specs.Judge.{HeldAgainst, Judges}
+use Rattle.judge.specs.Steps.Judging.{longestOf, Fits, RefusesAs}
 use Rattle.judge.proofs.Longest.{text-few}
 
 module _ (terms : Terms) (packet entry exit : List ℕ) (bytes : OnePacket (terms .most)) where

@@ -1,4 +1,4 @@
--- Data held against ours: in two rows, and by way of a buffer for our data.
+-- Data held against ours by way of a buffer for our data.
 -- Assumes nothing.
 use mathlib.Core.List.{List, _++_}
 use mathlib.Core.Logic.{_⊎_, inl, inr}
@@ -8,6 +8,9 @@ use native.Mathlib.Omega.{arith}
 use lib.ListN.{length, take, drop, length-append, take-append-drop}
 use lib.Seq.{take-all, take-at}
 use Rattle.header.specs.declared.Format.{Format}
+use Rattle.apart.specs.declared.Judgement.{Judgement}
+use Rattle.apart.specs.Comparison.{Against}
+use Rattle.apart.specs.Steps.Parting.{Comparable}
 use Rattle.codes.specs.Steps.Laid.{Fronted}
 use Rattle.codes.specs.Steps.Measure.{countable}
 use Rattle.formats.specs.Data.{Carries, dataOf}
@@ -15,19 +18,8 @@ use Rattle.formats.proofs.Bits.{no-fewer}
 use Rattle.formats.proofs.Formats.{carries-coded, carries-kept, carries-again}
 use Rattle.sections.specs.Sections.{joined}
 use Rattle.sections.proofs.Found.{joined-length}
-use Rattle.judge.specs.declared.Judgement.{Judgement}
-use Rattle.judge.specs.Judge.{Against}
-use Rattle.judge.specs.Steps.Comparing.{Comparable, MayBeJudged, Fits}
+use Rattle.judge.specs.Steps.Judging.{MayBeJudged, Fits}
 use Rattle.judge.proofs.Makers.{none-behind}
-
--- rows that part nowhere are the same
-pub nowhere-apart : {theirs ours : List ℕ} → Comparable theirs ours → (take (length theirs) ours ≡ theirs) ⊎ (take (length ours) theirs ≡ ours) → theirs ≡ ours
-nowhere-apart {theirs} {ours} c (inl front) = sym front ∙ take-all (length theirs) ours (c .no-shorter)
-nowhere-apart {theirs} {ours} c (inr front) =
-    let rest = drop (length ours) theirs in
-    let whole : theirs ≡ ours ++ rest = sym (take-append-drop (length ours) theirs) ∙ ap (λ (l : List ℕ). l ++ rest) front in
-    let long : length theirs ≤ length ours = omega (arith, c .no-front rest whole, ap length whole, length-append ours rest) in
-    sym (take-all (length ours) theirs long) ∙ front
 
 -- a row at the front of a buffer, as the code takes it
 pub front-part : {row entry exit : List ℕ} {r : ℕ} → Fronted row entry exit r → take (r - 0) exit ≡ row

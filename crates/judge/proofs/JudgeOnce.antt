@@ -6,9 +6,10 @@ use Prim.Native.Nat.{ℕ, _+_, _≤_}
 use native.Mathlib.Decide.{decLe}
 use native.Mathlib.Omega.{arith}
 use lib.ListN.{length}
-use Rattle.bits.specs.Row.{bits}
 use Rattle.header.specs.declared.Format.{Format}
-use Rattle.apart.proofs.Once.{one-apart, apart-differ}
+use Rattle.apart.specs.declared.Judgement.{Judgement}
+use Rattle.apart.specs.Comparison.{Against}
+use Rattle.apart.proofs.Comparing.{one-judgement}
 use Rattle.formats.specs.Data.{codesIn, dataOf}
 use Rattle.packet.specs.Packet.{received, dataIn}
 use Rattle.refusals.specs.declared.ExamineRefusal.the-variants.{TooManyBits}
@@ -17,28 +18,9 @@ use Rattle.terms.specs.Terms.{MayMend, OnePacket, MayBeNamed}
 use Rattle.examine.specs.declared.Reading.{Reading}
 use Rattle.examine.specs.Examine.{Allowed, readingOf, Accepts}
 use Rattle.examine.proofs.ExamineOnce.{refuses-one, accepts-no-fault, same-header, same-format, accepts-one-text, only-too-many}
-use Rattle.judge.specs.declared.Comparison.{Comparison}
-use Rattle.judge.specs.declared.Comparison.the-variants.{AsOurs, Departs}
-use Rattle.judge.specs.declared.Judgement.{Judgement}
 use Rattle.judge.specs.declared.JudgeAnswer.{JudgeAnswer}
 use Rattle.judge.specs.declared.JudgeAnswer.the-variants.{Judged, Refused}
-use Rattle.judge.specs.Judge.{Compares, Against, HeldAgainst, Judges}
-
--- ---- two rows are held against each other in one way
-
-pub one-comparison : (theirs ours : List ℕ) (a b : Comparison) → Compares theirs ours a → Compares theirs ours b → a ≡ b
-one-comparison theirs ours AsOurs AsOurs p q = refl
-one-comparison theirs ours AsOurs (Departs j) p q = absurd (apart-differ q (ap bits p))
-one-comparison theirs ours (Departs i) AsOurs p q = absurd (apart-differ p (ap bits q))
-one-comparison theirs ours (Departs i) (Departs j) p q = ap {B = Comparison} Departs (one-apart p q)
-
-pub one-judgement : (theirs ours : List ℕ) (a b : Judgement) → Against theirs ours a → Against theirs ours b → a ≡ b
-one-judgement theirs ours a b p q =
-    let same : a .more ≡ b .more = omega (arith, p .longer, q .longer) in
-    λ i. record {
-      comparison = one-comparison theirs ours (a .comparison) (b .comparison) (p .compares) (q .compares) i;
-      more = same i;
-    }
+use Rattle.judge.specs.Judge.{HeldAgainst, Judges}
 
 -- ---- the packet is accepted with one text
 

@@ -2,31 +2,16 @@
 -- where it is not accepted, the reader's refusal. Without a text buffer 8 does not occur.
 -- Assumes nothing.
 use mathlib.Core.List.{List}
-use mathlib.Core.Path.{_≡_}
-use Prim.Native.Nat.{ℕ, _+_}
-use lib.ListN.{length}
-use Rattle.bits.specs.Row.{bits}
+use Prim.Native.Nat.{ℕ}
 use Rattle.header.specs.declared.Format.{Format}
-use Rattle.apart.specs.Apart.{FirstApart}
+use Rattle.apart.specs.declared.Judgement.{Judgement}
+use Rattle.apart.specs.Comparison.{Against}
 use Rattle.formats.specs.Data.{dataOf}
 use Rattle.packet.specs.Packet.{dataIn}
 use Rattle.terms.specs.declared.Terms.{Terms}
 use Rattle.examine.specs.Examine.{Refuses, Allowed}
-use Rattle.judge.specs.declared.Comparison.{Comparison}
-use Rattle.judge.specs.declared.Comparison.the-variants.{AsOurs, Departs}
-use Rattle.judge.specs.declared.Judgement.{Judgement}
 use Rattle.judge.specs.declared.JudgeAnswer.{JudgeAnswer}
 use Rattle.judge.specs.declared.JudgeAnswer.the-variants.{Judged, Refused}
-
--- their data bytes are ours; or they are not, and this is the first bit at which the two rows of bits differ
-abbrev pub Compares : (theirs ours : List ℕ) → Comparison → Type 0
-Compares theirs ours AsOurs = theirs ≡ ours
-Compares theirs ours (Departs bit) = FirstApart (bits theirs) (bits ours) bit
-
--- and they are so many bytes more than ours
-pub record Against (theirs ours : List ℕ) (judgement : Judgement) : Type 0 where
-  pub compares : Compares theirs ours (judgement .comparison)
-  pub longer : length theirs ≡ length ours + judgement .more
 
 -- the packet is accepted with a text in a format, and its data is held against what our writer sends for that text in that format
 pub record HeldAgainst (terms : Terms) (packet : List ℕ) (judgement : Judgement) : Type 0 where

@@ -1,5 +1,5 @@
 // Judging other makers' transmitters: the entry point `judge`. No buffer is asked for: text and data stand on the stack (docs/DECISIONS.md has why).
-use apart::Parting;
+use apart::Judgement;
 use header::Format;
 use reader::ReadAnswer;
 use refusals::ExamineRefusal;
@@ -11,48 +11,19 @@ ghost use lib.ListN.{length};
 ghost use Rattle.formats.specs.Data.{dataOf};
 ghost use Rattle.sections.specs.Sections.{joined};
 ghost use Rattle.terms.specs.Terms.{mostAt, naming};
-ghost use Rattle.judge.specs.Judge.{Against, Judges};
-ghost use Rattle.judge.specs.Steps.Comparing.{longestOf, Comparable, MayBeJudged, Fits, RefusesAs};
+ghost use Rattle.apart.specs.Comparison.{Against};
+ghost use Rattle.judge.specs.Judge.{Judges};
+ghost use Rattle.judge.specs.Steps.Judging.{longestOf, MayBeJudged, Fits, RefusesAs};
 
 // The longest texts that 4,000 and 16,000 data bytes carry: sixteen characters for each six bits.
 const TEXT: usize = 85328;
 
 const TEXT_1200: usize = 341328;
 
-// Whether data is just ours, or the bit at which it departs from ours.
-pub enum Comparison {
-    AsOurs,
-    Departs(usize),
-}
-
-// That, and how many bytes more than ours it has.
-pub struct Judgement {
-    pub comparison: Comparison,
-    pub more: usize,
-}
-
+// How the data of a packet compares with ours, or why the packet is refused.
 pub enum JudgeAnswer {
     Judged(Judgement),
     Refused(ExamineRefusal),
-}
-
-// Data against ours.
-fn compare(theirs: &[u8], ours: &[u8]) -> Judgement
-    requires { ⌜ Comparable (now theirs) (now ours) ⌝ }
-    ensures { λ r. ⌜ Against (now (theirs .entry)) (now (ours .entry)) r ⌝ }
-{
-    let more = theirs.len() - ours.len();
-    let parting = apart::first_apart(theirs, ours);
-    match parting {
-        Parting::At(bit) => Judgement {
-            comparison: Comparison::Departs(bit),
-            more,
-        },
-        Parting::Nowhere => Judgement {
-            comparison: Comparison::AsOurs,
-            more,
-        },
-    }
 }
 
 // Data against what our writer sends for the text that it carries, by way of a buffer for ours.
@@ -61,7 +32,7 @@ fn judge_data(format: Format, theirs: &[u8], text: &[u8], ours: &mut [u8]) -> Ju
     ensures { λ r. ⌜ Against (now (theirs .entry)) (dataOf format (now (text .entry))) r ⌝ }
 {
     let bytes = formats::put_data(format, text, ours);
-    compare(theirs, &ours[0..bytes])
+    apart::compare(theirs, &ours[0..bytes])
 }
 
 // One section, where it lies.

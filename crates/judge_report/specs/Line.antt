@@ -3,8 +3,8 @@
 -- Assumes nothing.
 use mathlib.Core.List.{List, [], _∷_}
 use Prim.Native.Nat.{ℕ}
-use Rattle.judge.specs.declared.Comparison.{Comparison}
-use Rattle.judge.specs.declared.Comparison.the-variants.{AsOurs, Departs}
+use Rattle.apart.specs.declared.Comparison.{Comparison}
+use Rattle.apart.specs.declared.Comparison.the-variants.{AsOurs, Departs}
 use Rattle.judge.specs.declared.JudgeAnswer.{JudgeAnswer}
 use Rattle.judge.specs.declared.JudgeAnswer.the-variants.{Judged, Refused}
 use Rattle.lines.specs.Line.{decimals, line, refused}

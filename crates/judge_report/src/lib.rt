@@ -1,7 +1,7 @@
 // The line that the program for the bench prints of a packet.
-use judge::Comparison;
+use apart::Comparison;
+use apart::Judgement;
 use judge::JudgeAnswer;
-use judge::Judgement;
 use terms::Terms;
 ghost use Prim.Native.Nat.{_≤_};
 ghost use lib.ListN.{length};

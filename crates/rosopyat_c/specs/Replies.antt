@@ -6,8 +6,8 @@ use mathlib.Core.Path.{_≡_}
 use Prim.Native.Nat.{ℕ}
 use Rattle.header.specs.Fields.{oneIf}
 use Rattle.header.specs.Formats.{formatNumber}
-use Rattle.judge.specs.declared.Comparison.{Comparison}
-use Rattle.judge.specs.declared.Comparison.the-variants.{AsOurs, Departs}
+use Rattle.apart.specs.declared.Comparison.{Comparison}
+use Rattle.apart.specs.declared.Comparison.the-variants.{AsOurs, Departs}
 use Rattle.judge.specs.declared.JudgeAnswer.{JudgeAnswer}
 use Rattle.judge.specs.declared.JudgeAnswer.the-variants.{Judged, Refused as NotJudged}
 use Rattle.judge.specs.Judge.{Judges}

@@ -1,8 +1,8 @@
 // The reader, the writer and the judging for C and Rust: their answers as plain structs.
+use apart::Comparison;
+use apart::Judgement;
 use header::Header;
-use judge::Comparison;
 use judge::JudgeAnswer;
-use judge::Judgement;
 use reader::ReadAnswer;
 use rosopyat_logger::WriteReply;
 ghost use mathlib.Core.Path.{_≡_};

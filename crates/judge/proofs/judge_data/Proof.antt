@@ -6,8 +6,8 @@ use mathlib.Core.List.{List}
 use mathlib.Core.Path.{subst, subst⁻¹}
 use Prim.Native.Nat.{ℕ}
 use Rattle.formats.proofs.Formats.{carries-coded}
-use Rattle.judge.specs.Judge.{Against}
-use Rattle.judge.specs.Steps.Comparing.{Comparable}
+use Rattle.apart.specs.Comparison.{Against}
+use Rattle.apart.specs.Steps.Parting.{Comparable}
 use Rattle.judge.proofs.Comparing.{front-part, front-within, no-longer, comparable}
 use Rattle.judge.proofs.judge_data.Statement.{statement}
 use Rattle.judge.proofs.judge_data.Tie as tie

@@ -5,7 +5,7 @@ use mathlib.Core.Path.{refl, subst⁻¹}
 use Rattle.refusals.specs.declared.ReadRefusal.{ReadRefusal}
 use Rattle.refusals.specs.declared.ExamineRefusal.the-variants.{OtherLength}
 use Rattle.judge.specs.declared.JudgeAnswer.the-variants.{Refused}
-use Rattle.judge.specs.Steps.Comparing.{RefusesAs}
+use Rattle.judge.specs.Steps.Judging.{RefusesAs}
 use Rattle.judge.proofs.refuse.Statement.{statement}
 use Rattle.judge.proofs.refuse.Tie as tie
 

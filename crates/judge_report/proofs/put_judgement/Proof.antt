@@ -4,7 +4,7 @@ use native.Mathlib.Omega.{arith}
 use borrow.Author.Needs.{needs}
 use mathlib.Core.List.{[], _∷_}
 use mathlib.Core.Path.{sym, ap, _∙_}
-use Rattle.judge.specs.declared.Comparison.{Comparison}
+use Rattle.apart.specs.declared.Comparison.{Comparison}
 use Rattle.lines.proofs.Told.{front-same, line-within}
 use Rattle.judge_report.specs.Line.{ours, departs, lineFor}
 use Rattle.judge_report.proofs.Told.{told, one-number, two-numbers}

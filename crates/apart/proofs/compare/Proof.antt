@@ -1,12 +1,12 @@
--- `judge::compare` meets its contract.
+-- `apart::compare` meets its contract.
 -- Assumes nothing.
 use native.Mathlib.Omega.{arith}
 use borrow.Author.Needs.{needs}
 use mathlib.Core.Path.{subst}
 use Rattle.apart.specs.Steps.Parting.{PartsAt}
-use Rattle.judge.proofs.Comparing.{nowhere-apart}
-use Rattle.judge.proofs.compare.Statement.{statement}
-use Rattle.judge.proofs.compare.Tie as tie
+use Rattle.apart.proofs.Comparing.{nowhere-apart, parts-at}
+use Rattle.apart.proofs.compare.Statement.{statement}
+use Rattle.apart.proofs.compare.Tie as tie
 
 sub-more : tie.Need-sub-more
 sub-more c = search needs
@@ -25,7 +25,8 @@ returns c =
     let f = c .before .before .before in
     let s = f .before .before .before in
     record {
-      compares = subst (PartsAt (s .args .theirs .now) (s .args .ours .now)) (c .before .parting .given .1) (f .first-apart .ensures);
+      compares =
+          parts-at _ (subst (PartsAt (s .args .theirs .now) (s .args .ours .now)) (c .before .parting .given .1) (f .first-apart .ensures)) (omega arith);
       longer = omega (arith, s .pre .no-shorter);
     }
 

@@ -1,6 +1,6 @@
--- Data held against ours, by way of buffers.
+-- Data judged, by way of buffers.
 -- Assumes nothing.
-use mathlib.Core.List.{List, _++_}
+use mathlib.Core.List.{List}
 use mathlib.Core.Path.{_≡_}
 use Prim.Native.Nat.{ℕ, _*_, _/_, _≤_, _<_}
 use lib.ListN.{length}
@@ -16,12 +16,6 @@ use Rattle.judge.specs.declared.JudgeAnswer.the-variants.{Refused}
 -- the longest text of n data bytes, in any format: sixteen characters for each six bits
 abbrev pub longestOf : ℕ → ℕ
 longestOf n = 16 * (8 * n / 6)
-
--- rows of which the one is no shorter than the other, and not longer by something behind it
-pub record Comparable (theirs ours : List ℕ) : Type 0 where
-  pub few : length theirs < countable
-  pub no-shorter : length ours ≤ length theirs
-  pub no-front : (rest : List ℕ) → theirs ≡ ours ++ rest → length rest ≡ 0
 
 -- data that carries a text, with room for as much data
 pub record MayBeJudged (format : Format) (theirs text : List ℕ) (ours : ℕ) : Type 0 where
