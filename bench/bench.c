@@ -115,8 +115,8 @@ static size_t part_for(unsigned format, size_t size)
     return fits;
 }
 
-/* Packets of another maker, of the source's characters: at most `most` of one kind are counted by an indicator of Pseudo Binary, and a line end of Full ASCII
- * is two codes. */
+/* Packets of another maker, of the source's characters, a piece after the other: in Pseudo Binary an indicator counts at most `most` of one kind, and in Full
+ * ASCII each character has a code of its own. */
 
 struct piece {
     size_t characters;
@@ -140,30 +140,38 @@ static struct piece piece_of_values(const uint8_t *text, size_t most)
 
 static struct piece piece_of_pseudo_binary(const uint8_t *text, size_t most)
 {
-    size_t run = 1;
     if (is_value(text[0]))
         return piece_of_values(text, most);
+    size_t run = 1;
     while (run < most && text[run] == text[0])
         run++;
     return (struct piece){run, (text[0] == '/' ? 0x10 : 0) | (run - 1), 6};
 }
 
-static struct piece piece_of_full_ascii(const uint8_t *text, size_t most)
+static struct piece next_value(const uint8_t *text)
 {
-    (void)most;
-    if (text[0] < 32)
-        return (struct piece){1, text[0] == '\r' ? 0x1fd : 0x1fe, 9};
-    return text[0] < 64 ? (struct piece){1, text[0] - 32, 6} : (struct piece){1, text[0], 7};
+    return piece_of_pseudo_binary(text, 1);
 }
 
-typedef struct piece next_piece(const uint8_t *, size_t);
+static struct piece next_reading(const uint8_t *text)
+{
+    return piece_of_pseudo_binary(text, 3);
+}
 
-/* The data length of a packet of as many pieces as `size` bytes have room for. */
-static size_t put_pieces(next_piece *next, size_t most, unsigned flag, size_t size)
+static struct piece next_character(const uint8_t *text)
+{
+    unsigned character = text[0];
+    if (character < 32)
+        return (struct piece){1, character == '\r' ? 0x1fd : 0x1fe, 9};
+    return character < 64 ? (struct piece){1, character - 32, 6} : (struct piece){1, character, 7};
+}
+
+/* Puts as many pieces into a packet as `size` data bytes have room for, and answers how many bytes they are. */
+static size_t put_pieces(struct piece (*next)(const uint8_t *), unsigned flag, size_t size)
 {
     struct maker_bits row = {packet + 4, 0, 0};
     const uint8_t *text = source;
-    for (struct piece piece = next(text, most); row.bits + piece.width <= 8 * size; piece = next(text, most)) {
+    for (struct piece piece = next(text); row.bits + piece.width <= 8 * size; piece = next(text)) {
         maker_put(&row, piece.code, piece.width);
         text += piece.characters;
     }
@@ -338,30 +346,35 @@ static void measure_wrong_headers(int rounds)
     }
 }
 
-static void measure_another_makers(int rounds)
+struct other_maker {
+    const char *what, *what_at_1200, *format_name;
+    unsigned flag;
+    void (*make)(void);
+    struct piece (*next)(const uint8_t *);
+};
+
+static void measure_other_maker(const struct other_maker *maker, bool rate_1200, int rounds)
 {
-    static const struct {
-        const char *what, *format_name;
-        unsigned flag;
-        bool rate_1200;
-        size_t size, most;
-        void (*make)(void);
-        next_piece *next;
-    } rows[] = {{"judge, another maker's values", "Pseudo Binary", MAKER_FLAG_PSEUDO_BINARY, false, 4000, 1, make_pseudo_binary, piece_of_pseudo_binary},
-                {"judge at 1200, another maker's values", "Pseudo Binary", MAKER_FLAG_PSEUDO_BINARY, true, 16000, 1, make_pseudo_binary, piece_of_pseudo_binary},
-                {"judge, another maker's readings", "Pseudo Binary", MAKER_FLAG_PSEUDO_BINARY, false, 4000, 3, make_pseudo_binary, piece_of_pseudo_binary},
-                {"judge at 1200, another maker's readings", "Pseudo Binary", MAKER_FLAG_PSEUDO_BINARY, true, 16000, 3, make_pseudo_binary, piece_of_pseudo_binary},
-                {"judge, another maker's lines", "Full ASCII", MAKER_FLAG_FULL_ASCII, false, 4000, 1, make_full_ascii, piece_of_full_ascii},
-                {"judge at 1200, another maker's lines", "Full ASCII", MAKER_FLAG_FULL_ASCII, true, 16000, 1, make_full_ascii, piece_of_full_ascii}};
-    printf("\nJudged, packets of another maker of the same texts, which depart from ours: each value, slash and space has an indicator of its own (values), or each\n"
-           "reading has (readings); each CR LF is two codes (lines):\n\n");
+    state = 1;
+    maker->make();
+    size_t data_length = put_pieces(maker->next, maker->flag, rate_1200 ? ROSOPYAT_MOST_DATA_1200 : ROSOPYAT_MOST_DATA);
+    struct job job = {.call = JUDGE, .mend = 1, .rate_1200 = rate_1200, .packet_length = maker_length(data_length)};
+    measure(rate_1200 ? maker->what_at_1200 : maker->what, maker->format_name, data_length, &job, rounds);
+}
+
+static void measure_other_makers(int rounds)
+{
+    static const struct other_maker makers[] = {
+        {"judge, another maker's values", "judge at 1200, another maker's values", "Pseudo Binary", MAKER_FLAG_PSEUDO_BINARY, make_pseudo_binary, next_value},
+        {"judge, another maker's readings", "judge at 1200, another maker's readings", "Pseudo Binary", MAKER_FLAG_PSEUDO_BINARY, make_pseudo_binary,
+         next_reading},
+        {"judge, another maker's lines", "judge at 1200, another maker's lines", "Full ASCII", MAKER_FLAG_FULL_ASCII, make_full_ascii, next_character}};
+    printf("\nAnother maker's packets of the same texts, which depart from ours: each value, slash and space has an indicator of its own (values), or each\n"
+           "reading and space has (readings); each CR LF is two codes (lines):\n\n");
     print_heading();
-    for (int r = 0; r < 6; r++) {
-        state = 1;
-        rows[r].make();
-        size_t data_length = put_pieces(rows[r].next, rows[r].most, rows[r].flag, rows[r].size);
-        struct job job = {.call = JUDGE, .mend = 1, .rate_1200 = rows[r].rate_1200, .packet_length = maker_length(data_length)};
-        measure(rows[r].what, rows[r].format_name, data_length, &job, rounds);
+    for (int m = 0; m < 3; m++) {
+        measure_other_maker(&makers[m], false, rounds);
+        measure_other_maker(&makers[m], true, rounds);
     }
 }
 
@@ -408,7 +421,7 @@ int main(int count, char **words)
             measure(rows[r].judge, formats[f].name, data_length, &job, rounds);
         }
     }
-    measure_another_makers(rounds);
+    measure_other_makers(rounds);
     measure_wrong_headers(rounds);
     return 0;
 }

@@ -392,34 +392,53 @@ static rosopyat_judge_answer refuse_judging(uint32_t refusal, size_t number, siz
     return (rosopyat_judge_answer){.refusal = refusal, .number = number, .codes = codes};
 }
 
+/* Pseudo Binary: a run is what indicators of one kind count that follow one another. */
+
 enum { VALUES = 2, NO_KIND = 3 }; /* spaces are 0, slashes 1 */
+static const size_t nowhere = SIZE_MAX;
 
 struct indicator {
     unsigned kind, count, most, width; /* `most` is what one of its kind counts at most */
 };
 
-static ALWAYS_INLINE struct indicator indicator_at(const uint8_t *data, size_t at)
+static ALWAYS_INLINE struct indicator indicator_of(uint64_t top)
 {
-    unsigned pair = data[at / 8] << 8 | data[at / 8 + 1];
-    unsigned indicator = pair >> (8 - at % 8) & 0xff;
-    if (indicator >= 0x80)
-        return (struct indicator){VALUES, (indicator & 0x7f) + 1, 128, 8};
-    return (struct indicator){indicator >> 6, (indicator >> 2 & 15) + 1, 16, 6};
+    if (top >> 63)
+        return (struct indicator){VALUES, (top >> 56 & 0x7f) + 1, 128, 8};
+    return (struct indicator){top >> 62, (top >> 58 & 15) + 1, 16, 6};
 }
 
-static inline size_t bits_under(struct indicator indicator)
+static inline unsigned values_under(struct indicator indicator)
 {
-    return indicator.kind == VALUES ? 6 * indicator.count : 0;
+    return indicator.kind == VALUES ? indicator.count : 0;
 }
 
-/* Of an indicator that has one of its kind behind it and counts fewer than it might: its first bit that is not ours, whose indicator counts as many of the run
- * as it may. */
-static size_t departure_of(const uint8_t *data, size_t bits, size_t from)
+struct cuts {
+    unsigned kind, room;    /* of the run; and how many more of it our last indicator may count */
+    size_t last_at, spared; /* where theirs stands that came last; and the bits of those that ours does not have, since our last one counts all that they do */
+    size_t departs;         /* where the first of theirs stands that counts fewer than ours */
+};
+
+static ALWAYS_INLINE void add_cut(struct cuts *cuts, struct indicator next, size_t at)
 {
-    struct indicator theirs = indicator_at(data, from), next = theirs;
+    if (next.kind != cuts->kind)
+        cuts->room = 0;
+    else if (cuts->room > 0 && cuts->departs == nowhere)
+        cuts->departs = cuts->last_at;
+    bool spared = next.count <= cuts->room;
+    cuts->room += (spared ? 0 : next.most) - next.count;
+    cuts->spared += spared ? next.width : 0;
+    cuts->kind = next.kind;
+    cuts->last_at = at;
+}
+
+/* The first bit that is not ours in an indicator that counts fewer than ours, which counts as many of the run as it may. */
+static size_t departure_of(const uint8_t *data, size_t length, size_t from)
+{
+    struct indicator theirs = indicator_of(window(data, length, from)), next = theirs;
     unsigned run = 0;
-    for (size_t at = from; run < theirs.most && bits - at >= theirs.width; at += next.width + bits_under(next)) {
-        next = indicator_at(data, at);
+    for (size_t at = from; run < theirs.most && 8 * length - at >= theirs.width; at += next.width + 6 * values_under(next)) {
+        next = indicator_of(window(data, length, at));
         if (next.kind != theirs.kind)
             break;
         run += next.count;
@@ -428,39 +447,38 @@ static size_t departure_of(const uint8_t *data, size_t bits, size_t from)
     return from + theirs.width - (32 - __builtin_clz((theirs.count - 1) ^ (ours - 1)));
 }
 
-/* `room` is how many more of the run our last indicator may count: one of theirs that counts no more than that is one that ours does not have. */
 static rosopyat_judge_answer judge_pseudo_binary(const uint8_t *data, size_t length)
 {
-    size_t bits = 8 * length, at = 0, before = 0, passed = 0, spared = 0, departs = SIZE_MAX;
-    unsigned kind = NO_KIND, room = 0;
+    struct cuts cuts = {NO_KIND, 0, 0, 0, nowhere};
+    size_t at = 0, passed = 0, have = 0; /* bits of `top` */
+    uint64_t top = 0;
     for (;;) {
-        size_t rest = bits - at;
-        struct indicator next = indicator_at(data, at);
+        size_t rest = 8 * length - at;
+        if (have < 8) {
+            top = window(data, length + 2, at);
+            have = 57;
+        }
         if (unlikely(rest <= 7)) {
-            if (all_ones(window(data, length + 2, at), rest))
+            if (all_ones(top, rest))
                 break;
-            if (rest < 6 || next.kind == VALUES)
+            if (rest < 6 || top >> 63)
                 return refuse_judging(7, at, passed);
         }
-        size_t under = bits_under(next);
-        if (unlikely(rest < next.width + under)) {
+        struct indicator next = indicator_of(top);
+        size_t width = next.width + 6 * values_under(next);
+        if (unlikely(rest < width)) {
             size_t whole = (rest - 8) / 6;
             return refuse_judging(7, at + 8 + 6 * whole, passed + 1 + whole);
         }
-        if (next.kind != kind)
-            room = 0;
-        else if (room > 0 && departs == SIZE_MAX)
-            departs = before;
-        spared += next.count <= room ? next.width : 0;
-        room = next.count <= room ? room - next.count : room + next.most - next.count;
-        kind = next.kind;
-        before = at;
-        passed += 1 + (next.kind == VALUES ? next.count : 0);
-        at += next.width + under;
+        add_cut(&cuts, next, at);
+        passed += 1 + values_under(next);
+        at += width;
+        have = have < width ? 0 : have - width;
+        top <<= width % 64;
     }
-    bool departed = departs != SIZE_MAX;
+    bool as_ours = cuts.departs == nowhere;
     return (rosopyat_judge_answer){
-        .as_ours = !departed, .departs_at = departed ? departure_of(data, bits, departs) : 0, .more = length - (at - spared + 7) / 8};
+        .as_ours = as_ours, .departs_at = as_ours ? 0 : departure_of(data, length, cuts.departs), .more = length - (at - cuts.spared + 7) / 8};
 }
 
 /* Nine codes of at most six bits at a time, as long as 64 bits are left and none is six ones. */
@@ -508,11 +526,14 @@ struct lines {
 static inline void pass_control(const uint8_t *data, size_t length, struct lines *lines)
 {
     enum { CR_AND_LF = 0x1fd << 9 | 0x1fe };
-    bool in_two = 8 * length - lines->at >= 18 && window(data, length, lines->at) >> 46 == CR_AND_LF;
-    if (in_two && lines->in_two++ == 0)
-        lines->departs_at = lines->at + 7;
-    lines->passed += in_two ? 2 : 1;
-    lines->at += in_two ? 18 : 9;
+    if (8 * length - lines->at >= 18 && window(data, length, lines->at) >> 46 == CR_AND_LF) {
+        if (lines->in_two++ == 0)
+            lines->departs_at = lines->at + 7;
+        lines->passed++;
+        lines->at += 9;
+    }
+    lines->passed++;
+    lines->at += 9;
 }
 
 /* Eight codes at a time of at most seven bits, or up to a control code and that, as long as 64 bits are left. */

@@ -1,4 +1,4 @@
-/* Rosopyat: reads and writes single-packet messages of the GOES DCS binary protocol. This file is the manual.
+/* Rosopyat: reads, writes and judges single-packet messages of the GOES DCS binary protocol. This file is the manual.
  *
  * A packet is a flag byte, three bytes of length and check, and the data in sections, each with two checksum bytes behind it. Every section but the last
  * has 4,000 data bytes, and none is empty. The caller says at which rate the message is sent, by `rate_1200`:
@@ -29,7 +29,8 @@
  * Whatever else is handed over gets an answer: any bytes, any lengths, any number for a format or of bits to mend.
  *
  * Nothing is allocated, kept or shared between calls: any number of threads may call at once, on buffers of their own. The reader joins
- * sections on the stack, at 1200 and for a packet of two or more, in 16,000 bytes; each call reserves them, so that one takes 17.5 KB of stack.
+ * sections on the stack, at 1200 and for a packet of two or more, in 16,000 bytes; each call reserves them, so that one takes 17.5 KB of stack. A call of
+ * rosopyat_judge has text and data on the stack and takes 391 KB of it, at either rate; rosopyat_write takes less than 1 KB.
  * Link with librosopyat_c.a (x86-64), which needs memcpy and memset and nothing else of the C library. A logger that only sends links librosopyat_logger.a instead: it has
  * rosopyat_write alone and needs nothing of the C library. Its code has 13,791 bytes, its one constant table 32, and the operands that vector instructions take
  * from memory 1,248; a call takes 184 bytes of stack.
@@ -76,8 +77,8 @@ enum rosopyat_format {
     ROSOPYAT_FULL_ASCII = 4     /* compacted: characters 32 to 63 (6 bits), 64 to 126 (7), HT, CR, LF, and CR with LF after it (9) */
 };
 
-/* Why a call was refused. The tests are made in the order 17, then 1 to 8 for the reader, and in the order 12, 10, 9, 11, 8 for the writer; the first that
- * matches answers. `number` is 0 unless a meaning stands here. */
+/* Why a call was refused. The tests are made in the order 17, then 1 to 8 for the reader, 17, then 1 to 7 where a packet is judged, and in the order 12, 10,
+ * 9, 11, 8 for the writer; the first that matches answers. `number` is 0 unless a meaning stands here. */
 enum rosopyat_refusal {
     ROSOPYAT_ACCEPTED = 0,
     /* the reader's */

@@ -1,6 +1,6 @@
 /* Holds the library to the independent implementation, on cases that are made from a seed.
  *
- *     compare [COUNT [SEED [FIRST]]]
+ *     compare [COUNT [SEED [FIRST [judging]]]]
  *
  * Each case depends on the seed and its own number only, so `outside-tests/compare/run 1 SEED FIRST` repeats one. A difference in any member of an
  * answer or any byte of a buffer, a byte changed outside of what the answer allows, a read or write past a buffer's end, a mask that does not lead from the
@@ -9,7 +9,8 @@
  * occurred, of the list below, of an answer in a format at a rate or of a header bit mended.
  *
  * When all cases are through, their packets are made once more and judged: those that were read, and those that the library wrote. So a wrong reader or writer
- * is told by what is known of reading and writing, and not by the judging of what it read or wrote. */
+ * is told by what is known of reading and writing, and not by the judging of what it read or wrote. The word `judging` has them judged alone, for wrong
+ * versions that read and write as they should; then no outcome is asked for. */
 #define _GNU_SOURCE
 #include "independent.h"
 #include "maker.h"
@@ -1548,13 +1549,14 @@ static size_t make_pieces(unsigned format, uint8_t *text, size_t least, bool run
     return length;
 }
 
-/* The longest part whose data has at most so many bytes, for both sides of that edge. */
+/* The longest part whose data has at most so many bytes, for both sides of that edge. The library is asked, which is the faster of the two: where they have not
+ * the same edge, one of the parts around it tells. */
 static size_t longest_part(unsigned format, const uint8_t *text, size_t length, size_t most)
 {
     size_t fits = 1, exceeds = length + 1;
     while (exceeds - fits > 1) {
         size_t middle = fits + (exceeds - fits) / 2;
-        rosopyat_write_answer asked = independent_write(true, format, false, text, middle, untouched + REGION, 0);
+        rosopyat_write_answer asked = rosopyat_write(true, format, false, text, middle, untouched + REGION, 0);
         if (asked.refusal == 11 || (asked.refusal == 8 && asked.number > maker_length(most)))
             exceeds = middle;
         else
@@ -2050,12 +2052,15 @@ int main(int count, char **words)
     uint64_t cases = count > 1 ? strtoull(words[1], NULL, 10) : MEANT_CASES;
     seed = count > 2 ? strtoull(words[2], NULL, 10) : (uint64_t)time(NULL);
     uint64_t first = count > 3 ? strtoull(words[3], NULL, 10) : 0;
+    bool judging_alone = count > 4 && strcmp(words[4], "judging") == 0;
     printf("seed %" PRIu64 ", %" PRIu64 " cases\n", seed, cases);
     fflush(stdout);
     prepare();
-    if (!go_through(first, cases, reader_case, writer_case) || !go_through(first, cases, judge_read_case, judge_written_case))
+    if (!judging_alone && !go_through(first, cases, reader_case, writer_case))
         return 1;
-    bool complete = print_outcomes(cases >= MEANT_CASES);
+    if (!go_through(first, cases, judge_read_case, judge_written_case))
+        return 1;
+    bool complete = print_outcomes(cases >= MEANT_CASES && !judging_alone);
     printf("%" PRIu64 " cases, no difference%s\n", cases, complete ? "" : ", but an outcome never occurred");
     return !complete;
 }

@@ -1,7 +1,7 @@
 -- Where two rows part, byte by byte and in the byte that is not the same.
 -- Assumes nothing.
 use mathlib.Core.List.{List, [], _∷_, _++_, append-assoc}
-use mathlib.Core.Path.{_≡_, refl, sym, ap, ap₂, subst, subst₂, _∙_}
+use mathlib.Core.Path.{_≡_, refl, sym, ap, ap₂, subst, subst⁻¹, subst₂, _∙_}
 use Prim.Native.Nat.{ℕ, zero, suc, _+_, _-_, _*_, _/_, _%_, _^_, _≤_, _<_}
 use native.Mathlib.Omega.{arith}
 use lib.ListN.{length, take, drop, getD, length-append, length-take}
@@ -127,8 +127,8 @@ pub record SameAbove (a b power : ℕ) : Type 0 where
   pub above : a / 2 ^ suc power ≡ b / 2 ^ suc power
 
 -- nothing stands above the top bit
-pub same-top : (a b : ℕ) → a < 256 → b < 256 → SameAbove a b 7
-same-top a b p q = record { low = omega arith; above = omega arith }
+pub same-top : (a b power : ℕ) → a < 256 → b < 256 → power ≡ 7 → SameAbove a b power
+same-top a b power p q e = subst⁻¹ (SameAbove a b) e (record { low = omega arith; above = omega arith })
 
 -- bytes that are not the same part at the lowest bit or before
 pub not-lowest : (a b power : ℕ) → (a ≡ b → ⊥) → a / 2 ^ power ≡ b / 2 ^ power → 1 ≤ power

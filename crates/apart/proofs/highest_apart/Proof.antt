@@ -13,7 +13,7 @@ abbrev μ-loop : tie.MeasureT-loop
 μ-loop a b power₀ power = power
 
 loop-holds : tie.Need-loop-holds Inv-loop μ-loop
-loop-holds c = same-top _ _ (omega arith) (omega arith)
+loop-holds c = same-top _ _ _ (omega arith) (omega arith) (omega arith)
 
 cast-loop : tie.Need-cast-loop Inv-loop μ-loop
 cast-loop c = omega (arith, c .loop .inv .low)
