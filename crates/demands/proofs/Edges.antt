@@ -7,7 +7,7 @@ use Prim.Native.Nat.{ℕ, _+_, _*_, _/_, _^_, _<_}
 use native.Mathlib.Omega.{arith}
 use lib.Bits.{bitXor}
 use lib.Count.{onesIn}
-use lib.Dec.{T, T-not, leb, ltb, eqb, leb→le, ltb→lt, eqb→eq}
+use lib.Dec.{T, T-not, leb, ltb, eqb, leb→le, ltb→lt, eqb→eq, eqb-refl}
 use lib.ListN.{length, take, getD}
 use Rattle.bits.specs.First.{first}
 use Rattle.bits.specs.Numbers.{numbers}
@@ -68,7 +68,8 @@ use Rattle.pseudo_binary.proofs.Length.{width, each}
 use Rattle.pseudo_binary.proofs.Size.{started}
 use Rattle.examine.proofs.ExamineOnce.{too-many}
 use Rattle.reader.proofs.ReadOnce.{refused-packet}
-use Rattle.demands.specs.Edges.{Edge, checks, heads, reads, hopeless, foreign, unnamed, writes, carries, stops, fullest, lacks, divides, fits, overlong, longest, singly, RefusesAt, RefusesAll, Holds, edges, Every}
+use Rattle.apart.specs.declared.Comparison.the-variants.{AsOurs, Departs}
+use Rattle.demands.specs.Edges.{Edge, checks, heads, reads, hopeless, foreign, unnamed, writes, carries, stops, fullest, lacks, divides, fits, overlong, longest, singly, judged, RefusesAt, RefusesAll, Holds, edges, Every}
 use Rattle.demands.proofs.HeaderTests.{findsNone, none, none-near, mends-by-test, ours, other, other-none, refuses-hopeless, refuses-foreign, refuses-overlong, whichever}
 use Rattle.demands.proofs.NoShorter.{alike-bytes}
 
@@ -84,6 +85,10 @@ reading FullAscii carried = answer ascii.scheme (length (bits carried)) 0 (bits 
 comes-to : Answer → List ℕ → ℕ → Bool
 comes-to (reads-text t k) text codes = same t text && eqb k codes
 comes-to (reads-stuck i k) text codes = false
+
+codes-read : Answer → ℕ
+codes-read (reads-text t k) = k
+codes-read (reads-stuck i k) = k
 
 stuck-at : Answer → ℕ → ℕ → Bool
 stuck-at (reads-text t k) bit codes = false
@@ -171,6 +176,16 @@ tests (longest bytes characters) =
 tests (singly character count single ours) =
     let k = pseudo-writer.kind character in
     pseudo.coded character ∷ eqb (singleBytes k count) single ∷ eqb (fullBytes k count) ours ∷ []
+tests (judged format text carried AsOurs more) =
+    let read = reading format carried in
+    let ours = dataOf format text in
+    comes-to read text (codes-read read) ∷ same carried ours ∷ eqb (length carried) (length ours + more) ∷ []
+tests (judged format text carried (Departs bit) more) =
+    let read = reading format carried in
+    let a = bits carried in
+    let b = bits (dataOf format text) in
+    comes-to read text (codes-read read) ∷ ltb bit (length a) ∷ ltb bit (length b) ∷ same (take bit a) (take bit b) ∷ not (eqb (getD a bit 0) (getD b bit 0))
+    ∷ eqb (length carried) (length (dataOf format text) + more) ∷ []
 tests (lacks format text index) =
     ltb index (length text) ∷ all (λ (i : ℕ). coded format (take i text) (getD text i 0)) index ∷ not (coded format (take index text) (getD text index 0)) ∷ []
 
@@ -266,6 +281,25 @@ row-holds (singly character count single ours) (has, (one, (full, t))) =
     let k = pseudo-writer.kind character in
     let b = alike-bytes k character count (kind-of k character has refl) in
     (b .0, b .1 ∙ eqb→eq (singleBytes k count) single one, b .2 ∙ eqb→eq (fullBytes k count) ours full)
+row-holds (judged format text carried AsOurs more) (read, (is, (long, t))) = (
+  carries-by-test format text carried (codes-read (reading format carried)) read .0,
+  record { compares = same-is carried (dataOf format text) is; longer = eqb→eq (length carried) (length (dataOf format text) + more) long },
+)
+row-holds (judged format text carried (Departs bit) more) (read, (one, (other, (before, (here, (long, t)))))) =
+    let a = bits carried in
+    let b = bits (dataOf format text) in (
+      carries-by-test format text carried (codes-read (reading format carried)) read .0,
+      record {
+        compares =
+          record {
+            in-one = ltb→lt bit (length a) one;
+            in-other = ltb→lt bit (length b) other;
+            before = same-is (take bit a) (take bit b) before;
+            here = λ e. T-not (eqb (getD a bit 0) (getD b bit 0)) here (subst (λ (n : ℕ). T (eqb (getD a bit 0) n)) e (eqb-refl (getD a bit 0)));
+          };
+        longer = eqb→eq (length carried) (length (dataOf format text) + more) long;
+      },
+    )
 row-holds (lacks format text index) (there, (before, (none, t))) =
     record {
       there = ltb→lt index (length text) there;
@@ -284,7 +318,7 @@ rows-hold (e ∷ es) (p, t) = (row-holds e (passed (tests e) p), rows-hold es t)
 
 -- every row's tests, computed: one `tt` a row
 computed : Passed (every-row edges)
-unfolding Passed every-row every-test tests ceiling width each started same other ours reading comes-to stuck-at findsNone none isValid search answerOf turnedOver turnings chosen maskOf all onesIn Odd received distance differences
+unfolding Passed every-row every-test tests ceiling width each started same other ours reading comes-to codes-read stuck-at findsNone none isValid search answerOf turnedOver turnings chosen maskOf all onesIn Odd received distance differences
     flagIn checkIn checkOf informationIn lengthIn remainder generator bytesOf headerFor headerOf lowFlag parityFor fieldsIn messageTypeIn extendedTypeIn spareIn syncIn flagBits
     bits bit low numbers every begun fills find answer stateAfter codes texts value bytes packed gap filled written
     pseudo.isOf pseudo.coded pseudo.valueOf pseudo.characterOf pseudo.indicator pseudo.most pseudo.indicators pseudo.six pseudo.tables
@@ -295,7 +329,7 @@ unfolding Passed every-row every-test tests ceiling width each started same othe
     numeric-writer.sentFor numeric-writer.ours numeric-writer.comesBack shef.table shef-writer.coded shef-writer.own shef-writer.ours
     ascii.six ascii.seven ascii.special ascii.pair ascii.table ascii-writer.own ascii-writer.ours
 computed =
-    (tt, (tt, (tt, (tt, (tt, (tt, (tt, (tt, (tt, (tt, (tt, (tt, (tt, (tt, (tt, (tt, (tt, (tt, (tt, (tt, (tt, (tt, (tt, (tt, (tt, (tt, (tt, (tt, (tt, (tt, (tt, (tt, (tt, (tt, (tt, (tt, (tt, (tt, (tt, (tt, (tt, (tt, (tt, (tt, (tt, (tt, (tt, (tt, (tt, (tt, (tt, (tt, (tt, (tt, (tt, (tt, (tt, (tt, (tt, (tt, (tt, (tt, (tt, (tt, (tt, (tt, (tt, (tt, (tt, (tt, (tt, (tt, (tt, (tt, (tt, (tt, (tt, (tt, (tt, (tt, (tt, (tt, tt))))))))))))))))))))))))))))))))))))))))))))))))))))))))))))))))))))))))))))))))))
+    (tt, (tt, (tt, (tt, (tt, (tt, (tt, (tt, (tt, (tt, (tt, (tt, (tt, (tt, (tt, (tt, (tt, (tt, (tt, (tt, (tt, (tt, (tt, (tt, (tt, (tt, (tt, (tt, (tt, (tt, (tt, (tt, (tt, (tt, (tt, (tt, (tt, (tt, (tt, (tt, (tt, (tt, (tt, (tt, (tt, (tt, (tt, (tt, (tt, (tt, (tt, (tt, (tt, (tt, (tt, (tt, (tt, (tt, (tt, (tt, (tt, (tt, (tt, (tt, (tt, (tt, (tt, (tt, (tt, (tt, (tt, (tt, (tt, (tt, (tt, (tt, (tt, (tt, (tt, (tt, (tt, (tt, (tt, (tt, (tt, (tt, (tt, (tt, (tt, (tt, tt))))))))))))))))))))))))))))))))))))))))))))))))))))))))))))))))))))))))))))))))))))))))))
 
 -- the one statement: every row of the table
 pub edges-hold : Every edges

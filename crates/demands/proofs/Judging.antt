@@ -1,28 +1,26 @@
 -- What was promised of judging holds, under all terms.
 -- Assumes nothing.
 use mathlib.Core.Bool.{Bool}
-use mathlib.Core.List.{List, [], _∷_, _++_}
+use mathlib.Core.List.{List, [], _∷_}
 use mathlib.Core.Logic.{_↔_}
-use mathlib.Core.Path.{_≡_, refl, sym, ap, subst, subst₂, _∙_}
-use Prim.Native.Nat.{ℕ, _+_, _≤_}
+use mathlib.Core.Path.{_≡_, refl, ap, subst, subst₂, _∙_}
+use Prim.Native.Nat.{ℕ, _≤_}
 use native.Mathlib.Omega.{arith}
 use lib.ListN.{length}
-use Rattle.bits.specs.Row.{bits, Bytes}
+use Rattle.bits.specs.Row.{bits}
 use Rattle.header.specs.declared.Format.{Format}
 use Rattle.header.specs.declared.Format.the-variants.{Open}
 use Rattle.header.specs.Formats.{formatNumber}
 use Rattle.header.proofs.Formats.{one-number}
-use Rattle.apart.specs.Apart.{FirstApart}
 use Rattle.sections.specs.Sections.{inSections}
-use Rattle.formats.specs.Data.{Carries, dataOf, comesBack}
-use Rattle.formats.specs.Waste.{timesAtMost}
+use Rattle.formats.specs.Data.{dataOf, comesBack}
 use Rattle.packet.specs.Packet.{dataIn, headerFor}
 use Rattle.packet.proofs.Sent.{arrived, header-length, data-is}
 use Rattle.refusals.specs.declared.ExamineRefusal.{ExamineRefusal}
 use Rattle.terms.specs.declared.Terms.{Terms}
 use Rattle.terms.specs.Terms.{MayMend, OnePacket, MayBeNamed}
 use Rattle.examine.specs.declared.ExamineAnswer.{ExamineAnswer}
-use Rattle.examine.specs.declared.ExamineAnswer.the-variants.{Readable, Refused as NotReadable}
+use Rattle.examine.specs.declared.ExamineAnswer.the-variants.{Refused as NotReadable}
 use Rattle.examine.specs.Examine.{Allowed, Examines}
 use Rattle.examine.proofs.ExamineOnce.{examines-one, accepts-no-fault}
 use Rattle.examine.proofs.Sent.{sent-allowed}

@@ -1,14 +1,13 @@
 -- What is answered of a packet that was read into a buffer with room for every text.
 -- Assumes nothing.
-use mathlib.Core.List.{List, _++_}
+use mathlib.Core.List.{List}
 use mathlib.Core.Logic.{inr}
 use mathlib.Core.Path.{_≡_, ap, subst⁻¹, subst₂, _∙_}
-use Prim.Native.Nat.{ℕ, _-_, _≤_, _<_}
+use Prim.Native.Nat.{ℕ, _-_, _≤_}
 use native.Mathlib.Decide.{decLe}
 use native.Mathlib.Omega.{arith}
 use lib.ListN.{length, take, drop, length-append, length-drop}
 use lib.Seq.{take-at}
-use Rattle.header.specs.declared.Format.{Format}
 use Rattle.header.specs.Valid.{lengthIn}
 use Rattle.formats.specs.Data.{Carries, dataOf}
 use Rattle.sections.proofs.Found.{joined-length}

@@ -1,11 +1,9 @@
 -- What is judged of a packet is one answer.
 -- Assumes nothing.
 use mathlib.Core.List.{List}
-use mathlib.Core.Path.{_≡_, refl, sym, ap, ap₂, subst, subst₂, _∙_}
-use Prim.Native.Nat.{ℕ, _+_, _≤_}
+use mathlib.Core.Path.{_≡_, refl, sym, ap, subst, subst₂, _∙_}
+use Prim.Native.Nat.{ℕ, _≤_}
 use native.Mathlib.Decide.{decLe}
-use native.Mathlib.Omega.{arith}
-use lib.ListN.{length}
 use Rattle.header.specs.declared.Format.{Format}
 use Rattle.apart.specs.declared.Judgement.{Judgement}
 use Rattle.apart.specs.Comparison.{Against}
@@ -15,7 +13,6 @@ use Rattle.packet.specs.Packet.{received, dataIn}
 use Rattle.refusals.specs.declared.ExamineRefusal.the-variants.{TooManyBits}
 use Rattle.terms.specs.declared.Terms.{Terms}
 use Rattle.terms.specs.Terms.{MayMend, OnePacket, MayBeNamed}
-use Rattle.examine.specs.declared.Reading.{Reading}
 use Rattle.examine.specs.Examine.{Allowed, readingOf, Accepts}
 use Rattle.examine.proofs.ExamineOnce.{refuses-one, accepts-no-fault, same-header, same-format, accepts-one-text, only-too-many}
 use Rattle.judge.specs.declared.JudgeAnswer.{JudgeAnswer}

@@ -1,7 +1,7 @@
 -- How long a text can be that so much data carries: in every format no longer than in Pseudo Binary, where six bits say sixteen characters.
 -- Assumes nothing.
-use mathlib.Core.List.{List, [], _++_, append-nil}
-use mathlib.Core.Path.{_≡_, refl, sym, ap, _∙_}
+use mathlib.Core.List.{List, [], append-nil}
+use mathlib.Core.Path.{refl, sym, ap, _∙_}
 use Prim.Native.Nat.{ℕ, _*_, _/_, _≤_}
 use native.Mathlib.Omega.{arith}
 use lib.Dec.{T}
@@ -9,7 +9,7 @@ use lib.ListN.{length}
 use Rattle.header.specs.declared.Format.{Format}
 use Rattle.header.specs.declared.Format.the-variants.{Open, PseudoBinary, Numeric, Shef, FullAscii}
 use Rattle.bits.specs.Numbers.{numbers}
-use Rattle.codes.specs.Chain.{Scheme, single, codes, Builds}
+use Rattle.codes.specs.Chain.{single, codes, Builds}
 use Rattle.codes.proofs.EveryElement.{every}
 use Rattle.codes.proofs.SizeBounds.{brief, builds-within, few-codes, short-text}
 use Rattle.full_ascii.specs.Table as ascii

@@ -7,7 +7,7 @@ use Prim.Native.Nat.{ℕ}
 use Rattle.codes.specs.Steps.Laid.{Fronted}
 use Rattle.judge.specs.declared.JudgeAnswer.{JudgeAnswer}
 use Rattle.judge.specs.Judge.{Judges}
-use Rattle.lines.specs.Line.{decimals, decimal, line, refused}
+use Rattle.lines.specs.Line.{decimals, line, refused}
 use Rattle.terms.specs.Terms.{mostAt}
 use Rattle.judge_report.specs.Line.{lineOf}
 use Rattle.judge_report.specs.Steps.Put.{PutsLine}

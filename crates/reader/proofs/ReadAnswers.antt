@@ -1,12 +1,10 @@
 -- What the reader answers of a packet that can be read, by the room for its text.
 -- Assumes nothing.
 use mathlib.Core.List.{List, _++_}
-use mathlib.Core.Path.{_≡_, refl, sym, ap, ap₂, subst₂, _∙_}
+use mathlib.Core.Path.{_≡_, refl, sym, ap, ap₂, _∙_}
 use Prim.Native.Nat.{ℕ, _-_, _≤_, _<_}
 use native.Mathlib.Omega.{arith}
-use lib.ListN.{length, take, drop}
-use Rattle.header.specs.declared.Format.{Format}
-use Rattle.header.specs.Valid.{lengthIn}
+use lib.ListN.{length, drop}
 use Rattle.formats.specs.Data.{Carries}
 use Rattle.formats.specs.Steps.Text.{HasRoom, PutsText}
 use Rattle.formats.proofs.Formats.{carries-one}
@@ -18,8 +16,6 @@ use Rattle.terms.specs.declared.Terms.{Terms}
 use Rattle.examine.specs.declared.Reading.{Reading}
 use Rattle.reader.specs.declared.ReadAnswer.the-variants.{Accepted, Refused}
 use Rattle.examine.specs.Examine.{Accepts}
-use Rattle.packet.specs.Packet.{wholeLength, dataIn}
-use Rattle.sections.specs.Sections.{sentLength, joined}
 use Rattle.reader.specs.Reader.{ReadFault, Reads}
 use Rattle.terms.specs.Terms.{MayBeNamed}
 use Rattle.examine.proofs.AcceptedData as accepted

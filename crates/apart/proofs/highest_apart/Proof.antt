@@ -1,7 +1,6 @@
 -- `apart::highest_apart` meets its contract. The invariant: the bytes are the same above the bit.
 -- Assumes nothing.
 use native.Mathlib.Omega.{arith}
-use borrow.Author.Needs.{needs}
 use Rattle.apart.proofs.Parted.{SameAbove, same-top, not-lowest, same-below, same-ends}
 use Rattle.apart.proofs.highest_apart.Statement.{statement}
 use Rattle.apart.proofs.highest_apart.Tie as tie
