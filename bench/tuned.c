@@ -414,9 +414,11 @@ static inline unsigned values_under(struct indicator indicator)
 }
 
 struct cuts {
-    unsigned kind, room;    /* of the run; and how many more of it our last indicator may count */
-    size_t last_at, spared; /* where theirs stands that came last; and the bits of those that ours does not have, since our last one counts all that they do */
-    size_t departs;         /* where the first of theirs stands that counts fewer than ours */
+    unsigned kind;  /* of the run */
+    unsigned room;  /* how many more of the run our last indicator may count: one of theirs that counts no more is one that ours does not have */
+    size_t spared;  /* the bits of those that ours does not have */
+    size_t last_at; /* where the last of theirs stands */
+    size_t departs; /* where the first of theirs stands that counts fewer than ours, or nowhere */
 };
 
 static ALWAYS_INLINE void add_cut(struct cuts *cuts, struct indicator next, size_t at)
@@ -450,7 +452,7 @@ static size_t departure_of(const uint8_t *data, size_t length, size_t from)
 static rosopyat_judge_answer judge_pseudo_binary(const uint8_t *data, size_t length)
 {
     struct cuts cuts = {NO_KIND, 0, 0, 0, nowhere};
-    size_t at = 0, passed = 0, have = 0; /* bits of `top` */
+    size_t at = 0, passed = 0, have = 0; /* how many bits of `top` count */
     uint64_t top = 0;
     for (;;) {
         size_t rest = 8 * length - at;

@@ -1,6 +1,6 @@
 # Read in by the scripts (POSIX sh): the compilers and the runner of x86-64 programs, and where things are. Debian packages are installed where missing.
-# Sets: root, work (a temporary folder, removed at the end), library, compiler, run; and the functions compile, compile_as_library and compile_cpp. Any path
-# may have spaces.
+# Sets: root, work (a temporary folder, removed at the end), library, compiler, run, calls; and the functions compile, compile_as_library and compile_cpp. Any
+# path may have spaces.
 
 root=$(CDPATH= cd -- "$(dirname -- "$0")" && while [ ! -e include/rosopyat.h ]; do cd ..; done && pwd)
 library=${LIBRARY:-$root/target/staticlib/librosopyat_c.a}
@@ -50,10 +50,13 @@ compile() {
     $compiler -std=c11 -O2 -static -Wall -Wextra -Werror "-I$root/include" "-I$root/outside-tests" "-I$root/outside-tests/independent" "$@"
 }
 
+# What the library and the independent implementation both have, behind rosopyat_ and independent_
+calls='read read_mending write judge'
+
 # compile_as_library WORDS: the independent implementation under the library's names
 compile_as_library() {
-    compile -Dindependent_read=rosopyat_read -Dindependent_read_mending=rosopyat_read_mending -Dindependent_write=rosopyat_write \
-        -Dindependent_judge=rosopyat_judge "$@"
+    for call in $calls; do set -- "-Dindependent_$call=rosopyat_$call" "$@"; done
+    compile "$@"
 }
 
 compile_cpp() {
