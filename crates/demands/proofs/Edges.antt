@@ -291,12 +291,12 @@ row-holds (judged format text carried (Departs bit) more) (read, (one, (other, (
       carries-by-test format text carried (codes-read (reading format carried)) read .0,
       record {
         compares =
-          record {
-            in-one = ltb→lt bit (length a) one;
-            in-other = ltb→lt bit (length b) other;
-            before = same-is (take bit a) (take bit b) before;
-            here = λ e. T-not (eqb (getD a bit 0) (getD b bit 0)) here (subst (λ (n : ℕ). T (eqb (getD a bit 0) n)) e (eqb-refl (getD a bit 0)));
-          };
+            record {
+              in-one = ltb→lt bit (length a) one;
+              in-other = ltb→lt bit (length b) other;
+              before = same-is (take bit a) (take bit b) before;
+              here = λ e. T-not (eqb (getD a bit 0) (getD b bit 0)) here (subst (λ (n : ℕ). T (eqb (getD a bit 0) n)) e (eqb-refl (getD a bit 0)));
+            };
         longer = eqb→eq (length carried) (length (dataOf format text) + more) long;
       },
     )
