@@ -2,15 +2,16 @@
 ghost use mathlib.Core.Path.{_≡_};
 ghost use Prim.Native.Nat.{_<_};
 ghost use lib.ListN.{length};
+ghost use Rattle.codes.specs.Steps.Measure.{countable};
 ghost use Rattle.apart.specs.Comparison.{Against};
-ghost use Rattle.apart.specs.Steps.Parting.{countable, HighestApart, PartsAt, Comparable};
+ghost use Rattle.apart.specs.Steps.Parting.{HighestApart, PartsAt, Comparable};
 
 pub enum Parting {
     At(usize),
     Nowhere,
 }
 
-// The weight of the highest bit in which two bytes differ, as the power of two that it is.
+// The highest bit in which two bytes differ, by the power of two that it stands for.
 fn highest_apart(a: u8, b: u8) -> u32
     requires { ⌜ (a ≡ b → ⊥) ⌝ }
     ensures { λ r. ⌜ HighestApart a b r ⌝ }

@@ -8,7 +8,7 @@ use native.Mathlib.Numerals.{add-one}
 use native.Mathlib.Omega.{arith}
 use lib.ListN.{length, take, drop, set, length-append, length-drop, take-append-drop}
 use lib.Seq.{set-split, length-take-le, take-at, drop-drop, drop-append-add}
-use Rattle.codes.specs.Steps.Laid.{laid}
+use Rattle.codes.specs.Steps.Laid.{laid, Fronted}
 
 pub laid-nil : (d : List ℕ) (n : ℕ) → laid d n [] ≡ d
 unfolding laid
@@ -55,3 +55,7 @@ set-laid-two d n v w h =
     ap (λ (l : List ℕ). set l (n + 1) w) first
     ∙ set-laid (laid d n (v ∷ [])) (n + 1) w (omega (arith, length-laid d n (v ∷ []) (omega arith)))
     ∙ laid-laid d n (n + 1) (v ∷ []) (w ∷ []) (omega arith) refl
+
+-- what stands at the front is a part of the buffer
+pub front-within : {row entry exit : List ℕ} {r : ℕ} → Fronted row entry exit r → r ≤ length exit
+front-within {row} {entry} {exit} {r} p = omega (arith, p .size, ap length (p .whole), length-append row (drop r entry))

@@ -93,9 +93,6 @@ module _ (terms : Terms) (packet entry exit : List ℕ) (bytes : OnePacket (term
         header : ℕ
         header = p .fault .0
 
-        data-in : List ℕ
-        data-in = dataIn header packet
-
         pick : Dec (lengthIn header ≤ terms .most) → Dec (wholeLength (lengthIn header) ≤ length packet) → ⊥
         pick (no many) whole = p .first (Packet OtherLength) (before-room OtherLength) (header, p .fault .1, inr (omega arith))
         pick (yes few) (no cut) = p .first (Packet CutOff) (before-room CutOff) (header, p .fault .1, omega arith)

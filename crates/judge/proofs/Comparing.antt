@@ -4,7 +4,7 @@ use mathlib.Core.List.{List}
 use mathlib.Core.Path.{_≡_, ap, subst, subst⁻¹, _∙_}
 use Prim.Native.Nat.{ℕ, _-_, _≤_, _<_}
 use native.Mathlib.Omega.{arith}
-use lib.ListN.{length, take, drop, length-append}
+use lib.ListN.{length, take, drop}
 use lib.Seq.{take-at}
 use Rattle.header.specs.declared.Format.{Format}
 use Rattle.apart.specs.declared.Judgement.{Judgement}
@@ -23,9 +23,6 @@ use Rattle.judge.proofs.Makers.{none-behind}
 -- a row at the front of a buffer, as the code takes it
 pub front-part : {row entry exit : List ℕ} {r : ℕ} → Fronted row entry exit r → take (r - 0) exit ≡ row
 front-part {row} {entry} {exit} {r} f = ap (take (r - 0)) (f .whole) ∙ take-at row (drop r entry) (r - 0) (omega (arith, f .size))
-
-pub front-within : {row entry exit : List ℕ} {r : ℕ} → Fronted row entry exit r → r ≤ length exit
-front-within {row} {entry} {exit} {r} f = omega (arith, f .size, ap length (f .whole), length-append row (drop r entry))
 
 -- ---- the text of their data, and our data of it
 

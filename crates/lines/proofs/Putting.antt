@@ -184,7 +184,3 @@ module _ (word numbers entry : List ℕ) (held : length word + length (spaced (d
 
   pub word-numbers : (exit : List ℕ) (r : ℕ) → PutsRow (spaced (decimals numbers)) mid exit at r → PutsRow (word ++ spaced (decimals numbers)) entry exit 0 r
   word-numbers exit r p = puts-more word-put p (omega (arith, held))
-
--- what stands at the front is a part of the buffer
-pub front-within : {row entry exit : List ℕ} {r : ℕ} → Fronted row entry exit r → r ≤ length exit
-front-within {row} {entry} {exit} {r} p = omega (arith, p .size, ap length (p .whole), length-append row (drop r entry))

@@ -6,13 +6,10 @@ use mathlib.Core.Path.{_≡_}
 use Prim.Native.Nat.{ℕ, suc, _/_, _^_, _≤_, _<_}
 use lib.ListN.{length, take}
 use Rattle.bits.specs.Row.{bits}
+use Rattle.codes.specs.Steps.Measure.{countable}
 use Rattle.apart.specs.Apart.{FirstApart}
 use Rattle.apart.specs.declared.Parting.{Parting}
 use Rattle.apart.specs.declared.Parting.the-variants.{At, Nowhere}
-
--- rows of fewer bytes have fewer bits than a number of 64 bits counts
-abbrev pub countable : ℕ
-countable = 2 ^ 56
 
 -- two bytes are the same above this bit, and are not with it
 pub record HighestApart (a b power : ℕ) : Type 0 where

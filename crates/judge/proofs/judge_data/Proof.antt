@@ -8,7 +8,8 @@ use Prim.Native.Nat.{ℕ}
 use Rattle.formats.proofs.Formats.{carries-coded}
 use Rattle.apart.specs.Comparison.{Against}
 use Rattle.apart.specs.Steps.Parting.{Comparable}
-use Rattle.judge.proofs.Comparing.{front-part, front-within, no-longer, comparable}
+use Rattle.codes.proofs.LaidRows.{front-within}
+use Rattle.judge.proofs.Comparing.{front-part, no-longer, comparable}
 use Rattle.judge.proofs.judge_data.Statement.{statement}
 use Rattle.judge.proofs.judge_data.Tie as tie
 

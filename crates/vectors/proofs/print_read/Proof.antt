@@ -3,7 +3,7 @@
 use mathlib.Core.Path.{sym}
 use borrow.Author.Needs.{needs}
 use lib.Seq.{length-take-le}
-use Rattle.lines.proofs.Putting.{front-within}
+use Rattle.codes.proofs.LaidRows.{front-within}
 use Rattle.vectors.proofs.print_read.Statement.{statement}
 use Rattle.vectors.proofs.print_read.Tie as tie
 
