@@ -1,10 +1,12 @@
 // Where two rows of bytes part: the first bit at which they differ; and how another maker's data compares with ours.
+
+#![tactic(auto)]
 ghost use Rattle.std.specs.Prelude.{◌≡◌, ◌<◌, length};
 ghost use Rattle.codes.specs.Steps.Measure.{countable};
 ghost use Rattle.apart.specs.Comparison.{Against};
 ghost use Rattle.apart.specs.Steps.Parting.{HighestApart, PartsAt, Comparable};
 
-#[derive(Drop)]
+#[derive(Clone, Copy)]
 pub enum Parting {
     At(usize),
     Nowhere,
@@ -41,14 +43,14 @@ pub fn first_apart(a: &[u8], b: &[u8]) -> Parting
 }
 
 // Whether data is just ours, or the bit at which it departs from ours.
-#[derive(Drop)]
+#[derive(Clone, Copy)]
 pub enum Comparison {
     AsOurs,
     Departs(usize),
 }
 
 // That, and how many bytes more than ours it has.
-#[derive(Drop)]
+#[derive(Clone, Copy)]
 pub struct Judgement {
     pub comparison: Comparison,
     pub more: usize,

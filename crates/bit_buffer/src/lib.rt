@@ -1,5 +1,7 @@
 // Bits taken out of bytes, through a number that holds some of them, and the characters that codes say. The definitions and laws are those of codes.
 
+#![tactic(auto)]
+
 ghost use Rattle.std.specs.Prelude.{◌≡◌, ◌++◌, ℕ, ◌+◌, ◌*◌, ◌^◌, ◌≤◌, ◌<◌, length, get_or};
 ghost use Rattle.bits.specs.Says.{Says};
 ghost use Rattle.codes.specs.Chain.{Fill};
@@ -14,7 +16,7 @@ ghost use Rattle.codes.specs.Steps.Words.{NearEnd, Last};
 use codes::{Code, Measured, Place};
 
 // The bits that are still to be read: the lowest `have` bits of `held`, then those of the bytes from `next` on.
-#[derive(Drop)]
+#[derive(Clone, Copy)]
 pub struct Buffer {
     pub held: u64,
     pub have: u64,

@@ -1,6 +1,8 @@
 // Bits put into bytes, through a number that holds some of them; codes joined to one number; and what the loops over a text that is written ask of it. The
 // definitions and laws are those of codes.
 
+#![tactic(auto)]
+
 ghost use Rattle.std.specs.Prelude.{cond, ◌≡◌, ◌⊎◌, ◌+◌, ◌/◌, ◌^◌, ◌≤◌, ◌<◌, length, take};
 ghost use Rattle.codes.specs.Coded.{last_of};
 ghost use Rattle.codes.specs.Pack.{low};

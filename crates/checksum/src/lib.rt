@@ -1,5 +1,7 @@
 // The 16-bit checksum of the packet data (document 001, 3.3).
 
+#![tactic(auto)]
+
 ghost use Rattle.std.specs.Prelude.{◌≡◌, [], ◌∷◌, ◌/◌, ◌%◌};
 ghost use Rattle.checksum.specs.Checksum.{checksum_of, checksum_bytes};
 ghost use Rattle.bits.specs.Says.{Says};

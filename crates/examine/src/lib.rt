@@ -1,4 +1,6 @@
 // What is found out about a packet without a text buffer: the entry points `examine` and `examine_mending`.
+
+#![tactic(auto)]
 ghost use Rattle.terms.specs.Terms.{OnePacket, MayBeNamed, naming, usual};
 ghost use Rattle.examine.specs.Examine.{Examines};
 ghost use Rattle.examine.specs.Steps.Reading.{HeaderFound, FindsHeader, SumsRight};
@@ -12,7 +14,7 @@ use terms::Terms;
 
 // An accepted packet: its format and sync bit, how many header bits were mended and which, how many codes were read, the lengths of data and text, and the
 // bytes used. Why the mask does not stand beside the count: docs/DECISIONS.md.
-#[derive(Drop)]
+#[derive(Clone, Copy)]
 pub struct Reading {
     pub format: Format,
     pub sync: bool,
@@ -24,14 +26,14 @@ pub struct Reading {
     pub used: usize,
 }
 
-#[derive(Drop)]
+#[derive(Clone, Copy)]
 pub enum ExamineAnswer {
     Readable(Reading),
     Refused(ExamineRefusal),
 }
 
 // The reading of a packet whose header is found, with no text yet.
-#[derive(Drop)]
+#[derive(Clone, Copy)]
 enum HeaderAnswer {
     Found(Reading),
     Refused(ExamineRefusal),

@@ -2,6 +2,8 @@
 // format's own function; in Open Binary each byte is its own. The writer's are picked by the format's number, the lower two first: of a match of five LLVM
 // makes a table of places to go to, and a logger has no room for one.
 
+#![tactic(auto)]
+
 ghost use Rattle.std.specs.Prelude.{◌≡◌, ◌≤◌, ◌<◌, length, take, get_or};
 ghost use Rattle.bits.specs.Says.{Says};
 ghost use Rattle.codes.specs.Steps.Laid.{Fronted};
@@ -133,7 +135,7 @@ pub fn put_data(format: Format, text: &[u8], out: &mut [u8]) -> usize
     let number = Header::number(format);
     if number < Header::NUMERIC {
         if number == Header::OPEN {
-            return bytes::copy(text, out);
+            return rows::copy(text, out);
         }
         return pseudo_binary_writer::put_data(text, out);
     }
@@ -178,7 +180,7 @@ pub fn put_text(format: Format, data: &[u8], out: &mut [u8]) -> usize
     ensures { PutsText format «data».now out.old out.new result }
 {
     match format {
-        Format::Open => bytes::copy(data, out),
+        Format::Open => rows::copy(data, out),
         Format::PseudoBinary => pseudo_binary_reader::put_text(data, out),
         Format::Numeric => numeric_reader::put_text(data, out),
         Format::Shef => shef_reader::put_text(data, out),

@@ -1,7 +1,9 @@
 // Compact Full ASCII (001, 4.5): its table and what our writer builds in specs/, their theorems in proofs/; here the numbers that reading and writing share.
 
+#![tactic(auto)]
+
 // The control characters that have a code.
-#[derive(Drop)]
+#[derive(Clone, Copy)]
 pub struct Character;
 
 impl Character {
@@ -13,7 +15,7 @@ impl Character {
 }
 
 // The codes of nine bits, as numbers: theirs, and that of CR with LF after it. A number below them begins with a code of six or seven bits.
-#[derive(Drop)]
+#[derive(Clone, Copy)]
 pub struct Special;
 
 impl Special {

@@ -1,5 +1,7 @@
 // Compact Full ASCII (001, 4.5), read: how long the text of its data is, or where the data is malformed; and the text. The table is in full_ascii.
 
+#![tactic(auto)]
+
 ghost use Rattle.std.specs.Prelude.{true, ◌≡◌, ℕ, ◌+◌, ◌-◌, ◌/◌, ◌<◌, ◌≤◌, length};
 ghost use Rattle.bits.specs.Row.{bits};
 ghost use Rattle.codes.specs.Steps.Laid.{Readable, Placed};

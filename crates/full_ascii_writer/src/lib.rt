@@ -1,6 +1,8 @@
 // Compact Full ASCII (001, 4.5), written: whether a character has a code, how long the data of a text is, and the data. What our writer builds is in
 // full_ascii.
 
+#![tactic(auto)]
+
 ghost use Rattle.std.specs.Prelude.{◌≡◌, ◌+◌, ◌-◌, ◌*◌, ◌^◌, ◌<◌, ◌≤◌, T, length, drop};
 ghost use Rattle.bits.specs.Says.{Says};
 ghost use Rattle.codes.specs.Coded.{alone};

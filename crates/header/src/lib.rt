@@ -1,4 +1,7 @@
 // The header of a packet: its fields, its check bits and its parity (001, 3.1 and 3.2).
+
+#![tactic(auto)]
+
 ghost use Rattle.std.specs.Prelude.{◌≡◌, ◌^◌, ◌<◌};
 ghost use Rattle.header.specs.Check.{check_of};
 ghost use Rattle.header.specs.Fields.{fields_in, header_of, sent_fields, Fit, low_flag, one_if, word_of};
@@ -7,7 +10,7 @@ ghost use Rattle.header.specs.Formats.{format_number, FormatOfNumber, FormatInHe
 ghost use Rattle.header.specs.Steps.Differences.{Multiple, difference_in, WithParity};
 
 // The formats that we read and write.
-#[derive(Drop)]
+#[derive(Clone, Copy)]
 pub enum Format {
     Open,
     PseudoBinary,
@@ -17,13 +20,13 @@ pub enum Format {
 }
 
 // What the type bits say: one of our formats, or none.
-#[derive(Drop)]
+#[derive(Clone, Copy)]
 pub enum WhichFormat {
     Ours(Format),
     Foreign,
 }
 
-#[derive(Drop)]
+#[derive(Clone, Copy)]
 pub struct Header {
     // bits 7/6 of the flag
     pub message_type: u32,

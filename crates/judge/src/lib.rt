@@ -1,4 +1,6 @@
 // Judging other makers' transmitters: the entry point `judge`. No buffer is asked for: text and data stand on the stack (docs/DECISIONS.md has why).
+
+#![tactic(auto)]
 ghost use Rattle.std.specs.Prelude.{true, false, ◌≤◌, length};
 ghost use Rattle.formats.specs.Data.{data_of};
 ghost use Rattle.sections.specs.Sections.{joined};
@@ -19,7 +21,7 @@ const TEXT: usize = 85328;
 const TEXT_1200: usize = 341328;
 
 // How the data of a packet compares with ours, or why the packet is refused.
-#[derive(Drop)]
+#[derive(Clone, Copy)]
 pub enum JudgeAnswer {
     Judged(Judgement),
     Refused(ExamineRefusal),

@@ -1,4 +1,6 @@
 // Lines of text: words, numbers in decimal and hexadecimal, each after a single space.
+
+#![tactic(auto)]
 ghost use Rattle.std.specs.Prelude.{[], ◌∷◌, ◌++◌, ◌≡◌, ◌+◌, ◌≤◌, ◌<◌, length};
 ghost use Rattle.codes.specs.Steps.Laid.{Fronted};
 ghost use Rattle.lines.specs.Line.{decimal, decimals, hexadecimal_digit, hexadecimal, spaced, refused, line};
@@ -73,7 +75,7 @@ pub fn put_word(word: &[u8], numbers: &[usize], out: &mut [u8]) -> usize
     requires { length word.now + length (spaced (decimals numbers.now)) ≤ length out.old }
     ensures { PutsRow (word.now ++ spaced (decimals numbers.now)) out.old out.new 0 result }
 {
-    let at = bytes::copy(word, out);
+    let at = rows::copy(word, out);
     put_spaced(numbers, out, at)
 }
 

@@ -1,10 +1,13 @@
 // Mending a received header: the valid header at most so many bits away, parity bit included (RULES, Packet).
+
+#![tactic(auto)]
+
 ghost use Rattle.std.specs.Prelude.{◌≤◌};
 ghost use Rattle.mending.specs.Mends.{MendsWithin};
 
 use repair::Cause;
 
-#[derive(Drop)]
+#[derive(Clone, Copy)]
 pub enum Mending {
     // The valid header, and in how many bits the received one differs from it.
     Mended(u32, u32),

@@ -1,5 +1,7 @@
 // Compact Numeric ASCII (001, 4.3), read: how long the text of its data is, and the text. All data has one.
 
+#![tactic(auto)]
+
 ghost use Rattle.std.specs.Prelude.{true, [], ◌∷◌, ◌≡◌, ◌+◌, ◌-◌, ◌*◌, ◌/◌, ◌≤◌, ◌<◌, length};
 ghost use Rattle.std.specs.Int.Bits.{bit_and};
 ghost use Rattle.codes.specs.Steps.Laid.{laid, Fronted};
@@ -34,7 +36,7 @@ fn fewer(one: u32, other: u32) -> usize
 }
 
 // Two codes passed: how many characters fewer they say, and the sign of the last character, with an 8.
-#[derive(Drop)]
+#[derive(Clone, Copy)]
 struct Passed {
     pub fewer: usize,
     pub before: u32,
@@ -115,7 +117,7 @@ fn saved_by(b: u8) -> u8
 
 // Bytes counted: how many characters fewer than two for each they say; and whether there are no three codes in a row of which the first two would be a
 // pair and the last two as well. Of such three it depends on what comes before them which two are one.
-#[derive(Drop)]
+#[derive(Clone, Copy)]
 struct Counted {
     pub saved: u8,
     pub apart: bool,
@@ -186,7 +188,7 @@ pub fn measure(s: &[u8]) -> Measured
 }
 
 // How far the text is put: the place after it, and the sign of its last character, with an 8.
-#[derive(Drop)]
+#[derive(Clone, Copy)]
 struct Place {
     pub n: usize,
     pub before: u32,

@@ -1,6 +1,8 @@
 // Compact Numeric ASCII (001, 4.3), written: whether a character has a code where it stands, how long the data of a text is, and the data. What our writer
 // builds is in numeric.
 
+#![tactic(auto)]
+
 ghost use Rattle.std.specs.Prelude.{◌≡◌, ◌+◌, ◌-◌, ◌*◌, ◌^◌, ◌<◌, ◌≤◌, T, length, take, get_or};
 ghost use Rattle.codes.specs.Chain.{codes};
 ghost use Rattle.codes.specs.Coded.{last_of};

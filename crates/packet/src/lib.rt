@@ -1,5 +1,7 @@
 // The parts of a packet, and a packet that was sent: definitions and laws; and how long a packet is.
 
+#![tactic(auto)]
+
 ghost use Rattle.std.specs.Prelude.{◌≡◌, ◌^◌, ◌<◌};
 ghost use Rattle.packet.specs.Packet.{whole_length};
 

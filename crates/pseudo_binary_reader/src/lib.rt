@@ -1,5 +1,7 @@
 // Compact Pseudo Binary read: the data measured, and its text put into a buffer.
 
+#![tactic(auto)]
+
 ghost use Rattle.std.specs.Prelude.{◌≡◌, List, ℕ, ◌+◌, ◌*◌, ◌/◌, ◌≤◌, ◌<◌, ◌^◌, length, take, drop, replicate};
 ghost use Rattle.bits.specs.Row.{bits};
 ghost use Rattle.codes.specs.Steps.BitBuffer.{ahead};
@@ -14,7 +16,7 @@ use bit_buffer::Buffer;
 use codes::Measured;
 
 // An indicator: how many bits it has, how many values it announces, and how often it says which character.
-#[derive(Drop)]
+#[derive(Clone, Copy)]
 struct Indicator {
     pub width: usize,
     pub values: usize,
@@ -112,14 +114,14 @@ fn top_at(s: &[u8], at: usize) -> u64
 }
 
 // How far data was read: the bit, and how many characters it said.
-#[derive(Drop)]
+#[derive(Clone, Copy)]
 struct Place {
     pub at: usize,
     pub n: usize,
 }
 
 // The same, and how many indicators and values were read.
-#[derive(Drop)]
+#[derive(Clone, Copy)]
 struct Counted {
     pub at: usize,
     pub codes: usize,

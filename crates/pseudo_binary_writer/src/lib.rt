@@ -1,5 +1,7 @@
 // Compact Pseudo Binary written: which characters have codes, how many bytes our data has, and the data.
 
+#![tactic(auto)]
+
 ghost use Rattle.std.specs.Prelude.{◌≡◌, ◌⊎◌, ◌+◌, ◌*◌, ◌/◌, ◌≤◌, ◌<◌, ◌^◌, length, take, drop};
 ghost use Rattle.std.specs.Int.Count.{count_leading_zeros};
 ghost use Rattle.codes.specs.Coded.{alone};
@@ -25,7 +27,7 @@ pub fn is_coded(c: u8) -> bool
 }
 
 // Codes to be sent: their bits as a number, how many they are, how many values are announced after them, and how many characters they say.
-#[derive(Drop)]
+#[derive(Clone, Copy)]
 struct Sent {
     pub bits: u64,
     pub width: u64,
@@ -159,7 +161,7 @@ fn next_indicator(text: &[u8], i: usize) -> Sent
 }
 
 // What an indicator and the values that it announces take: so many bits, for so many characters.
-#[derive(Drop)]
+#[derive(Clone, Copy)]
 struct Extent {
     pub bits: usize,
     pub count: usize,

@@ -1,5 +1,7 @@
 // Reads the packet at the front of standard input and prints one line. A program has no exit status: where a read of standard input fails, or the line
 // cannot be written, it says so on standard error, and in the first case prints no line.
+
+#![tactic(auto)]
 use libc::{STDERR_FILENO, STDOUT_FILENO};
 use standard_input::Input;
 

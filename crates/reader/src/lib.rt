@@ -1,4 +1,6 @@
 // The reader: the entry points `read` and `read_mending`.
+
+#![tactic(auto)]
 ghost use Rattle.terms.specs.Terms.{OnePacket, MayBeNamed, naming, usual};
 ghost use Rattle.examine.specs.declared.ExamineAnswer.TheVariants.{Readable};
 ghost use Rattle.examine.specs.Examine.{Examines};
@@ -8,7 +10,7 @@ use examine::{ExamineAnswer, Reading};
 use refusals::ReadRefusal;
 use terms::Terms;
 
-#[derive(Drop)]
+#[derive(Clone, Copy)]
 pub enum ReadAnswer {
     Accepted(Reading),
     Refused(ReadRefusal),

@@ -1,8 +1,9 @@
+#![tactic(auto)]
 ghost use Rattle.std.specs.Prelude.{◌≡◌};
 ghost use Rattle.refusals.specs.Refusals.{number_in, value_in, codes_told, examine_told, read_told, write_told};
 
 // Why a packet cannot be read, whatever the room for its text. The numbers are in specs/Refusals.antt.
-#[derive(Drop)]
+#[derive(Clone, Copy)]
 pub enum ExamineRefusal {
     TooManyBits,
     Short,
@@ -15,14 +16,14 @@ pub enum ExamineRefusal {
 }
 
 // Why it is not read into a buffer: the packet's own reason, or the buffer's.
-#[derive(Drop)]
+#[derive(Clone, Copy)]
 pub enum ReadRefusal {
     Packet(ExamineRefusal),
     NoRoom(usize),
 }
 
 // Why a text is not written.
-#[derive(Drop)]
+#[derive(Clone, Copy)]
 pub enum WriteRefusal {
     OtherFormat,
     Empty,

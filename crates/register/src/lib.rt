@@ -1,5 +1,7 @@
 // The register of the 16-bit checksum (document 001, 3.3): what it holds after bytes, worked out half a byte at a time from one table.
 
+#![tactic(auto)]
+
 ghost use Rattle.std.specs.Prelude.{◌≡◌, ◌+◌, ◌*◌, ◌/◌, ◌≤◌, ◌<◌, length, take, drop};
 ghost use Rattle.register.specs.Register.{bit_step, bit_steps, byte_step, start, checksum_from};
 ghost use Rattle.register.specs.Steps.Halves.{half_step, entries};
@@ -65,7 +67,7 @@ fn past_part(table: &[u16; 16], register: u16) -> u16
 }
 
 // What four registers hold, each after a part of the data: 24 bytes.
-#[derive(Drop)]
+#[derive(Clone, Copy)]
 struct Parts {
     first: u16,
     second: u16,

@@ -1,4 +1,7 @@
 // The bits of a received header that are wrong, told by the check bits: a table of what these and those worked out may differ in.
+
+#![tactic(auto)]
+
 ghost use Rattle.std.specs.Prelude.{◌≡◌, ◌+◌, ◌/◌, ◌%◌, ◌^◌, ◌≤◌, ◌<◌};
 ghost use Rattle.repair.specs.Steps.Repair.{Repairs};
 ghost use Rattle.repair.specs.Table.{entries, HasRule};
@@ -6,7 +9,7 @@ ghost use Rattle.repair.specs.Table.{entries, HasRule};
 mod differences;
 
 // What accounts for a difference between the check bits worked out and those received.
-#[derive(Drop)]
+#[derive(Clone, Copy)]
 pub enum Cause {
     // The bits to turn over, each a 1 at its place.
     Bits(u32),

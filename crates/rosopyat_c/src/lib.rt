@@ -1,4 +1,6 @@
 // The reader, the writer and the judging for C and Rust: their answers as plain structs.
+
+#![tactic(auto)]
 ghost use Rattle.std.specs.Prelude.{◌≡◌};
 ghost use Rattle.terms.specs.Terms.{naming, usual};
 ghost use Rattle.rosopyat_logger.specs.Replies.{RepliesToWrite};
@@ -13,7 +15,7 @@ use rosopyat_logger::WriteReply;
 
 // A packet that was read (`refusal` 0), or why not: then every member but `refusal`, `number` and `codes` is 0.
 #[repr(C)]
-#[derive(Drop)]
+#[derive(Clone, Copy)]
 pub struct ReadReply {
     pub refusal: u32,
     pub number: usize,
@@ -64,7 +66,7 @@ fn reply(answer: ReadAnswer) -> ReadReply
 
 // A packet that was judged (`refusal` 0), or why not: then `as_ours`, `departs_at` and `more` are 0.
 #[repr(C)]
-#[derive(Drop)]
+#[derive(Clone, Copy)]
 pub struct JudgeReply {
     pub refusal: u32,
     pub number: usize,

@@ -1,11 +1,13 @@
 // The writer for C: the one entry point that a logger needs, its answer as a plain struct.
+
+#![tactic(auto)]
 ghost use Rattle.rosopyat_logger.specs.Replies.{RepliesToWrite};
 
 use writer::WriteAnswer;
 
 // A packet that was written (`refusal` 0), or why not: then `length` is 0.
 #[repr(C)]
-#[derive(Drop)]
+#[derive(Clone, Copy)]
 pub struct WriteReply {
     pub refusal: u32,
     pub number: usize,

@@ -1,6 +1,8 @@
 // The data of a packet handed to its decoder: one section as the part of the packet where it lies, without a copy; several, which do not lie in one piece,
 // joined on the stack. Open data needs no decoder: its sections, one or several, are joined right in the text buffer.
 
+#![tactic(auto)]
+
 ghost use Rattle.std.specs.Prelude.{◌++◌, ◌≡◌, ◌≤◌, length, drop};
 ghost use Rattle.codes.specs.Steps.Measure.{TakesApart};
 ghost use Rattle.formats.specs.Data.{CarriesIn, UnreadableAfter};
@@ -44,7 +46,7 @@ fn put_open(n: usize, came: &[u8], out: &mut [u8]) -> usize
         sections::join(n, came, out);
         return n;
     }
-    bytes::copy(&came[0..n], out)
+    rows::copy(&came[0..n], out)
 }
 
 // The text of several sections, at the front of the buffer; its length.

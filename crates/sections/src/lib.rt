@@ -1,6 +1,8 @@
 // The data of a message in sections, each with its checksum behind it (document 001, 3.3): judged and joined where they were received, made where they are
 // sent.
 
+#![tactic(auto)]
+
 ghost use Rattle.std.specs.Prelude.{◌++◌, ◌≡◌, ◌+◌, ◌-◌, ◌*◌, ◌%◌, ◌^◌, ◌≤◌, ◌<◌, length, take, drop};
 ghost use Rattle.checksum.specs.Checksum.{checksum_bytes};
 ghost use Rattle.sections.specs.Sections.{section_count, sent_length, size_of, in_sections, joined};
@@ -8,14 +10,14 @@ ghost use Rattle.sections.specs.Steps.Moved.{moved_up};
 ghost use Rattle.sections.specs.Steps.Sums.{Judges};
 
 // The checksums of all sections: right, or the first section whose is not.
-#[derive(Drop)]
+#[derive(Clone, Copy)]
 pub enum Sums {
     Right,
     Wrong(usize),
 }
 
 // How many bytes sections have.
-#[derive(Drop)]
+#[derive(Clone, Copy)]
 pub struct Section;
 
 impl Section {
@@ -76,7 +78,7 @@ pub fn join(n: usize, came: &[u8], out: &mut [u8])
         let start = k * Section::STEP;
         let end = start + size(n, k);
         let place = k * Section::MOST;
-        bytes::copy(&came[start..end], &mut out[place..]);
+        rows::copy(&came[start..end], &mut out[place..]);
         k += 1;
     }
 }

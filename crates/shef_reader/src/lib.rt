@@ -1,5 +1,7 @@
 // Compact SHEF Alphanumeric ASCII (001, 4.4), read: how long the text of its data is, or where the data is malformed; and the text. The table is in shef.
 
+#![tactic(auto)]
+
 ghost use Rattle.std.specs.Prelude.{◌≡◌, ℕ, ◌+◌, ◌-◌, ◌*◌, ◌/◌, ◌%◌, ◌^◌, ◌<◌, ◌≤◌, true, length};
 ghost use Rattle.bits.specs.Row.{bits};
 ghost use Rattle.codes.specs.Pack.{low};

@@ -1,6 +1,8 @@
 // Compact SHEF Alphanumeric ASCII (001, 4.4), written: whether a character has a code, how long the data of a text is, and the data. What our writer builds is
 // in shef.
 
+#![tactic(auto)]
+
 ghost use Rattle.std.specs.Prelude.{◌≡◌, ◌+◌, ◌-◌, ◌*◌, ◌^◌, ◌<◌, ◌≤◌, T, length};
 ghost use Rattle.codes.specs.Chain.{codes};
 ghost use Rattle.codes.specs.Coded.{alone};

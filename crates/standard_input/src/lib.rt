@@ -1,11 +1,13 @@
 // Standard input, read into a buffer.
+
+#![tactic(auto)]
 ghost use Rattle.std.specs.Prelude.{◌≡◌, length};
 ghost use Rattle.standard_input.specs.Steps.Input.{after_read, Fits, Within};
 
 use libc::STDIN_FILENO;
 
 // Standard input so far: so many bytes and more to come, so many and no more, or a read that failed.
-#[derive(Drop)]
+#[derive(Clone, Copy)]
 pub enum Input {
     More(usize),
     Whole(usize),

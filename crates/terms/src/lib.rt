@@ -1,9 +1,11 @@
 // What a caller sets of reading and writing.
+
+#![tactic(auto)]
 ghost use Rattle.std.specs.Prelude.{◌≡◌};
 ghost use Rattle.terms.specs.Terms.{most_at, naming, usual};
 
 // The most header bits to mend, and the most data bytes.
-#[derive(Drop)]
+#[derive(Clone, Copy)]
 pub struct Terms {
     pub mend: u32,
     pub most: u16,

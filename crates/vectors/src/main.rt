@@ -5,6 +5,8 @@
 // one that comes with it and the codes. In a case `r` it then prints what is judged of it: `ours` and how many bytes more than ours the data has, or
 // `departs`, the bit and how many, or the refusal as before. Then for each packet or text the answer's line; for a packet `codes` and how many were read; and
 // the number that comes with a refusal, or the bytes used, then the lent buffer's Adler-32, and its first 512 bytes.
+
+#![tactic(auto)]
 ghost use Rattle.std.specs.Prelude.{◌≡◌, length};
 
 use apart::{Comparison, Judgement};

@@ -1,4 +1,6 @@
 // The writer: the entry point `write`.
+
+#![tactic(auto)]
 ghost use Rattle.std.specs.Prelude.{◌++◌, ◌≡◌, ◌+◌, ◌^◌, ◌≤◌, ◌<◌, length, take, drop};
 ghost use Rattle.header.specs.Fields.{bytes_of};
 ghost use Rattle.formats.specs.Data.{AllCoded, data_of};
@@ -11,7 +13,7 @@ use header::{Format, Header, WhichFormat};
 use refusals::WriteRefusal;
 use terms::Terms;
 
-#[derive(Drop)]
+#[derive(Clone, Copy)]
 pub enum WriteAnswer {
     Written(usize),
     Refused(WriteRefusal),
