@@ -1,0 +1,43 @@
+-- `sections::judge` meets its contract.
+-- Assumes nothing.
+use Rattle.bits.specs.Says.{Says}
+use Rattle.bits.proofs.Below.{below_next}
+use Rattle.bits.proofs.Said.{said-yes, said-no}
+use Rattle.sections.proofs.Lent.{tested}
+use Prim.Native.Nat.{◌-◌}
+use native.Mathlib.Omega.{arith}
+use Rattle.sections.specs.Sections.{RightSum}
+use Rattle.sections.proofs.judge.Goals.{After-agrees}
+use Rattle.sections.proofs.judge.Goals as goal
+
+-- ---- the facts, by place
+
+tested_at : (c : After-agrees) → Says c.agrees.result (RightSum c.args.n c.args.came.now c.loop-k.k)
+tested_at c =
+    tested c.args.n c.loop-k.k c.size.result c.args.came.now
+    c.size.ensures (omega arith) c.agrees.result c.agrees.ensures
+
+pub loop-k-init : goal.loop-k-init
+loop-k-init c = (omega arith, λ j lt. absurd (omega (arith, lt)))
+
+pub returns-then-not-agrees : goal.returns-then-not-agrees
+returns-then-not-agrees c =
+    let l = c in
+    record {
+      there = omega (arith, l.loop-k.invariant.0);
+      before = l.loop-k.invariant.1;
+      wrong = said-no c.agrees.result (tested_at (goal.at.returns-then-not-agrees c).After-agrees) c.if-not-agrees.true;
+    }
+
+pub loop-k-preserved : goal.loop-k-preserved
+loop-k-preserved c =
+    let a = c in let a' = (goal.at.loop-k-preserved c).After-agrees in
+    let l = a' in (
+      omega arith,
+      λ j lt.
+          below_next (RightSum a.args.n a.args.came.now) l.loop-k.k l.loop-k.invariant.1
+          (said-yes a.agrees.result (tested_at a') c.if-not-agrees.false) j (omega (arith, lt)),
+    )
+
+pub returns : goal.returns
+returns c k lt = c.loop-k.invariant.1 k (omega arith)
