@@ -1,7 +1,7 @@
 -- Tables with one code for a line end: each other entry says one character that is part of none. What holds of texts cut into pieces holds of them, by
 -- tests that compute.
 -- Assumes nothing.
-use mathlib.Core.Path.{◌≡◌, refl, subst, subst⁻¹}
+use mathlib.Core.Path.{◌≡◌, refl, subst⁻¹}
 use mathlib.Core.Bool.{Bool, true, false, not, cond, ◌&&◌}
 use mathlib.Core.Logic.{◌⊎◌, inl, inr}
 use mathlib.Core.List.{List, [], ◌∷◌, ◌++◌}

@@ -1,6 +1,6 @@
 -- Entries looked up in a table: what is found passes the test and stands in the table; and where no two entries are alike, each is found.
 -- Assumes nothing.
-use mathlib.Core.Path.{◌≡◌, refl, ap₂, subst, subst⁻¹, ◌∙◌}
+use mathlib.Core.Path.{◌≡◌, refl, ap₂, subst⁻¹, ◌∙◌}
 use mathlib.Core.Bool.{Bool, true, false, not, cond, ◌&&◌}
 use mathlib.Core.Logic.{◌⊎◌, inl, inr, ⊎_elim}
 use mathlib.Core.List.Memᴰ

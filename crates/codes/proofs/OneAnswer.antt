@@ -12,9 +12,7 @@ use Rattle.codes.specs.Chain.{Scheme}
 use Rattle.codes.specs.Steps.Laid.{laid, Placed, Fronted}
 use Rattle.codes.specs.Steps.Measure.{Measures, TakesApart}
 use Rattle.codes.specs.declared.Measured.{Measured}
-use Rattle.codes.specs.declared.Measured.TheVariants as Measured
 use Rattle.codes.specs.declared.Outcome.{Outcome}
-use Rattle.codes.specs.declared.Outcome.TheVariants as Outcome
 use Rattle.codes.specs.Coded.{CodedBelow, FirstUncoded}
 use Rattle.codes.specs.Steps.Size.{FindsUncoded, Needs}
 use Rattle.codes.specs.declared.Needed.{Needed}

@@ -5,7 +5,7 @@ use mathlib.Core.Path.{◌≡◌, sym, ap, ap₂, ◌∙◌}
 use Prim.Native.Nat.{ℕ, ◌+◌, ◌*◌, ◌<◌}
 use native.Mathlib.Omega.{arith}
 use lib.ListN.{length, length-append, replicate}
-use Rattle.bits.specs.Row.{bits, Bytes}
+use Rattle.bits.specs.Row.{Bytes}
 use Rattle.codes.specs.Chain.{Entry, Scheme, codes, Built}
 use Rattle.codes.specs.Pack.{packed}
 use Rattle.codes.proofs.BitsInBytes.{length-bits, packed-bits}

@@ -1,13 +1,13 @@
 -- Sections of which one came otherwise than it was sent: it is the first whose checksum is wrong.
 -- Assumes nothing.
 use mathlib.Core.List.{List, [], ◌++◌, append_assoc, append-nil}
-use mathlib.Core.Path.{◌≡◌, sym, ap, ◌∙◌, subst, subst₂}
-use Prim.Native.Nat.{ℕ, suc, ◌+◌, ◌-◌, ◌*◌, ◌/◌, ◌<◌, ◌≤◌, min}
+use mathlib.Core.Path.{◌≡◌, sym, ap, ◌∙◌, subst}
+use Prim.Native.Nat.{ℕ, suc, ◌+◌, ◌-◌, ◌<◌}
 use native.Mathlib.Omega.{arith}
 use lib.ListN.{length, length-append}
 use Rattle.checksum.specs.Checksum.{checksum_bytes}
 use Rattle.sections.specs.Sections.{section_count, sent_length, in_turn, section, sent_section, in_sections, besides, size_of, section_in, sum_behind, RightSum, FirstWrong}
-use Rattle.sections.proofs.Found.{section-found, sum-found, section-length, sent-section-length, sent-before, sent-length, sent-right}
+use Rattle.sections.proofs.Found.{section-found, sum-found, section-length, sent-before, sent-length, sent-right}
 use Rattle.sections.proofs.Turns.{turns_at}
 
 module _ (carried : List ℕ) (k : ℕ) (there : k < section_count (length carried)) where

@@ -2,11 +2,11 @@
 -- Assumes nothing.
 use mathlib.Core.List.{List, [], ◌++◌, append_assoc, append-nil}
 use mathlib.Core.Path.{◌≡◌, refl, sym, ap, ap₂, ◌∙◌}
-use Prim.Native.Nat.{ℕ, zero, suc, ◌+◌, ◌-◌, ◌*◌, ◌/◌, ◌<◌, ◌≤◌, min}
+use Prim.Native.Nat.{ℕ, zero, suc, ◌+◌, ◌-◌, ◌*◌, ◌<◌, ◌≤◌, min}
 use native.Mathlib.Decide.{dec_lt}
 use native.Mathlib.Omega.{arith}
 use lib.ListN.{length, take, drop, length-append, length-take, length-drop, take-append-drop}
-use lib.Seq.{take_at, take_all, take-add, drop_at, drop-drop, drop-append-le, length-take-le}
+use lib.Seq.{take_at, take_all, take-add, drop_at, drop-drop, length-take-le}
 use Rattle.checksum.specs.Checksum.{checksum_bytes}
 use Rattle.checksum.proofs.Row.{checksum-bytes-length}
 use Rattle.sections.specs.Sections.{section_count, sent_length, in_turn, section, sent_section, in_sections, size_of, section_in, sum_behind, joined, RightSum, RightSums}

@@ -3,7 +3,6 @@
 use mathlib.Core.Path.{◌≡◌, sym, ap, subst, subst⁻¹, ◌∙◌}
 use Prim.Native.Nat.{ℕ, ◌+◌, ◌-◌, ◌*◌, ◌^◌, ◌<◌}
 use native.Mathlib.Omega.{arith}
-use Rattle.bits.specs.Row.{bits}
 use Rattle.codes.specs.Pack.{low}
 use Rattle.codes.specs.Steps.BitBuffer.{ahead}
 use Rattle.codes.proofs.BitBuffer.{ahead-byte}

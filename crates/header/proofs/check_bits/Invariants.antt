@@ -1,7 +1,7 @@
 -- `header::check_bits` meets its contract: what the steps still to come leave of the number is what all of them leave of the information.
 -- Assumes nothing.
 use mathlib.Core.Path.{◌≡◌}
-use Prim.Native.Nat.{ℕ, ◌+◌, ◌-◌, ◌%◌, ◌^◌, ◌≤◌, ◌<◌}
+use Prim.Native.Nat.{ℕ, ◌+◌, ◌%◌, ◌^◌, ◌≤◌, ◌<◌}
 use Rattle.header.specs.Check.{remainder, check_of}
 use Rattle.header.proofs.check_bits.Given as goal
 

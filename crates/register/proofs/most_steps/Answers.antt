@@ -1,7 +1,7 @@
 -- `register::most_steps` meets its contract. The loop's invariant: the register after the bytes before a place, a multiple of 96.
 -- Assumes nothing.
 use mathlib.Core.Path.{◌≡◌, refl, ap, ◌∙◌}
-use Prim.Native.Nat.{ℕ, ◌*◌, ◌-◌, ◌/◌}
+use Prim.Native.Nat.{ℕ, ◌*◌, ◌/◌}
 use native.Mathlib.Omega.{arith}
 use lib.ListN.{length, take, drop}
 use Rattle.register.specs.Register.{checksum_from}

@@ -1,7 +1,7 @@
 -- `register::side_by_side` meets its contract. The loop's invariant: so many bytes of each part have passed.
 -- Assumes nothing.
 use mathlib.Core.Path.{◌≡◌, refl, subst}
-use Prim.Native.Nat.{ℕ, ◌+◌, ◌-◌, ◌≤◌}
+use Prim.Native.Nat.{ℕ, ◌+◌, ◌≤◌}
 use native.Mathlib.Omega.{arith}
 use Rattle.register.specs.Steps.Parts.{SideBySide}
 use Rattle.register.proofs.Together.{none-taken, one_more}

@@ -1,6 +1,5 @@
 -- `sections::divide` meets its contract.
 -- Assumes nothing.
-use Prim.Native.Nat.{◌-◌}
 use Rattle.sections.proofs.Dividing.{Divided}
 use Rattle.sections.proofs.divide.Given as goal
 

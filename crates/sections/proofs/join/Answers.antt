@@ -3,7 +3,7 @@
 use Rattle.sections.proofs.Lent.{join-next}
 use mathlib.Core.List.{◌++◌}
 use mathlib.Core.Path.{◌≡◌, refl, ap, ap₂, ◌∙◌}
-use Prim.Native.Nat.{ℕ, ◌+◌, ◌-◌, ◌*◌, min}
+use Prim.Native.Nat.{ℕ, ◌*◌, min}
 use native.Mathlib.Omega.{arith}
 use lib.ListN.{drop}
 use Rattle.sections.specs.Sections.{section_count, in_turn, section_in, joined}

@@ -2,7 +2,7 @@
 -- Assumes nothing.
 use mathlib.Core.List.{◌++◌}
 use mathlib.Core.Path.{◌≡◌}
-use Prim.Native.Nat.{◌+◌, ◌-◌, ◌*◌, ◌≤◌, min}
+use Prim.Native.Nat.{◌-◌, ◌*◌, ◌≤◌, min}
 use lib.ListN.{length, drop}
 use Rattle.sections.specs.Sections.{section_count, in_turn, section_in}
 use Rattle.sections.proofs.join.Given as goal

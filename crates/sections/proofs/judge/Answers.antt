@@ -4,7 +4,6 @@ use Rattle.bits.specs.Says.{Says}
 use Rattle.bits.proofs.Below.{below_next}
 use Rattle.bits.proofs.Said.{said-yes, said-no}
 use Rattle.sections.proofs.Lent.{tested}
-use Prim.Native.Nat.{◌-◌}
 use native.Mathlib.Omega.{arith}
 use Rattle.sections.specs.Sections.{RightSum}
 use Rattle.sections.proofs.judge.Goals.{After-agrees}

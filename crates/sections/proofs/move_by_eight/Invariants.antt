@@ -1,7 +1,7 @@
 -- `sections::move_by_eight` meets its contract.
 -- Assumes nothing.
 use mathlib.Core.Path.{◌≡◌}
-use Prim.Native.Nat.{◌-◌, ◌%◌, ◌≤◌}
+use Prim.Native.Nat.{◌%◌, ◌≤◌}
 use Rattle.sections.specs.Steps.Moved.{moved_up}
 use Rattle.sections.proofs.move_by_eight.Given as goal
 

@@ -1,0 +1,9 @@
+-- `numeric_writer::own_codes` meets its contract. Assumes nothing.
+use native.Mathlib.Omega.{arith}
+use Rattle.numeric_writer.proofs.Sending.{own-some}
+use Rattle.numeric_writer.proofs.own_codes.Goals as goal
+
+pub returns : goal.returns
+returns c =
+    let e = c in
+    own-some e.args.before e.args.c c.packed_codes-packed.result (omega arith) c.packed_codes-packed.ensures (omega arith) (omega arith)

@@ -1,0 +1,14 @@
+-- `shef_reader::measure` meets its contract. The loop's invariant: the codes that were passed leave what is beyond the place.
+-- Assumes nothing.
+use Rattle.std.proofs.Common.{◌+◌, ◌-◌, ◌*◌, ◌<◌, ◌≤◌, length}
+use Rattle.bits.specs.Row.{bits}
+use Rattle.codes.specs.Steps.Passed.{CountedSoFar}
+use Rattle.codes.specs.Steps.Words.{beyond}
+use Rattle.shef.specs.Table.{scheme}
+use Rattle.shef_reader.proofs.measure.Given as goal
+
+abbrev pub invariant-loop-next : goal.invariant-loop-next
+invariant-loop-next l = (l.skip < 8) × (l.next * 8 + l.skip ≤ length l.s * 8) × (l.n ≤ l.next * 8 + l.skip) × CountedSoFar scheme (bits l.s) (beyond l.s l.next l.skip) l.n l.codes
+
+abbrev pub decreases-loop-next : goal.decreases-loop-next
+decreases-loop-next l = length l.s * 8 - (l.next * 8 + l.skip)

@@ -1,0 +1,54 @@
+-- `shef_reader::put_text` meets its contract. Assumes nothing.
+use Rattle.std.proofs.Common.{◌≡◌, ℕ, ◌+◌, ◌-◌, List, length, subst, arith}
+use mathlib.Core.Path.{subst⁻¹}
+use Rattle.bits.specs.Numbers.{numbers}
+use Rattle.bits.specs.Row.{bits}
+use Rattle.codes.specs.Steps.Laid.{Readable}
+use Rattle.codes.proofs.ReadSoFar.{laying-later, laying-last}
+use Rattle.codes.specs.Steps.Passed.{LaidSoFar}
+use Rattle.shef.specs.Table.{scheme}
+use Rattle.shef.proofs.Table.{laws}
+use Rattle.codes.specs.Pack.{low}
+use Rattle.numeric.specs.Table.{characters}
+use Rattle.shef_reader.proofs.Six.{twice, firsts, firsts-right}
+use Rattle.shef_reader.proofs.put_text.Goals.{After-last_bits-b}
+use Rattle.shef_reader.proofs.put_text.Goals as goal
+
+-- the row in the code is the one that the table gives
+pub read_words-place-requires : goal.read_words-place-requires
+unfolding firsts twice characters numbers
+read_words-place-requires c = (c.requires.1, firsts-right)
+
+-- the codes that were passed leave the last bits, and their text is laid
+laying : (b : After-last_bits-b)
+    → LaidSoFar scheme (bits b.args.s.now)
+    (low b.last_bits-b.result.have b.last_bits-b.result.held) b.args.out.now
+    b.read_words-place.new.out 0 b.read_words-place.result.n
+laying b =
+    let w = b in
+    let e = w in
+    subst⁻¹ (λ (l : List ℕ). LaidSoFar scheme (bits e.args.s.now) l e.args.out.now w.read_words-place.new.out 0 w.read_words-place.result.n)
+    b.last_bits-b.ensures.same w.read_words-place.ensures.2
+
+pub read_last-requires : goal.read_last-requires
+unfolding firsts twice characters numbers
+read_last-requires c =
+    let b = c in let b' = (goal.at.read_last-requires c).After-last_bits-b in
+    let w = b' in
+    let e = w in
+    let last = low b.last_bits-b.result.have b.last_bits-b.result.held in
+    let out = w.read_words-place.new.out in
+    let n = w.read_words-place.result.n in
+    let same : length out ≡ length e.args.out.now = w.read_words-place.auto.out in (
+      omega (arith, b.last_bits-b.ensures.size, w.read_words-place.ensures.0.few),
+      omega (arith, same, w.read_words-place.ensures.1),
+      subst (Readable scheme last) (let x : 0 + length e.args.out.now - n ≡ length out - n = omega (arith, same) in x)
+          (laying-later (laying b') laws e.requires.1),
+      firsts-right,
+    )
+
+pub returns : goal.returns
+returns c =
+    let l = c in
+    let b = l in
+    laying-last (laying (goal.at.returns c).After-last_bits-b) b.read_words-place.ensures.1 l.read_last.ensures
