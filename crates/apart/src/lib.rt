@@ -1,6 +1,7 @@
 // Where two rows of bytes part: the first bit at which they differ; and how another maker's data compares with ours.
 
 #![tactic(auto)]
+
 ghost use Rattle.std.specs.Prelude.{◌≡◌, ◌<◌, length};
 ghost use Rattle.codes.specs.Steps.Measure.{countable};
 ghost use Rattle.apart.specs.Comparison.{Against};

@@ -57,7 +57,7 @@ passed-values {bs} {codes} (suc m) rest said h k p =
     subst (λ (l : List ℕ). Passed scheme bs 0 l (said ++ (character_of v ∷ characters_in m (drop 6 rest))) (codes + suc m))
     (drop-drop (6 * m) 6 rest ∙ ap (λ (n : ℕ). drop n rest) (let e : 6 + 6 * m ≡ 6 * suc m = omega arith in e))
     (subst₂ (Passed scheme bs 0 (drop (6 * m) (drop 6 rest))) (append_assoc said (character_of v ∷ []) (characters_in m (drop 6 rest))) more
-    (passed-values m (drop 6 rest) (said ++ (character_of v ∷ [])) (binary-drop 6 rest h) (omega (arith, length-drop 6 rest)) one))
+    (passed-values {bs = bs} {codes = codes + 1} m (drop 6 rest) (said ++ (character_of v ∷ [])) (binary-drop 6 rest h) (omega (arith, length-drop 6 rest)) one))
 
 -- fewer than six bits begin no value
 no_value : (m : ℕ) (rest : List ℕ) → length rest < 6 → (e : Entry) → In e (tables (suc m)) → Begins e.code rest → ⊥

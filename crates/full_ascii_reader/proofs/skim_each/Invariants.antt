@@ -1,0 +1,13 @@
+-- `full_ascii_reader::skim_each` meets its contract. The loop's invariant: the codes that were passed leave the lowest `left` bits.
+-- Assumes nothing.
+use Prim.Native.Nat.{◌+◌, ◌≤◌}
+use Rattle.codes.specs.Pack.{low}
+use Rattle.codes.specs.Steps.Passed.{CountedSoFar}
+use Rattle.full_ascii.specs.Table.{scheme}
+use Rattle.full_ascii_reader.proofs.skim_each.Given as goal
+
+abbrev pub invariant-loop-left : goal.invariant-loop-left
+invariant-loop-left l = (l.count + l.left ≤ l.have) × CountedSoFar scheme (low l.have l.held) (low l.left l.held) l.count l.codes
+
+abbrev pub decreases-loop-left : goal.decreases-loop-left
+decreases-loop-left l = l.left
