@@ -1,6 +1,7 @@
 // What is found out about a packet without a text buffer: the entry points `examine` and `examine_mending`.
 
 #![tactic(auto)]
+
 ghost use Rattle.terms.specs.Terms.{OnePacket, MayBeNamed, naming, usual};
 ghost use Rattle.examine.specs.Examine.{Examines};
 ghost use Rattle.examine.specs.Steps.Reading.{HeaderFound, FindsHeader, SumsRight};

@@ -1,6 +1,7 @@
 // Lines of text: words, numbers in decimal and hexadecimal, each after a single space.
 
 #![tactic(auto)]
+
 ghost use Rattle.std.specs.Prelude.{[], ◌∷◌, ◌++◌, ◌≡◌, ◌+◌, ◌≤◌, ◌<◌, length};
 ghost use Rattle.codes.specs.Steps.Laid.{Fronted};
 ghost use Rattle.lines.specs.Line.{decimal, decimals, hexadecimal_digit, hexadecimal, spaced, refused, line};

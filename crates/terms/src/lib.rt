@@ -1,6 +1,7 @@
 // What a caller sets of reading and writing.
 
 #![tactic(auto)]
+
 ghost use Rattle.std.specs.Prelude.{◌≡◌};
 ghost use Rattle.terms.specs.Terms.{most_at, naming, usual};
 

@@ -1,6 +1,6 @@
 -- `full_ascii_reader::put_each` meets its contract. The loop's invariant: the codes that were passed leave the lowest `left` bits, and their text is laid.
 -- Assumes nothing.
-use Prim.Native.Nat.{◌+◌, ◌-◌, ◌≤◌}
+use Prim.Native.Nat.{◌+◌, ◌≤◌}
 use Rattle.codes.specs.Pack.{low}
 use Rattle.codes.specs.Steps.Passed.{LaidSoFar}
 use Rattle.full_ascii.specs.Table.{scheme}

@@ -1,6 +1,6 @@
 -- `full_ascii_reader::read_last` meets its contract. The loop's invariant: the codes that were passed leave the lowest `left` bits, and their text is laid.
 -- Assumes nothing.
-use Prim.Native.Nat.{◌-◌, ◌≤◌}
+use Prim.Native.Nat.{◌≤◌}
 use lib.ListN.{length}
 use Rattle.codes.specs.Pack.{low}
 use Rattle.codes.specs.Steps.Passed.{LaidSoFar}

@@ -19,6 +19,6 @@ returns-in-32-to-63 c = sends_lower c.args.c (omega arith) (omega arith) (omega 
 pub returns-in_default : goal.returns-in_default
 returns-in_default c =
     elim c.in_default.branch [
-      in_default-via-then-c-lt32 w ↦ absurd (no_other c.args.c c.requires (omega arith) (omega arith) (omega arith) (omega arith))
-    | in_default-via-else-c-lt32+else-c-lt64 w ↦ sends-upper c.args.c (omega arith) (omega (arith, coded-most c.args.c c.requires)) (omega arith) (omega arith)
+      | in_default-via-then-c-lt32 w ↦ absurd (no_other c.args.c c.requires (omega arith) (omega arith) (omega arith) (omega arith))
+      | in_default-via-else-c-lt32+else-c-lt64 w ↦ sends-upper c.args.c (omega arith) (omega (arith, coded-most c.args.c c.requires)) (omega arith) (omega arith)
     ]

@@ -1,6 +1,6 @@
 -- `numeric_reader::count_block` meets its contract. The loop's invariant: the bytes up to the place are passed, if nothing forbade it. Assumes nothing.
 use mathlib.Core.Path.{◌≡◌, subst}
-use Prim.Native.Nat.{ℕ, ◌-◌}
+use Prim.Native.Nat.{ℕ}
 use native.Mathlib.Omega.{arith}
 use Rattle.numeric_reader.specs.Steps.Reached.{Counts}
 use Rattle.numeric_reader.proofs.Counting.{both_true, counts-none, counts-more}

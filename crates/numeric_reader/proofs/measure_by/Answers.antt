@@ -108,10 +108,10 @@ pub loop-i-preserved : goal.loop-i-preserved
 unfolding entry-2
 loop-i-preserved c =
     elim c.if-before-entry-eq0.branch [
-      then-before-entry-eq0 w ↦ step c (record { fewer = 0; before = entry-2 c / 256 % 256 })
-        (passes_none c.loop-i.before c.loop-i.invariant.3 (entry-2 c) (is-entry-2 c) w.if-before-entry-eq0.true)
-        (omega arith) (omega (arith, w.saved-is)) (omega (arith, w.before-is))
-    | else-before-entry-eq0 w ↦ step c w.pass_pair-p.result w.pass_pair-p.ensures (omega arith) w.saved-is w.before-is
+      | then-before-entry-eq0 w ↦ step c (record { fewer = 0; before = entry-2 c / 256 % 256 })
+          (passes_none c.loop-i.before c.loop-i.invariant.3 (entry-2 c) (is-entry-2 c) w.if-before-entry-eq0.true)
+          (omega arith) (omega (arith, w.saved-is)) (omega (arith, w.before-is))
+      | else-before-entry-eq0 w ↦ step c w.pass_pair-p.result w.pass_pair-p.ensures (omega arith) w.saved-is w.before-is
     ]
 
 pub overflow_sub-result : goal.overflow_sub-result

@@ -1,7 +1,7 @@
 -- `numeric_reader::put_by` meets its contract. The loop's invariant: the text of the codes of the bytes before i is put. Assumes nothing.
 use mathlib.Core.List.{List, ◌∷◌}
 use mathlib.Core.Path.{ap, subst, subst⁻¹}
-use Prim.Native.Nat.{ℕ, ◌+◌, ◌-◌, ◌%◌}
+use Prim.Native.Nat.{ℕ, ◌+◌, ◌%◌}
 use native.Mathlib.Omega.{arith}
 use lib.ListN.{get_or, drop, drop_of_length-le}
 use Rattle.numeric.specs.Steps.Text.{spelled, text_of}

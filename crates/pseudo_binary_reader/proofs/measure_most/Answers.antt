@@ -1,6 +1,6 @@
 -- `pseudo_binary_reader::measure_most` meets its contract. The loop's invariant: the indicators and values that were passed leave what follows bit `at`.
 -- Assumes nothing.
-use Prim.Native.Nat.{◌-◌, ◌/◌, ◌^◌}
+use Prim.Native.Nat.{◌/◌, ◌^◌}
 use native.Mathlib.Omega.{arith}
 use lib.ListN.{drop}
 use Rattle.bits.specs.Row.{bits}

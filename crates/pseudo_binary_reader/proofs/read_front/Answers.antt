@@ -1,7 +1,7 @@
 -- `pseudo_binary_reader::read_front` meets its contract. The loop's invariant: the indicators and values that were passed leave what follows bit `at`, and
 -- their text is laid. Assumes nothing.
 use mathlib.Core.Path.{◌≡◌}
-use Prim.Native.Nat.{◌-◌, ◌/◌, ◌^◌}
+use Prim.Native.Nat.{◌/◌, ◌^◌}
 use native.Mathlib.Omega.{arith}
 use lib.ListN.{length, drop}
 use Rattle.bits.specs.Row.{bits}

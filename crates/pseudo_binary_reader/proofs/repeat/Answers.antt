@@ -1,7 +1,7 @@
 -- `pseudo_binary_reader::repeat` meets its contract. The loop's invariant: the character is laid `done` times.
 -- Assumes nothing.
 use mathlib.Core.Path.{◌≡◌, sym, ap, ◌∙◌}
-use Prim.Native.Nat.{ℕ, ◌-◌}
+use Prim.Native.Nat.{ℕ}
 use native.Mathlib.Omega.{arith}
 use lib.ListN.{length, replicate}
 use Rattle.codes.specs.Steps.Laid.{laid}

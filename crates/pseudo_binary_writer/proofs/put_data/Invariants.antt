@@ -1,7 +1,7 @@
 -- `pseudo_binary_writer::put_data` meets its contract. The loop's invariant: the data is put so far that the announced values and our entries for the text
 -- after them are still to come. Assumes nothing.
 use mathlib.Core.List.{List}
-use Prim.Native.Nat.{ℕ, ◌+◌, ◌-◌, ◌≤◌}
+use Prim.Native.Nat.{ℕ, ◌+◌, ◌≤◌}
 use lib.ListN.{length, take, drop}
 use Rattle.codes.specs.Chain.{codes}
 use Rattle.codes.specs.Steps.Sending.{PutSoFar}

@@ -1,6 +1,6 @@
 -- `shef_reader::read_last` meets its contract. The loop's invariant: the codes that were passed leave the lowest `left` bits, and their text is laid.
 -- Assumes nothing.
-use Rattle.std.proofs.Common.{◌-◌, ◌≤◌, length}
+use Rattle.std.proofs.Common.{◌≤◌, length}
 use Rattle.codes.specs.Pack.{low}
 use Rattle.codes.specs.Steps.Passed.{LaidSoFar}
 use Rattle.shef.specs.Table.{scheme}

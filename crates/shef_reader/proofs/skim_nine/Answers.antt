@@ -1,6 +1,6 @@
 -- `shef_reader::skim_nine` meets its contract. The loop's invariant: the lowest `left` bits stand at the top of the word, and, where the count shows no six
 -- ones, they are what the codes that were passed leave. Assumes nothing.
-use Rattle.std.proofs.Common.{◌≡◌, ℕ, ◌+◌, ◌-◌, ◌/◌, ◌^◌, ◌<◌, ◌≤◌, get_or, refl, arith}
+use Rattle.std.proofs.Common.{◌≡◌, ℕ, ◌+◌, ◌/◌, ◌^◌, ◌<◌, ◌≤◌, get_or, refl, arith}
 use Rattle.codes.specs.Pack.{low}
 use Rattle.codes.proofs.ReadSoFar.{counting-none}
 use Rattle.codes.proofs.TakenCodes.{counted-code}

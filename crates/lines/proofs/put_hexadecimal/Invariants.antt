@@ -1,0 +1,11 @@
+-- `lines::put_hexadecimal` meets its contract. The invariant: what the lowest digits still put makes the whole.
+-- Assumes nothing.
+use Prim.Native.Nat.{◌-◌}
+use Rattle.lines.proofs.Putting.{DigitsLeft}
+use Rattle.lines.proofs.put_hexadecimal.Given as goal
+
+abbrev pub invariant-loop-places : goal.invariant-loop-places
+invariant-loop-places l = DigitsLeft l.n l.initial.out l.at l.out l.end l.places
+
+abbrev pub decreases-loop-places : goal.decreases-loop-places
+decreases-loop-places l = l.places
