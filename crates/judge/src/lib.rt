@@ -1,6 +1,7 @@
 // Judging other makers' transmitters: the entry point `judge`. No buffer is asked for: text and data stand on the stack (docs/DECISIONS.md has why).
 
 #![tactic(auto)]
+
 ghost use Rattle.std.specs.Prelude.{true, false, ◌≤◌, length};
 ghost use Rattle.formats.specs.Data.{data_of};
 ghost use Rattle.sections.specs.Sections.{joined};

@@ -1,6 +1,7 @@
 // The reader: the entry points `read` and `read_mending`.
 
 #![tactic(auto)]
+
 ghost use Rattle.terms.specs.Terms.{OnePacket, MayBeNamed, naming, usual};
 ghost use Rattle.examine.specs.declared.ExamineAnswer.TheVariants.{Readable};
 ghost use Rattle.examine.specs.Examine.{Examines};

@@ -1,6 +1,7 @@
 // The writer: the entry point `write`.
 
 #![tactic(auto)]
+
 ghost use Rattle.std.specs.Prelude.{◌++◌, ◌≡◌, ◌+◌, ◌^◌, ◌≤◌, ◌<◌, length, take, drop};
 ghost use Rattle.header.specs.Fields.{bytes_of};
 ghost use Rattle.formats.specs.Data.{AllCoded, data_of};
