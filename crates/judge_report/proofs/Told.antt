@@ -7,7 +7,7 @@ use Prim.Native.Nat.{ℕ}
 use Rattle.codes.specs.Steps.Laid.{Fronted}
 use Rattle.judge.specs.declared.JudgeAnswer.{JudgeAnswer}
 use Rattle.judge.specs.Judge.{Judges}
-use Rattle.lines.specs.Line.{decimals, line, refused}
+use Rattle.lines.specs.Line.{decimals, line}
 use Rattle.terms.specs.Terms.{most_at}
 use Rattle.judge_report.specs.Line.{line_of}
 use Rattle.judge_report.specs.Steps.Put.{PutsLine}

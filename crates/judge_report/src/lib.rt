@@ -1,6 +1,7 @@
 // The line that the program for the bench prints of a packet.
 
 #![tactic(auto)]
+
 ghost use Rattle.std.specs.Prelude.{◌≤◌, length};
 ghost use Rattle.codes.specs.Steps.Laid.{Fronted};
 ghost use Rattle.judge.specs.declared.JudgeAnswer.TheVariants.{Judged};

@@ -1,6 +1,7 @@
 // The line that the reading program prints of a packet.
 
 #![tactic(auto)]
+
 ghost use Rattle.std.specs.Prelude.{◌≤◌, length};
 ghost use Rattle.reader.specs.declared.ReadAnswer.TheVariants.{Accepted};
 ghost use Rattle.codes.specs.Steps.Laid.{Fronted};

@@ -1,0 +1,17 @@
+-- `judge_report::line` meets its contract.
+-- Assumes nothing.
+use native.Mathlib.Omega.{arith}
+use mathlib.Core.Path.{sym, ap, ◌∙◌}
+use Rattle.lines.specs.Line.{refused}
+use Rattle.lines.proofs.Told.{front_same, refused-is}
+use Rattle.judge_report.specs.Line.{line_of}
+use Rattle.judge_report.proofs.Told.{told, one_number}
+use Rattle.judge_report.proofs.line.Goals as goal
+
+pub returns-in-Judged : goal.returns-in-Judged
+returns-in-Judged c = front_same c.put_judgement.ensures (sym (ap line_of c.in-Judged.is))
+
+pub returns-in-Refused : goal.returns-in-Refused
+returns-in-Refused c =
+    front_same c.put_refused.ensures
+    (sym (refused-is _) ∙ told refused (one_number (omega (arith, c.number.ensures))) ∙ sym (ap line_of c.in-Refused.is))
