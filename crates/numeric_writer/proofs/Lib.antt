@@ -1,3 +1,4 @@
 pub mod Counting
 pub mod Sending
 pub mod Telling
+pub mod Tests

@@ -32,6 +32,7 @@ use Rattle.numeric.specs.Steps.InFour.{in_four, bits_for, bits_from}
 use Rattle.numeric.proofs.InFour.{ours-binary, ours-length, pad-length, pad-odd, pad-even, bits-end}
 use Rattle.numeric_writer.specs.Steps.Sending.{stands, OwnOf, Packed}
 use Rattle.numeric_writer.proofs.Counting.{own-nothing, own_same}
+use Rattle.numeric_writer.proofs.Tests.{colon_codes}
 
 -- ---- what goes for one character
 
@@ -43,7 +44,7 @@ abbrev picked_base : ℕ → ℕ
 picked_base c = cond (eqb c 32) 0x40A (0x400 + c % 16)
 
 abbrev picked_other : ℕ → ℕ
-picked_other c = cond (eqb c 61) 0x8DB (cond (eqb c 58) 0x8EE (cond (eqb c 35) 0x8BD 0x8DD))
+picked_other c = cond (eqb c 61) 0x8DB (cond (eqb c 58) colon_codes (cond (eqb c 35) 0x8BD 0x8DD))
 
 abbrev goes : ℕ → ℕ → Bool
 goes c packed = same (bits_for 0 c) (low (packed / 256) (packed % 256)) && (ltb (packed % 256) (2 ^ (packed / 256)) && leb (packed / 256) 8)
@@ -84,11 +85,11 @@ module _ (c : ℕ) (h : c < 256) (s : T (stands c) × (32 ≤ c)) where
       (implied-below 256 (λ (x : ℕ). plain x && is_base x) (λ (x : ℕ). goes x (picked_base x)) all-base c h
       (and_both (plain c) (is_base c) plain-told (subst⁻¹ T b tt))))
 
-  pub others-go : {hash colon packed : ℕ} → is_base c ≡ false → hash ≡ cond (eqb c 35) 0x8BD 0x8DD → colon ≡ cond (eqb c 58) 0x8EE hash
+  pub others-go : {hash colon packed : ℕ} → is_base c ≡ false → hash ≡ cond (eqb c 35) 0x8BD 0x8DD → colon ≡ cond (eqb c 58) colon_codes hash
       → packed ≡ cond (eqb c 61) 0x8DB colon → Packed c packed
   others-go b e₁ e₂ e₃ =
       let or : ℕ → ℕ → ℕ → ℕ = λ character code. cond (eqb c character) code in
-      subst⁻¹ (Packed c) (e₃ ∙ ap (or 61 0x8DB) (e₂ ∙ ap (or 58 0x8EE) e₁))
+      subst⁻¹ (Packed c) (e₃ ∙ ap (or 61 0x8DB) (e₂ ∙ ap (or 58 colon_codes) e₁))
       (own-goes c (picked_other c)
       (implied-below 256 (λ (x : ℕ). plain x && not (is_base x)) (λ (x : ℕ). goes x (picked_other x)) all_others c h
       (and_both (plain c) (not (is_base c)) plain-told (subst⁻¹ (λ (x : Bool). T (not x)) b tt))))

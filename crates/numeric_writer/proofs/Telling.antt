@@ -1,12 +1,12 @@
 -- Whether a character has a code where it stands, as the code tells it.
 -- Assumes nothing.
 use mathlib.Core.Path.{◌≡◌, refl, sym, ap, subst⁻¹, ◌∙◌}
-use mathlib.Core.Bool.{Bool, false, ◌&&◌, ◌||◌}
+use mathlib.Core.Bool.{Bool, false}
 use mathlib.Core.Logic.{by_cases}
 use mathlib.Core.List.{List, [], ◌∷◌}
 use Prim.Native.Nat.{ℕ, ◌<◌}
 use native.Mathlib.Decide.{ℕ_discrete}
-use lib.Dec.{leb, eqb}
+use lib.Dec.{eqb}
 use borrow.Author.Tests.{ne_eqb}
 use Rattle.bits.specs.First.{first}
 use Rattle.bits.specs.Numbers.{numbers}
@@ -19,14 +19,7 @@ use Rattle.numeric.specs.Table.{characters}
 use Rattle.numeric.specs.Translation.{sent, itself, specials, translation}
 use Rattle.numeric.specs.Writer.{own, clashes}
 use Rattle.numeric_writer.specs.Steps.Sending.{stands, of_signs}
-
--- ---- the tests of the code, where it is told whether two signs go for the character
-
-abbrev table_test : Bool → ℕ → Bool
-table_test signs c = signs || (eqb c 32 || (leb 43 c && leb c 58))
-
-abbrev clash_test : ℕ → Bool → ℕ → Bool
-clash_test before signs c = (eqb before 43 || eqb before 45) && (signs || (eqb c 43 || eqb c 45)) || eqb before 46 && (eqb c 46 || eqb c 58)
+use Rattle.numeric_writer.proofs.Tests.{table_test, clash_test}
 
 -- ---- a character of the tables
 

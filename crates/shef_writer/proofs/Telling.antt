@@ -3,7 +3,7 @@
 use mathlib.Core.Path.{◌≡◌, refl, ap, subst⁻¹, ◌∙◌}
 use mathlib.Core.Bool.{Bool, true, false, cond, not, ◌&&◌, ◌||◌}
 use mathlib.Core.List.{[]}
-use Prim.Native.Nat.{ℕ, ◌+◌, ◌-◌, ◌/◌, ◌%◌, ◌≤◌, ◌<◌}
+use Prim.Native.Nat.{ℕ, ◌+◌, ◌/◌, ◌%◌, ◌≤◌, ◌<◌}
 use lib.Dec.{T, leb, eqb, eqb→eq, ltb, ltb→lt, le→leb, lit≤}
 use Rattle.bits.specs.First.{first}
 use Rattle.bits.specs.Numbers.{numbers}
@@ -23,6 +23,7 @@ use Rattle.numeric.specs.Table.{characters}
 use Rattle.shef.specs.Table.{table}
 use Rattle.shef.specs.Writer.{coded, own}
 use Rattle.shef_writer.specs.Steps.Sending.{bits_for, entry_of}
+use Rattle.shef_writer.proofs.Entries.{space_entry, hash_entry}
 
 -- ---- whether a character has a code
 
@@ -123,20 +124,20 @@ abbrev picked : ℕ → ℕ
 picked c =
     cond (eqb c 10) 58
     (cond (eqb c 13) 122
-    (cond (eqb c 58 || eqb c 59) (c + 67) (cond (eqb c 61) 124 (cond (eqb c 35) 123 (cond (leb 65 c) (c + 31) (cond (eqb c 32) 74 (64 + c % 16)))))))
+    (cond (eqb c 58 || eqb c 59) (c + 67) (cond (eqb c 61) 124 (cond (eqb c 35) hash_entry (cond (leb 65 c) (c + 31) (cond (eqb c 32) space_entry (64 + c % 16)))))))
 
 picked-entry : (c : ℕ) → c < 256 → T (coded c) → picked c ≡ entry_of c
 unfolding table consecutive code_for characters numbers low bit value ended saying same found coded own codes every entry_of first
 picked-entry c h t = eqb→eq (picked c) (entry_of c) (implied-below 256 coded (λ (x : ℕ). eqb (picked x) (entry_of x)) tt c h t)
 
-pub picks-entry : (c : ℕ) {base letter hash equals colon return last : ℕ} → c < 256 → T (coded c) → base ≡ cond (eqb c 32) 74 (64 + c % 16)
-    → letter ≡ cond (leb 65 c) (c + 31) base → hash ≡ cond (eqb c 35) 123 letter → equals ≡ cond (eqb c 61) 124 hash
+pub picks-entry : (c : ℕ) {base letter hash equals colon return last : ℕ} → c < 256 → T (coded c) → base ≡ cond (eqb c 32) space_entry (64 + c % 16)
+    → letter ≡ cond (leb 65 c) (c + 31) base → hash ≡ cond (eqb c 35) hash_entry letter → equals ≡ cond (eqb c 61) 124 hash
     → colon ≡ cond (eqb c 58 || eqb c 59) (c + 67) equals → return ≡ cond (eqb c 13) 122 colon → last ≡ cond (eqb c 10) 58 return → last ≡ entry_of c
 picks-entry c h t e₁ e₂ e₃ e₄ e₅ e₆ e₇ =
     let or : ℕ → ℕ → ℕ → ℕ = λ character entry. cond (eqb c character) entry in
     e₇
     ∙ ap (or 10 58)
-    (e₆ ∙ ap (or 13 122) (e₅ ∙ ap (cond (eqb c 58 || eqb c 59) (c + 67)) (e₄ ∙ ap (or 61 124) (e₃ ∙ ap (or 35 123) (e₂ ∙ ap (cond (leb 65 c) (c + 31)) e₁)))))
+    (e₆ ∙ ap (or 13 122) (e₅ ∙ ap (cond (eqb c 58 || eqb c 59) (c + 67)) (e₄ ∙ ap (or 61 124) (e₃ ∙ ap (or 35 hash_entry) (e₂ ∙ ap (cond (leb 65 c) (c + 31)) e₁)))))
     ∙ picked-entry c h t
 
 -- codes are bits

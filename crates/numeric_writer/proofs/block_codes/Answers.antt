@@ -1,6 +1,6 @@
 -- `numeric_writer::block_codes` meets its contract. The loop's invariant: the base characters up to the place. Assumes nothing.
 use mathlib.Core.Path.{◌≡◌, subst}
-use Prim.Native.Nat.{ℕ, ◌-◌}
+use Prim.Native.Nat.{ℕ}
 use native.Mathlib.Omega.{arith}
 use Rattle.codes.specs.Steps.Summed.{SumUpTo}
 use Rattle.codes.proofs.EachAfter.{sum_more}

@@ -1,6 +1,6 @@
 -- `shef_writer::block_bits` meets its contract. The loop's invariant: the bits up to the place. Assumes nothing.
 use mathlib.Core.Path.{◌≡◌, subst}
-use Prim.Native.Nat.{ℕ, ◌-◌}
+use Prim.Native.Nat.{ℕ}
 use native.Mathlib.Omega.{arith}
 use Rattle.codes.specs.Steps.Summed.{SumUpTo}
 use Rattle.codes.proofs.EachAfter.{sum_more}
