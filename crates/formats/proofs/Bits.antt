@@ -16,7 +16,6 @@ use Rattle.codes.proofs.BitsInBytes.{length-bits, built-length}
 use Rattle.codes.proofs.OneReading.{one_size}
 use Rattle.codes.proofs.SchemeLaws.{Laws}
 use Rattle.codes.proofs.WriterLaws.{WriterLaws}
-use Rattle.full_ascii.specs.Writer as ascii-writer
 use Rattle.full_ascii.proofs.Table as ascii-table
 use Rattle.full_ascii.proofs.Waste as ascii-waste
 use Rattle.full_ascii.proofs.Writer as ascii-built

@@ -2,7 +2,7 @@
 -- Assumes nothing.
 use mathlib.Core.List.{List, ◌++◌}
 use mathlib.Core.Path.{◌≡◌, refl, sym, ap, ap₂, subst, subst₂, ◌∙◌}
-use Prim.Native.Nat.{ℕ, zero, suc, ◌+◌, ◌-◌, ◌≤◌, ◌<◌}
+use Prim.Native.Nat.{ℕ, zero, suc, ◌-◌, ◌≤◌, ◌<◌}
 use native.Mathlib.Omega.{arith}
 use lib.ListN.{length, take, drop}
 use lib.Seq.{take_at, take-length}
@@ -14,7 +14,7 @@ use Rattle.codes.specs.declared.Outcome.TheVariants.{Text}
 use Rattle.formats.specs.Data.{CarriesIn, UnreadableAfter}
 use Rattle.formats.specs.Steps.Text.{HasRoom, PutsText}
 use Rattle.formats.proofs.OpenData.{open-measures, open-room, open-text}
-use Rattle.sections.specs.Sections.{section_count, sent_length, in_turn, joined}
+use Rattle.sections.specs.Sections.{sent_length, in_turn, joined}
 use Rattle.sections.proofs.Found.{joined_length}
 use Rattle.sections.proofs.OneSection.{one-joined}
 

@@ -5,8 +5,8 @@ use mathlib.Core.List.{List, ◌++◌, append_assoc}
 use mathlib.Core.Path.{◌≡◌, sym, ap, ap₂, ◌∙◌}
 use Prim.Native.Nat.{ℕ, ◌+◌, ◌-◌, ◌*◌, ◌≤◌}
 use native.Mathlib.Omega.{arith}
-use lib.ListN.{length, take, drop, length-append, length-drop, take-append-drop}
-use lib.Seq.{take_at, take_all, drop_at, drop-append-le, drop-drop, length-take-le}
+use lib.ListN.{length, take, drop, length-append, length-drop}
+use lib.Seq.{take_at, take_all, drop_at, drop-drop, length-take-le}
 use Rattle.header.specs.declared.Format.{Format}
 use Rattle.header.specs.Fields.{bytes_of}
 use Rattle.sections.specs.Sections.{section_count, sent_length, in_sections}

@@ -10,7 +10,6 @@ use Rattle.header.specs.declared.Format.{Format}
 use Rattle.header.specs.Formats.{format_number}
 use Rattle.codes.specs.Steps.Size.{Needs}
 use Rattle.codes.specs.declared.Needed.{Needed}
-use Rattle.codes.specs.declared.Needed.TheVariants as Needed
 use Rattle.packet.specs.Packet.{whole_length}
 use Rattle.refusals.specs.declared.WriteRefusal.TheVariants.{NoCode, TooLong, NoRoom}
 use Rattle.terms.specs.declared.Terms.{Terms}

@@ -1,7 +1,7 @@
 -- `formats::first_uncoded` meets its contract. The loop's invariant: the characters that were passed have codes.
 -- Assumes nothing.
 use mathlib.Core.Path.{sym, subst⁻¹, ◌∙◌}
-use Prim.Native.Nat.{ℕ, ◌-◌}
+use Prim.Native.Nat.{ℕ}
 use native.Mathlib.Omega.{arith}
 use lib.Dec.{T}
 use lib.ListN.{take, get_or}
