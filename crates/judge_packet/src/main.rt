@@ -1,35 +1,38 @@
-// Judges the packet at the front of standard input and prints one line. A program has no exit status: where a read of standard input fails, or the line
-// cannot be written, it says so on standard error, and in the first case prints no line.
+// Judges the packet at the front of standard input and prints one line. The status is 0 for `ours` and `departs` and 1 for `refused`. Where a read of standard
+// input fails, or the line cannot be written, it is 2 and standard error says so; in the first case there is no line.
 
 #![tactic(auto)]
-use libc::{STDERR_FILENO, STDOUT_FILENO};
+
 use standard_input::Input;
+use std::io;
+use std::io::Write;
+use std::process::ExitCode;
 
 // The bytes of standard input that are taken (RULES, Judging), and the room for the line.
 const INPUT: usize = 8192;
 
 const LINE: usize = 128;
 
-// Whether the line was written.
-fn print_answer(packet: &[u8]) -> bool {
+// Prints the line; whether it is that of a refusal.
+fn print_answer<W: Write>(out: &mut W, packet: &[u8]) -> io::Result<bool> {
     let mut line = [0u8; LINE];
     let n = judge_report::packet_line(packet, &mut line);
-    io::write_all(STDOUT_FILENO, &line[..n])
+    out.write_all(&line[..n])?;
+    Ok(line[..n].starts_with(b"refused "))
 }
 
-fn main() {
+fn main(rt: HostRuntime) -> ExitCode {
     let mut packet = [0u8; INPUT];
-    let Input::Whole(got) = standard_input::read_input(&mut packet) else {
-        io::write_all(
-            STDERR_FILENO,
-            b"judge_packet: standard input cannot be read\n",
-        );
-        return;
+    let Input::Whole(got) = standard_input::read_input(&mut rt.stdin(), &mut packet) else {
+        let _ = eprintln!(rt; "judge_packet: standard input cannot be read");
+        return ExitCode::from(2);
     };
-    if !print_answer(&packet[..got]) {
-        io::write_all(
-            STDERR_FILENO,
-            b"judge_packet: the line could not be written\n",
-        );
+    match print_answer(&mut rt.stdout(), &packet[..got]) {
+        Ok(false) => ExitCode::SUCCESS,
+        Ok(true) => ExitCode::FAILURE,
+        Err(_) => {
+            let _ = eprintln!(rt; "judge_packet: the line could not be written");
+            ExitCode::from(2)
+        }
     }
 }

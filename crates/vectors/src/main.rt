@@ -7,15 +7,18 @@
 // the number that comes with a refusal, or the bytes used, then the lent buffer's Adler-32, and its first 512 bytes.
 
 #![tactic(auto)]
+
 ghost use Rattle.std.specs.Prelude.{◌≡◌, length};
 
 use apart::{Comparison, Judgement};
 use examine::ExamineAnswer;
 use header::Header;
 use judge::JudgeAnswer;
-use libc::{STDIN_FILENO, STDOUT_FILENO};
 use reader::ReadAnswer;
 use refusals::ExamineRefusal;
+use standard_input::Input;
+use std::io;
+use std::io::{BufWriter, Read, Write};
 use writer::WriteAnswer;
 
 // The longest text of a packet has 341,328 characters.
@@ -48,43 +51,43 @@ fn adler32(s: &[u8]) -> u32 {
     high * 65536 + low
 }
 
-fn print_front(s: &[u8]) {
+fn print_front<W: Write>(out: &mut W, s: &[u8]) -> io::Result<()> {
     let mut i: usize = 0;
     while i < 512 {
         if i < s.len() {
-            io::print_hex(STDOUT_FILENO, s[i] as u64, 2);
+            let byte = s[i];
+            write!(out, "{byte:02x}")?;
         }
         i += 1;
     }
+    Ok(())
 }
 
-fn print_buffer(with: usize, buffer: &[u8]) {
-    io::print_decimal(STDOUT_FILENO, with as u64);
-    io::write_all(STDOUT_FILENO, b" ");
-    io::print_hex(STDOUT_FILENO, adler32(buffer) as u64, 8);
-    io::write_all(STDOUT_FILENO, b" ");
-    print_front(buffer);
-    io::write_all(STDOUT_FILENO, b"\n");
+fn print_buffer<W: Write>(out: &mut W, with: usize, buffer: &[u8]) -> io::Result<()> {
+    let sum = adler32(buffer);
+    write!(out, "{with} {sum:08x} ")?;
+    print_front(out, buffer)?;
+    out.write_all(b"\n")
 }
 
 // A word and numbers, each number after a single space.
-fn print_line(word: &[u8], numbers: &[usize]) {
-    io::write_all(STDOUT_FILENO, word);
+fn print_line<W: Write>(out: &mut W, word: &[u8], numbers: &[usize]) -> io::Result<()> {
+    out.write_all(word)?;
     let mut i: usize = 0;
     while i < numbers.len() {
-        io::write_all(STDOUT_FILENO, b" ");
-        io::print_decimal(STDOUT_FILENO, numbers[i] as u64);
+        let number = numbers[i];
+        write!(out, " {number}")?;
         i += 1;
     }
-    io::write_all(STDOUT_FILENO, b"\n");
+    out.write_all(b"\n")
 }
 
-fn print_refused(refusal: ExamineRefusal) {
+fn print_refused<W: Write>(out: &mut W, refusal: ExamineRefusal) -> io::Result<()> {
     let numbers = [refusal.number() as usize, refusal.value(), refusal.codes()];
-    print_line(b"refused", &numbers);
+    print_line(out, b"refused", &numbers)
 }
 
-fn print_examined(answer: ExamineAnswer) {
+fn print_examined<W: Write>(out: &mut W, answer: ExamineAnswer) -> io::Result<()> {
     match answer {
         ExamineAnswer::Readable(reading) => {
             let format = reading.format;
@@ -98,24 +101,24 @@ fn print_examined(answer: ExamineAnswer) {
                 reading.text_length,
                 reading.used,
             ];
-            print_line(b"readable", &numbers);
+            print_line(out, b"readable", &numbers)
         }
-        ExamineAnswer::Refused(refusal) => print_refused(refusal),
+        ExamineAnswer::Refused(refusal) => print_refused(out, refusal),
     }
 }
 
-fn print_judgement(judgement: Judgement) {
+fn print_judgement<W: Write>(out: &mut W, judgement: Judgement) -> io::Result<()> {
     let comparison = judgement.comparison;
     match comparison {
-        Comparison::AsOurs => print_line(b"ours", &[judgement.more]),
-        Comparison::Departs(bit) => print_line(b"departs", &[bit, judgement.more]),
+        Comparison::AsOurs => print_line(out, b"ours", &[judgement.more]),
+        Comparison::Departs(bit) => print_line(out, b"departs", &[bit, judgement.more]),
     }
 }
 
-fn print_judged(answer: JudgeAnswer) {
+fn print_judged<W: Write>(out: &mut W, answer: JudgeAnswer) -> io::Result<()> {
     match answer {
-        JudgeAnswer::Judged(judgement) => print_judgement(judgement),
-        JudgeAnswer::Refused(refusal) => print_refused(refusal),
+        JudgeAnswer::Judged(judgement) => print_judgement(out, judgement),
+        JudgeAnswer::Refused(refusal) => print_refused(out, refusal),
     }
 }
 
@@ -135,37 +138,55 @@ fn read_codes(answer: ReadAnswer) -> usize {
     }
 }
 
-fn print_read(answer: ReadAnswer, text: &[u8]) {
+fn print_read<W: Write>(out: &mut W, answer: ReadAnswer, text: &[u8]) -> io::Result<()> {
     let mut line = [0u8; 128];
     let n = report::line(answer, &mut line);
-    io::write_all(STDOUT_FILENO, &line[..n]);
-    print_line(b"codes", &[read_codes(answer)]);
-    print_buffer(read_with(answer), text);
+    out.write_all(&line[..n])?;
+    print_line(out, b"codes", &[read_codes(answer)])?;
+    print_buffer(out, read_with(answer), text)
 }
 
-fn run_reader(mend: u32, rate_1200: bool, packet: &[u8], text: &mut [u8]) {
-    print_examined(examine::examine_mending(mend, rate_1200, packet));
-    print_judged(judge::judge(mend, rate_1200, packet));
+fn run_reader<W: Write>(
+    out: &mut W,
+    mend: u32,
+    rate_1200: bool,
+    packet: &[u8],
+    text: &mut [u8],
+) -> io::Result<()> {
+    print_examined(out, examine::examine_mending(mend, rate_1200, packet))?;
+    print_judged(out, judge::judge(mend, rate_1200, packet))?;
     let answer = reader::read_mending(mend, rate_1200, packet, text);
-    print_read(answer, text);
+    print_read(out, answer, text)
 }
 
-fn run_usual_reader(rate_1200: bool, packet: &[u8], text: &mut [u8]) {
-    print_examined(examine::examine(rate_1200, packet));
+fn run_usual_reader<W: Write>(
+    out: &mut W,
+    rate_1200: bool,
+    packet: &[u8],
+    text: &mut [u8],
+) -> io::Result<()> {
+    print_examined(out, examine::examine(rate_1200, packet))?;
     let answer = reader::read(rate_1200, packet, text);
-    print_read(answer, text);
+    print_read(out, answer, text)
 }
 
-fn run_writer(rate_1200: bool, format: u32, sync: bool, text: &[u8], packet: &mut [u8]) {
+fn run_writer<W: Write>(
+    out: &mut W,
+    rate_1200: bool,
+    format: u32,
+    sync: bool,
+    text: &[u8],
+    packet: &mut [u8],
+) -> io::Result<()> {
     let answer = writer::write(rate_1200, format, sync, text, packet);
     match answer {
         WriteAnswer::Written(length) => {
-            print_line(b"written", &[length]);
-            print_buffer(length, packet);
+            print_line(out, b"written", &[length])?;
+            print_buffer(out, length, packet)
         }
         WriteAnswer::Refused(refusal) => {
-            print_line(b"refused", &[refusal.number() as usize]);
-            print_buffer(refusal.value(), packet);
+            print_line(out, b"refused", &[refusal.number() as usize])?;
+            print_buffer(out, refusal.value(), packet)
         }
     }
 }
@@ -175,51 +196,64 @@ fn number(high: u8, middle: u8, low: u8) -> u32 {
 }
 
 // The packet or text of a case, and the calls.
-fn run_case(kind: u8, rate_1200: bool, named: u32, sync: bool, given: &mut [u8], lent: &mut [u8]) {
-    io::read_full(STDIN_FILENO, given);
+fn run_case<R: Read, W: Write>(
+    reader: &mut R,
+    out: &mut W,
+    kind: u8,
+    rate_1200: bool,
+    named: u32,
+    sync: bool,
+    given: &mut [u8],
+    lent: &mut [u8],
+) -> io::Result<()> {
+    standard_input::read_input(reader, given);
     fill(lent);
     if kind == b'r' {
-        run_reader(named, rate_1200, given, lent);
-        return;
+        return run_reader(out, named, rate_1200, given, lent);
     }
     if kind == b'd' {
-        run_usual_reader(rate_1200, given, lent);
-        return;
+        return run_usual_reader(out, rate_1200, given, lent);
     }
-    run_writer(rate_1200, named, sync, given, lent);
+    run_writer(out, rate_1200, named, sync, given, lent)
 }
 
 // Runs the next case; whether there was one.
-fn run_next() -> bool {
+fn run_next<R: Read, W: Write>(reader: &mut R, out: &mut W) -> io::Result<bool> {
     let mut head = [0u8; 11];
-    if io::read_full(STDIN_FILENO, &mut head) < 11 {
-        return false;
+    match standard_input::read_input(reader, &mut head) {
+        Input::Whole(11) => (),
+        _ => return Ok(false),
     }
     let named = number(head[2], head[3], head[4]);
     let room = number(head[5], head[6], head[7]) as usize;
     let length = number(head[8], head[9], head[10]) as usize;
     if LARGEST < room {
-        return false;
+        return Ok(false);
     }
     if LARGEST < length {
-        return false;
+        return Ok(false);
     }
     let mut given = buffer();
     let mut lent = buffer();
     run_case(
+        reader,
+        out,
         head[0],
         head[1] / 2 == 1,
         named,
         head[1] % 2 == 1,
         &mut given[..length],
         &mut lent[..room],
-    );
-    true
+    )?;
+    Ok(true)
 }
 
-fn main() {
+fn main(rt: HostRuntime) -> io::Result<()> {
+    let mut reader = rt.stdin();
+    let mut out = BufWriter::new(rt.alloc(), rt.stdout())?;
     let mut turns = u32::MAX;
-    while turns > 0 && run_next() {
+    while turns > 0 && run_next(&mut reader, &mut out)? {
         turns -= 1;
     }
+    out.flush()
 }
