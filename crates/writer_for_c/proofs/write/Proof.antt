@@ -1,4 +1,4 @@
--- `rosopyat_logger::rosopyat_write` meets its contract.
+-- `writer_for_c::write` meets its contract.
 -- Assumes nothing.
 use mathlib.Core.Path.{refl, subst}
 use borrow.Author.Rules.{rules}
@@ -6,8 +6,8 @@ use Rattle.writer.specs.declared.WriteAnswer.{WriteAnswer}
 use Rattle.writer.specs.declared.WriteAnswer.TheVariants.{Written, Refused}
 use Rattle.terms.specs.Terms.{usual}
 use Rattle.writer.specs.Writer.{Writes}
-use Rattle.rosopyat_logger.proofs.rosopyat_write.Statement.{statement}
-use Rattle.rosopyat_logger.proofs.rosopyat_write.Tie as tie
+use Rattle.writer_for_c.proofs.write.Statement.{statement}
+use Rattle.writer_for_c.proofs.write.Tie as tie
 
 write-requires : tie.Need-write-requires
 write-requires c κs = search rules
@@ -55,8 +55,8 @@ returns-2 c =
       is = λ i. record { refusal = n.number.ensures i; number = c.value.ensures i; length = 0 };
     }
 
-pub rosopyat-write-spec : {M : Type 1} → statement M
-rosopyat-write-spec =
+pub write-spec : {M : Type 1} → statement M
+write-spec =
     tie.close
     (tie.spec
     write-requires
