@@ -1,6 +1,7 @@
 // The archive for loggers that only send: the writer alone.
 
 #![tactic(auto)]
+
 ghost use Rattle.writer_for_c.specs.Replies.{RepliesToWrite};
 
 use writer_for_c::WriteReply;

@@ -1,6 +1,7 @@
 // The writer for C: its answer as a plain struct. Both archives export it.
 
 #![tactic(auto)]
+
 ghost use Rattle.writer_for_c.specs.Replies.{RepliesToWrite};
 
 use writer::WriteAnswer;
@@ -14,13 +15,7 @@ pub struct WriteReply {
     pub length: usize,
 }
 
-pub fn write(
-    rate_1200: bool,
-    format: u32,
-    sync: bool,
-    text: &[u8],
-    packet: &mut [u8],
-) -> WriteReply
+pub fn write(rate_1200: bool, format: u32, sync: bool, text: &[u8], packet: &mut [u8]) -> WriteReply
     ensures { RepliesToWrite rate_1200 format sync text.now packet.old result packet.new }
 {
     let answer = writer::write(rate_1200, format, sync, text, packet);
