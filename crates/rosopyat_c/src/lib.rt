@@ -1,6 +1,7 @@
 // The reader, the writer and the judging for C and Rust: their answers as plain structs.
 
 #![tactic(auto)]
+
 ghost use Rattle.std.specs.Prelude.{◌≡◌};
 ghost use Rattle.terms.specs.Terms.{naming, usual};
 ghost use Rattle.writer_for_c.specs.Replies.{RepliesToWrite};
