@@ -3,7 +3,7 @@
 # path may have spaces.
 
 root=$(CDPATH= cd -- "$(dirname -- "$0")" && while [ ! -e include/rosopyat.h ]; do cd ..; done && pwd)
-library=${LIBRARY:-$root/target/staticlib/librosopyat_c.a}
+library=${LIBRARY:-$root/crates/rosopyat_c/out/librosopyat_c.a}
 work=$(mktemp -d)
 trap 'rm -rf "$work"' EXIT
 trap 'exit 1' HUP INT TERM
@@ -71,7 +71,7 @@ compile_cpp() {
 
 need_library() {
     [ -e "$library" ] || {
-        echo "$library is missing: rt staticlib rosopyat_c writes it"
+        echo "$library is missing: rt lib --cpu x86-64 in crates/rosopyat_c writes it"
         exit 1
     }
 }

@@ -1,5 +1,7 @@
 """What the archive for loggers is made of, by objdump: logger.py OBJDUMP ARCHIVE. What it exports and needs, and its bytes of code, tables and operands.
 
+A logger may be without the C library, so the archive may need nothing from outside.
+
 An operand is a constant that an instruction works with where it stands, in .rodata.cst*. Whatever else is loaded and is no code is a table. Compilers put
 small tables among the operands too. So there, these bytes are tables: the sixteen entries of the checksum, those whose address is taken, as by an index,
 and those that are copied to the stack as they are, to be indexed there. Bytes that the code puts together of immediate numbers count as code.
@@ -12,7 +14,6 @@ import subprocess
 import sys
 
 EXPORTED = ["rosopyat_write"]
-MAY_NEED = {"memset", "memcpy", "memmove"}
 MOST_TABLES = 64
 POLYNOMIAL = 0xD175
 OPERANDS = ".rodata.cst"
@@ -107,8 +108,8 @@ def exports(members):
     print(f"exports {' '.join(exported) or 'nothing'}, needs {' '.join(needed) or 'nothing'}")
     if exported != EXPORTED:
         yield f"exports {' '.join(exported) or 'nothing'}, and not {' '.join(EXPORTED)} alone"
-    if set(needed) - MAY_NEED:
-        yield f"needs {' '.join(sorted(set(needed) - MAY_NEED))} from outside"
+    if needed:
+        yield f"needs {' '.join(needed)} from outside"
 
 
 # ---- tables among the operands

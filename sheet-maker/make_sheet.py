@@ -53,28 +53,28 @@ MADE = "\nMade from the table in the code by sheet-maker/make_sheet.py.\n"
 
 # ---- the table
 
-def entry_of(line):
+def entry_of(word):
     """The places that an entry names, the higher first, or None where there are no bits to be had."""
-    form = re.fullmatch(r" {4}([0-9]{2})_([0-9]{2}),", line)
+    form = re.fullmatch(r"([0-9]{2})_([0-9]{2}),", word)
     if not form:
-        sys.exit(f"{TABLE}: {line!r} is no entry")
+        sys.exit(f"{TABLE}: {word!r} is no entry")
     higher, lower = int(form[1]), int(form[2])
     if (higher, lower) == NOTHING:
         return None
     if not (lower < higher <= NO_BIT or lower == higher == NO_BIT):
-        sys.exit(f"{TABLE}: {line!r} does not name places, the higher first")
+        sys.exit(f"{TABLE}: {word!r} does not name places, the higher first")
     return [place for place in (higher, lower) if place != NO_BIT]
 
 
 def read_table(source):
-    """The entries. A comment among them must be the difference that the next one is for."""
+    """The entries, several on a line. A comment among them must be the difference that the next one is for."""
     arrays = re.findall(rf"(?ms)\bconst ENTRIES: \[u16; {DIFFERENCES}\] = \[\n(.*?)^\];$", source)
     if len(arrays) != 1:
         sys.exit(f"{TABLE}: {len(arrays)} arrays ENTRIES of {DIFFERENCES} entries instead of one")
     entries = []
     for line in arrays[0].splitlines():
         if not line.lstrip().startswith("//"):
-            entries.append(entry_of(line))
+            entries += map(entry_of, line.split())
         elif line != f"    // {len(entries):03X}":
             sys.exit(f"{TABLE}: {line!r} stands before the entry of {len(entries):03X}")
     if len(entries) != DIFFERENCES:

@@ -1,9 +1,10 @@
 // The reader, the writer and the judging for C and Rust: their answers as plain structs.
 
 #![tactic(auto)]
+
 ghost use Rattle.std.specs.Prelude.{◌≡◌};
 ghost use Rattle.terms.specs.Terms.{naming, usual};
-ghost use Rattle.rosopyat_logger.specs.Replies.{RepliesToWrite};
+ghost use Rattle.writer_for_c.specs.Replies.{RepliesToWrite};
 ghost use Rattle.judge.specs.declared.JudgeAnswer.TheVariants.{Judged};
 ghost use Rattle.rosopyat_c.specs.Replies.{read_reply, judge_reply, RepliesToRead, RepliesToJudge};
 
@@ -11,7 +12,7 @@ use apart::{Comparison, Judgement};
 use header::Header;
 use judge::JudgeAnswer;
 use reader::ReadAnswer;
-use rosopyat_logger::WriteReply;
+use writer_for_c::WriteReply;
 
 // A packet that was read (`refusal` 0), or why not: then every member but `refusal`, `number` and `codes` is 0.
 #[repr(C)]
@@ -148,7 +149,7 @@ pub extern "C" fn rosopyat_write(
 ) -> WriteReply
     ensures { RepliesToWrite rate_1200 format sync text.now packet.old result packet.new }
 {
-    rosopyat_logger::rosopyat_write(rate_1200, format, sync, text, packet)
+    writer_for_c::write(rate_1200, format, sync, text, packet)
 }
 
 #[unsafe(no_mangle)]

@@ -1,18 +1,10 @@
-// The writer for C: the one entry point that a logger needs, its answer as a plain struct.
+// The archive for loggers that only send: the writer alone.
 
 #![tactic(auto)]
-ghost use Rattle.rosopyat_logger.specs.Replies.{RepliesToWrite};
 
-use writer::WriteAnswer;
+ghost use Rattle.writer_for_c.specs.Replies.{RepliesToWrite};
 
-// A packet that was written (`refusal` 0), or why not: then `length` is 0.
-#[repr(C)]
-#[derive(Clone, Copy)]
-pub struct WriteReply {
-    pub refusal: u32,
-    pub number: usize,
-    pub length: usize,
-}
+use writer_for_c::WriteReply;
 
 #[unsafe(no_mangle)]
 pub extern "C" fn rosopyat_write(
@@ -24,17 +16,5 @@ pub extern "C" fn rosopyat_write(
 ) -> WriteReply
     ensures { RepliesToWrite rate_1200 format sync text.now packet.old result packet.new }
 {
-    let answer = writer::write(rate_1200, format, sync, text, packet);
-    match answer {
-        WriteAnswer::Written(length) => WriteReply {
-            refusal: 0,
-            number: 0,
-            length,
-        },
-        WriteAnswer::Refused(refusal) => WriteReply {
-            refusal: refusal.number(),
-            number: refusal.value(),
-            length: 0,
-        },
-    }
+    writer_for_c::write(rate_1200, format, sync, text, packet)
 }

@@ -6,8 +6,8 @@ use mathlib.Core.Path.{◌≡◌, sym, ap, ◌∙◌}
 use Prim.Native.Nat.{ℕ}
 use Rattle.terms.specs.Terms.{usual}
 use Rattle.writer.proofs.WriteOnce.{writes_one}
-use Rattle.rosopyat_logger.specs.Replies.{write_reply, RepliesToWrite}
-use Rattle.rosopyat_logger.specs.declared.WriteReply.{WriteReply}
+use Rattle.writer_for_c.specs.Replies.{write_reply, RepliesToWrite}
+use Rattle.writer_for_c.specs.declared.WriteReply.{WriteReply}
 
 pub write-once : (rate-1200 : Bool) (number : ℕ) (sync : Bool) (text entry : List ℕ) (a b : WriteReply) (x y : List ℕ)
     → RepliesToWrite rate-1200 number sync text entry a x → RepliesToWrite rate-1200 number sync text entry b y → (a ≡ b) × (x ≡ y)

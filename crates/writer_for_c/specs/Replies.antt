@@ -7,7 +7,7 @@ use Rattle.writer.specs.declared.WriteAnswer.TheVariants.{Written, Refused}
 use Rattle.refusals.specs.Refusals.{number_in, value_in, write_told}
 use Rattle.terms.specs.Terms.{usual}
 use Rattle.writer.specs.Writer.{Writes}
-use Rattle.rosopyat_logger.specs.declared.WriteReply.{WriteReply}
+use Rattle.writer_for_c.specs.declared.WriteReply.{WriteReply}
 
 abbrev pub write_reply : WriteAnswer → WriteReply
 write_reply (Written length) = record { refusal = 0; number = 0; length = length }

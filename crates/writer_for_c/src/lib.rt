@@ -1,0 +1,34 @@
+// The writer for C: its answer as a plain struct. Both archives export it.
+
+#![tactic(auto)]
+
+ghost use Rattle.writer_for_c.specs.Replies.{RepliesToWrite};
+
+use writer::WriteAnswer;
+
+// A packet that was written (`refusal` 0), or why not: then `length` is 0.
+#[repr(C)]
+#[derive(Clone, Copy)]
+pub struct WriteReply {
+    pub refusal: u32,
+    pub number: usize,
+    pub length: usize,
+}
+
+pub fn write(rate_1200: bool, format: u32, sync: bool, text: &[u8], packet: &mut [u8]) -> WriteReply
+    ensures { RepliesToWrite rate_1200 format sync text.now packet.old result packet.new }
+{
+    let answer = writer::write(rate_1200, format, sync, text, packet);
+    match answer {
+        WriteAnswer::Written(length) => WriteReply {
+            refusal: 0,
+            number: 0,
+            length,
+        },
+        WriteAnswer::Refused(refusal) => WriteReply {
+            refusal: refusal.number(),
+            number: refusal.value(),
+            length: 0,
+        },
+    }
+}
