@@ -7,7 +7,6 @@ use mathlib.Core.Path.{◌≡◌, refl, ap, subst, subst₂, ◌∙◌}
 use Prim.Native.Nat.{ℕ, ◌≤◌}
 use native.Mathlib.Omega.{arith}
 use lib.ListN.{length}
-use Rattle.bits.specs.Row.{bits}
 use Rattle.header.specs.declared.Format.{Format}
 use Rattle.header.specs.declared.Format.TheVariants.{Open}
 use Rattle.header.specs.Formats.{format_number}

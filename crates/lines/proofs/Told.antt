@@ -7,7 +7,7 @@ use native.Mathlib.Omega.{arith}
 use lib.ListN.{length, length-append}
 use Rattle.codes.specs.Steps.Laid.{Fronted}
 use Rattle.lines.specs.Line.{decimal, decimals, spaced, line, refused}
-use Rattle.lines.specs.Steps.Put.{room, PutsRow}
+use Rattle.lines.specs.Steps.Put.{PutsRow}
 use Rattle.lines.proofs.Decimal.{spaced-within}
 use Rattle.lines.proofs.Putting.{Still, still-all, still-next, front}
 

@@ -18,7 +18,7 @@ use reader::ReadAnswer;
 use refusals::ExamineRefusal;
 use standard_input::Input;
 use std::io;
-use std::io::{BufWriter, Read, Write};
+use std::io::{Read, Write};
 use writer::WriteAnswer;
 
 // The longest text of a packet has 341,328 characters.
@@ -250,10 +250,10 @@ fn run_next<R: Read, W: Write>(reader: &mut R, out: &mut W) -> io::Result<bool> 
 
 fn main(rt: HostRuntime) -> io::Result<()> {
     let mut reader = rt.stdin();
-    let mut out = BufWriter::new(rt.alloc(), rt.stdout())?;
+    let mut out = rt.stdout();
     let mut turns = u32::MAX;
     while turns > 0 && run_next(&mut reader, &mut out)? {
         turns -= 1;
     }
-    out.flush()
+    Ok(())
 }

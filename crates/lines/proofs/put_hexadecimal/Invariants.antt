@@ -1,6 +1,5 @@
 -- `lines::put_hexadecimal` meets its contract. The invariant: what the lowest digits still put makes the whole.
 -- Assumes nothing.
-use Prim.Native.Nat.{◌-◌}
 use Rattle.lines.proofs.Putting.{DigitsLeft}
 use Rattle.lines.proofs.put_hexadecimal.Given as goal
 

@@ -1,6 +1,5 @@
 -- `lines::put_spaced` meets its contract. The invariant: what the numbers from `i` on still put makes the whole.
 -- Assumes nothing.
-use Prim.Native.Nat.{◌-◌}
 use mathlib.Core.Path.{refl}
 use native.Mathlib.Omega.{arith}
 use lib.ListN.{length-set}
