@@ -1,4 +1,5 @@
 pub mod Entries
+pub mod Ours
 pub mod Table
 pub mod Waste
 pub mod Writer

@@ -20,7 +20,8 @@ use Rattle.full_ascii.specs.Table.{LF, CR, six, seven, special, pair, table, sch
 use Rattle.full_ascii.specs.Writer.{coded, own, ours}
 use Rattle.full_ascii.proofs.Entries.{own_in}
 use Rattle.full_ascii.proofs.Table.{mutes, all-bits}
-use Rattle.full_ascii.proofs.Writer.{size, size-pair}
+use Rattle.full_ascii.proofs.Ours.{size}
+use Rattle.full_ascii.proofs.Writer.{size-pair}
 
 -- ---- twice at most
 

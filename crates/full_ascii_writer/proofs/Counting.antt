@@ -15,7 +15,7 @@ use Rattle.codes.specs.Steps.Summed.{sum_after}
 use Rattle.full_ascii.specs.Table.{HT, LF, CR, six, seven, special, pair}
 use Rattle.full_ascii.specs.Writer.{own, ours}
 use Rattle.full_ascii_writer.specs.Steps.Sending.{bits_for}
-use Rattle.full_ascii.proofs.Writer.{line-end, ours-has, size, size-feed}
+use Rattle.full_ascii.proofs.Ours.{line-end, ours-has, size, size-feed}
 
 -- ---- the bits of one character
 

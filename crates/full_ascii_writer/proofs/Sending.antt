@@ -20,7 +20,7 @@ use Rattle.codes.specs.declared.Sent.{Sent}
 use Rattle.codes.proofs.LowBits.{length-low}
 use Rattle.full_ascii_writer.specs.Steps.Sending.{OwnOf, codes_from, FirstCodesOf}
 use Rattle.full_ascii.proofs.Entries.{Kind, kind, tab, feed, return, lower, upper, own-lower, own-upper}
-use Rattle.full_ascii.proofs.Writer.{line-end}
+use Rattle.full_ascii.proofs.Ours.{line-end}
 
 abbrev sent : ℕ → ℕ → Sent
 sent bits width = record { bits = bits; width = width; count = 1 }
