@@ -332,8 +332,8 @@ static void measure_wrong_headers(int rounds)
                 {"read, 2 header bits wrong, 2 named", 2, 2, 0},
                 {"refuse, 3 header bits wrong, 2 named", 3, 2, 2},
                 {"refuse, 2 header bits wrong, 1 named", 2, 1, 2}};
-    printf("\nWith wrong header bits. The library and tuned C look the bits to mend up in a table of 1,024 entries, which the library, 2 KB, copies to the\n"
-           "stack first; small C works them out:\n\n");
+    printf("\nWith wrong header bits. The library and tuned C look the bits to mend up in a table of 1,024 entries; small C works them\n"
+           "out:\n\n");
     print_heading();
     for (int r = 0; r < 4; r++) {
         struct job job = {.call = READ_MENDING, .mend = rows[r].mend, .refusal = rows[r].refusal};

@@ -32,8 +32,8 @@
  * sections on the stack, at 1200 and for a packet of two or more, in 16,000 bytes; each call reserves them, so that one takes 17.5 KB of stack. A call of
  * rosopyat_judge has text and data on the stack and takes 391 KB of it, at either rate; rosopyat_write takes less than 1 KB.
  * Link with librosopyat_c.a (x86-64), which needs memcpy and memset and nothing else of the C library. A logger that only sends links librosopyat_logger.a instead: it has
- * rosopyat_write alone and needs nothing of the C library. Its code has 13,380 bytes, its one constant table 32, and the operands that vector instructions take
- * from memory 1,232; a call takes 192 bytes of stack.
+ * rosopyat_write alone and needs nothing of the C library. Its code has 13,793 bytes, its one constant table 32, and the operands that vector instructions take
+ * from memory 1,232; a call takes 176 bytes of stack.
  */
 #ifndef ROSOPYAT_H
 #define ROSOPYAT_H

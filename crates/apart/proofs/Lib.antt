@@ -1,4 +1,5 @@
 pub mod Comparing
+pub mod Highest
 pub mod NoFront
 pub mod Once
 pub mod Parted

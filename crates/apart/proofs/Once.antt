@@ -11,8 +11,7 @@ use lib.Seq.{get_or-take}
 use Rattle.bits.specs.Row.{bits}
 use Rattle.apart.specs.Apart.{FirstApart}
 use Rattle.apart.specs.Steps.Parting.{PartsAt}
-use Rattle.apart.specs.declared.Parting.{Parting}
-use Rattle.apart.specs.declared.Parting.TheVariants.{At, Nowhere}
+use Rattle.std.specs.Prelude.{Option, Some, None}
 use Rattle.apart.proofs.Parted.{bits-append}
 
 -- a bit before one at which they part is the same in both
@@ -42,8 +41,8 @@ apart-front : {a b : List ℕ} {i : ℕ} → FirstApart (bits a) (bits b) i → 
 apart-front {a} {b} {i} p (inl front) = p.here (sym (front-bit a b i front p.in_one))
 apart-front {a} {b} {i} p (inr front) = p.here (front-bit b a i front p.in-other)
 
-pub first-apart-once : (a b : List ℕ) (r s : Parting) → PartsAt a b r → PartsAt a b s → r ≡ s
-first-apart-once a b (At i) (At j) p q = ap At (one_apart p q)
-first-apart-once a b (At i) Nowhere p q = absurd (apart-front p q)
-first-apart-once a b Nowhere (At j) p q = absurd (apart-front q p)
-first-apart-once a b Nowhere Nowhere p q = refl
+pub first-apart-once : (a b : List ℕ) (r s : Option ℕ) → PartsAt a b r → PartsAt a b s → r ≡ s
+first-apart-once a b (Some i) (Some j) p q = ap Some (one_apart p q)
+first-apart-once a b (Some i) None p q = absurd (apart-front p q)
+first-apart-once a b None (Some j) p q = absurd (apart-front q p)
+first-apart-once a b None None p q = refl

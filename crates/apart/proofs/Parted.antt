@@ -1,12 +1,12 @@
 -- Where two rows part, byte by byte and in the byte that is not the same.
 -- Assumes nothing.
 use mathlib.Core.List.{List, [], ◌∷◌, ◌++◌, append_assoc}
-use mathlib.Core.Path.{◌≡◌, refl, sym, ap, ap₂, subst, subst⁻¹, subst₂, ◌∙◌}
-use Prim.Native.Nat.{ℕ, zero, suc, ◌+◌, ◌-◌, ◌*◌, ◌/◌, ◌%◌, ◌^◌, ◌≤◌, ◌<◌}
+use mathlib.Core.Path.{◌≡◌, refl, sym, ap, subst₂, ◌∙◌}
+use Prim.Native.Nat.{ℕ, suc, ◌+◌, ◌-◌, ◌*◌, ◌/◌, ◌%◌, ◌^◌, ◌≤◌, ◌<◌}
 use native.Mathlib.Omega.{arith}
 use lib.ListN.{length, take, drop, get_or, length-append, length-take}
 use lib.Pow.{shr-shr}
-use lib.Seq.{take_at, get_or_at, take-suc, split_at, take_all}
+use lib.Seq.{take_at, get_or_at, split_at}
 use Rattle.bits.specs.Row.{bits}
 use Rattle.bits.specs.Word.{bit}
 use Rattle.codes.specs.Pack.{low}
@@ -84,19 +84,6 @@ pub record Alike (a b : List ℕ) (i : ℕ) : Type 0 where
   pub in-other : i ≤ length b
   pub same : take i a ≡ take i b
 
-pub alike-none : (a b : List ℕ) → Alike a b 0
-alike-none a b = record { in_one = omega arith; in-other = omega arith; same = refl }
-
-pub alike_next : {a b : List ℕ} {i : ℕ} → Alike a b i → i < length a → i < length b → get_or a i 0 ≡ get_or b i 0 → Alike a b (i + 1)
-alike_next {a} {b} {i} h p q same = record {
-  in_one = omega arith;
-  in-other = omega arith;
-  same =
-      let next : i + 1 ≡ suc i = omega arith in
-      ap (λ (n : ℕ). take n a) next ∙ take-suc a i 0 p ∙ ap₂ (λ (l : List ℕ) (x : ℕ). l ++ (x ∷ [])) h.same same ∙ sym (take-suc b i 0 q)
-      ∙ ap (λ (n : ℕ). take n b) (sym next);
-}
-
 -- the next byte is not the same
 pub alike-apart : {a b : List ℕ} {i : ℕ} → Alike a b i → i < length a → i < length b → (power at : ℕ) → HighestApart (get_or a i 0) (get_or b i 0) power
     → at ≡ 8 * i + 7 - power → FirstApart (bits a) (bits b) at
@@ -107,38 +94,3 @@ alike-apart {a} {b} {i} h p q power at apart place =
     subst₂ (λ (x y : List ℕ). FirstApart (bits x) (bits y) at) (sym one) (sym other)
     (bytes-parted (take i a) (drop (suc i) a) (drop (suc i) b) (get_or a i 0) (get_or b i 0) power at apart
     (omega (arith, place, apart.low, length-take i a)))
-
--- one of them ends
-pub one-ends : {a b : List ℕ} {i : ℕ} → Alike a b i → length a ≤ i → take (length a) b ≡ a
-one-ends {a} {b} {i} h end =
-    let n : length a ≡ i = omega (arith, h.in_one) in
-    ap (λ (m : ℕ). take m b) n ∙ sym h.same ∙ take_all i a end
-
-pub other-ends : {a b : List ℕ} {i : ℕ} → Alike a b i → length b ≤ i → take (length b) a ≡ b
-other-ends {a} {b} {i} h end =
-    let n : length b ≡ i = omega (arith, h.in-other) in
-    ap (λ (m : ℕ). take m a) n ∙ h.same ∙ take_all i b end
-
--- ---- from the top bit of two bytes down
-
--- the bytes are the same above this bit
-pub record SameAbove (a b power : ℕ) : Type 0 where
-  pub low : power < 8
-  pub above : a / 2 ^ suc power ≡ b / 2 ^ suc power
-
--- nothing stands above the top bit
-pub same-top : (a b power : ℕ) → a < 256 → b < 256 → power ≡ 7 → SameAbove a b power
-same-top a b power p q e = subst⁻¹ (SameAbove a b) e (record { low = omega arith; above = omega arith })
-
--- bytes that are not the same part at the lowest bit or before
-pub not-lowest : (a b power : ℕ) → (a ≡ b → ⊥) → a / 2 ^ power ≡ b / 2 ^ power → 1 ≤ power
-not-lowest a b zero differ same = absurd (differ (omega (arith, same)))
-not-lowest a b (suc n) differ same = omega arith
-
-pub same-below : {a b power : ℕ} → SameAbove a b power → 1 ≤ power → a / 2 ^ power ≡ b / 2 ^ power → SameAbove a b (power - 1)
-same-below {a} {b} {power} h some same =
-    let next : power ≡ suc (power - 1) = omega arith in
-    record { low = omega (arith, h.low); above = subst (λ (n : ℕ). a / 2 ^ n ≡ b / 2 ^ n) next same }
-
-pub same_ends : {a b power : ℕ} → SameAbove a b power → (a / 2 ^ power ≡ b / 2 ^ power → ⊥) → HighestApart a b power
-same_ends h apart = record { low = h.low; above = h.above; apart = apart }

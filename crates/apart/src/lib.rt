@@ -7,53 +7,33 @@ ghost use Rattle.codes.specs.Steps.Measure.{countable};
 ghost use Rattle.apart.specs.Comparison.{Against};
 ghost use Rattle.apart.specs.Steps.Parting.{HighestApart, PartsAt, Comparable};
 
-#[derive(Clone, Copy)]
-pub enum Parting {
-    At(usize),
-    Nowhere,
-}
-
 // The highest bit in which two bytes differ, by the power of two that it stands for.
 fn highest_apart(a: u8, b: u8) -> u32
     requires { a ≡ b → ⊥ }
     ensures { HighestApart a b result }
 {
-    let mut power: u32 = 7;
-    while a >> power == b >> power {
-        power -= 1;
-    }
-    power
+    7 - (a ^ b).leading_zeros()
 }
 
 // The first bit at which two rows of bytes differ, the top bit of each byte first; or that there is none, since one is the front of the other.
-pub fn first_apart(a: &[u8], b: &[u8]) -> Parting
+pub fn first_apart(a: &[u8], b: &[u8]) -> Option<usize>
     requires { length a.now < countable }
     ensures { PartsAt a.now b.now result }
 {
-    let mut i: usize = 0;
-    while i < a.len() {
-        if b.len() <= i {
-            return Parting::Nowhere; // the other ends
-        }
+    for i in 0..a.len().min(b.len()) {
         if a[i] != b[i] {
-            return Parting::At(8 * i + 7 - highest_apart(a[i], b[i]) as usize);
+            return Some(8 * i + 7 - highest_apart(a[i], b[i]) as usize);
         }
-        i += 1;
     }
-    Parting::Nowhere
+    None
 }
 
-// Whether data is just ours, or the bit at which it departs from ours.
-#[derive(Clone, Copy)]
-pub enum Comparison {
-    AsOurs,
-    Departs(usize),
-}
-
-// That, and how many bytes more than ours it has.
-#[derive(Clone, Copy)]
+// How another maker's data compares with ours (001, 3.3).
+#[derive(Clone, Copy, Debug, PartialEq, Eq)]
 pub struct Judgement {
-    pub comparison: Comparison,
+    // the first bit at which it departs from ours; none where it is just ours
+    pub departs_at: Option<usize>,
+    // how many bytes more than ours it has
     pub more: usize,
 }
 
@@ -62,16 +42,7 @@ pub fn compare(theirs: &[u8], ours: &[u8]) -> Judgement
     requires { Comparable theirs.now ours.now }
     ensures { Against theirs.now ours.now result }
 {
+    let departs_at = first_apart(theirs, ours);
     let more = theirs.len() - ours.len();
-    let parting = first_apart(theirs, ours);
-    match parting {
-        Parting::At(bit) => Judgement {
-            comparison: Comparison::Departs(bit),
-            more,
-        },
-        Parting::Nowhere => Judgement {
-            comparison: Comparison::AsOurs,
-            more,
-        },
-    }
+    Judgement { departs_at, more }
 }

@@ -8,6 +8,7 @@ use Prim.Native.Nat.{ℕ, ◌+◌, ◌≤◌}
 use native.Mathlib.Decide.{dec_le}
 use native.Mathlib.Omega.{arith}
 use lib.ListN.{length, length-append}
+use Rattle.std.specs.Prelude.{Ok, Err}
 use Rattle.header.specs.Valid.{length_in}
 use Rattle.distance.specs.Distance.{ValidWithin}
 use Rattle.packet.specs.Packet.{whole_length, received}
@@ -20,12 +21,8 @@ use Rattle.refusals.specs.Refusals.{number_in, examine_told}
 use Rattle.refusals.proofs.Known.{before-room}
 use Rattle.terms.specs.declared.Terms.{Terms}
 use Rattle.terms.specs.Terms.{OnePacket}
-use Rattle.examine.specs.declared.ExamineAnswer.{ExamineAnswer}
-use Rattle.examine.specs.declared.ExamineAnswer.TheVariants.{Readable, Refused as NotReadable}
-use Rattle.reader.specs.declared.ReadAnswer.{ReadAnswer}
-use Rattle.reader.specs.declared.ReadAnswer.TheVariants.{Accepted, Refused as NotRead}
-use Rattle.examine.specs.Examine.{Fault, Refuses, Examines}
-use Rattle.reader.specs.Reader.{Reads}
+use Rattle.examine.specs.Examine.{ExamineAnswer, Fault, Refuses, Examines}
+use Rattle.reader.specs.Reader.{ReadAnswer, Reads}
 use Rattle.examine.proofs.ExamineOnce.{accepts-no-fault, examines-one}
 use Rattle.reader.proofs.ReadOnce.{refused-packet, packet-refused, reads-one}
 use Rattle.demands.proofs.OneAnswer.{nothing-after}
@@ -65,16 +62,16 @@ module _ (terms : Terms) (bytes : OnePacket terms.most) (p q : List ℕ) (same :
       }
 
   examined-alike : (answer : ExamineAnswer) → Examines terms p answer → Examines terms q answer
-  examined-alike (Readable reading) (text, a) =
+  examined-alike (Ok reading) (text, a) =
       absurd (accepts-no-fault terms (record { bits = a.allowed.framed.bits; bytes = bytes }) p reading text a OtherLength other_length)
-  examined-alike (NotReadable r) f = refused-alike r f
+  examined-alike (Err r) f = refused-alike r f
 
   read_alike : (entry : List ℕ) (answer : ReadAnswer) (exit : List ℕ) → Reads terms p entry answer exit → Reads terms q entry answer exit
-  read_alike entry (Accepted reading) exit (text, a, held, there) =
+  read_alike entry (Ok reading) exit (text, a, held, there) =
       absurd (accepts-no-fault terms (record { bits = a.allowed.framed.bits; bytes = bytes }) p reading text a OtherLength other_length)
-  read_alike entry (NotRead (Packet r)) exit (f, there) =
+  read_alike entry (Err (Packet r)) exit (f, there) =
       (refused-packet terms q (length entry) r (refused-alike r (packet-refused terms p (length entry) r f)), there)
-  read_alike entry (NotRead (NoRoom needed)) exit (f, there) = absurd (f.first (Packet OtherLength) (before-room OtherLength) other_length)
+  read_alike entry (Err (NoRoom needed)) exit (f, there) = absurd (f.first (Packet OtherLength) (before-room OtherLength) other_length)
 
 -- ---- what follows
 

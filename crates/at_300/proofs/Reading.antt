@@ -9,6 +9,7 @@ use native.Mathlib.Decide.{dec_le, dec_lt}
 use native.Mathlib.Omega.{arith}
 use lib.Bits.{bit_xor}
 use lib.ListN.{length}
+use Rattle.std.specs.Prelude.{Ok, Err}
 use Rattle.header.specs.declared.Format.{Format}
 use Rattle.header.specs.Fields.{fields_in}
 use Rattle.header.specs.Valid.{length_in}
@@ -25,12 +26,8 @@ use Rattle.refusals.specs.Refusals.{examine_told, read_told}
 use Rattle.refusals.proofs.Known.{before-room}
 use Rattle.terms.specs.declared.Terms.{Terms}
 use Rattle.examine.specs.declared.Reading.{Reading}
-use Rattle.examine.specs.declared.ExamineAnswer.{ExamineAnswer}
-use Rattle.examine.specs.declared.ExamineAnswer.TheVariants.{Readable, Refused as NotReadable}
-use Rattle.reader.specs.declared.ReadAnswer.{ReadAnswer}
-use Rattle.reader.specs.declared.ReadAnswer.TheVariants.{Accepted, Refused as NotRead}
-use Rattle.examine.specs.Examine.{Fault, Refuses, Allowed, reading_of, Accepts, Examines}
-use Rattle.reader.specs.Reader.{ReadFault, ReadRefuses, Reads}
+use Rattle.examine.specs.Examine.{ExamineAnswer, Fault, Refuses, Allowed, reading_of, Accepts, Examines}
+use Rattle.reader.specs.Reader.{ReadAnswer, ReadFault, ReadRefuses, Reads}
 use Rattle.at_300.specs.OneSection.Examine as one
 use Rattle.at_300.specs.OneSection.Packet.{data_in as one_data_in}
 use Rattle.at_300.specs.OneSection.Reader as one_reader
@@ -198,14 +195,14 @@ module _ (terms : Terms) (small : terms.most ≤ 4000) (packet : List ℕ) where
   -- ---- both
 
   pub examines-same : (answer : ExamineAnswer) → Examines terms packet answer ↔ one.Examines terms packet answer
-  examines-same (Readable reading) = (λ (text, a). (text, (accepts-same reading text).0 a), λ (text, a). (text, (accepts-same reading text).1 a))
-  examines-same (NotReadable refusal) = refuses-same refusal
+  examines-same (Ok reading) = (λ (text, a). (text, (accepts-same reading text).0 a), λ (text, a). (text, (accepts-same reading text).1 a))
+  examines-same (Err refusal) = refuses-same refusal
 
   pub reads_same : (entry : List ℕ) (answer : ReadAnswer) (exit : List ℕ)
       → Reads terms packet entry answer exit ↔ one_reader.Reads terms packet entry answer exit
-  reads_same entry (Accepted reading) exit = (
+  reads_same entry (Ok reading) exit = (
     λ (text, a, held, there). (text, (accepts-same reading text).0 a, held, there),
     λ (text, a, held, there). (text, (accepts-same reading text).1 a, held, there),
   )
-  reads_same entry (NotRead refusal) exit =
+  reads_same entry (Err refusal) exit =
       (λ (p, same). ((read-refuses-same (length entry) refusal).0 p, same), λ (p, same). ((read-refuses-same (length entry) refusal).1 p, same))

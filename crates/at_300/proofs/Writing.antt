@@ -9,6 +9,7 @@ use Prim.Native.Nat.{ℕ, ◌≤◌, ◌<◌}
 use native.Mathlib.Decide.{dec_le}
 use native.Mathlib.Omega.{arith}
 use lib.ListN.{length, drop}
+use Rattle.std.specs.Prelude.{Ok, Err}
 use Rattle.header.specs.declared.Format.{Format}
 use Rattle.header.specs.Formats.{format_number}
 use Rattle.codes.proofs.CodedTexts.{coded-below}
@@ -20,9 +21,7 @@ use Rattle.refusals.specs.declared.WriteRefusal.TheVariants.{OtherFormat, Empty,
 use Rattle.refusals.specs.Match.{turn_in, writer_turn}
 use Rattle.refusals.specs.Refusals.{write_told}
 use Rattle.terms.specs.declared.Terms.{Terms}
-use Rattle.writer.specs.declared.WriteAnswer.{WriteAnswer}
-use Rattle.writer.specs.declared.WriteAnswer.TheVariants.{Written, Refused}
-use Rattle.writer.specs.Writer.{our_packet, WriteFault, WriteRefuses, WriteAccepts, Writes}
+use Rattle.writer.specs.Writer.{WriteAnswer, our_packet, WriteFault, WriteRefuses, WriteAccepts, Writes}
 use Rattle.at_300.specs.OneSection.Writer as one
 use Rattle.at_300.specs.OneSection.Writer.{our_packet as one_our_packet}
 use Rattle.at_300.proofs.FirstMatches.{NoneBelow, turn_of, first_matches}
@@ -98,7 +97,7 @@ module _ (terms : Terms) (small : terms.most ≤ 4000) (number : ℕ) (text : Li
 
 pub writes-same : (terms : Terms) → terms.most ≤ 4000 → (number : ℕ) (sync : Bool) (text entry : List ℕ) (answer : WriteAnswer) (exit : List ℕ)
     → Writes terms number sync text entry answer exit ↔ one.Writes terms number sync text entry answer exit
-writes-same terms small number sync text entry (Written n) exit = (
+writes-same terms small number sync text entry (Ok n) exit = (
   λ (format, a, there). (
     format,
     accepts-before terms small number text (length entry) format n a,
@@ -114,7 +113,7 @@ writes-same terms small number sync text entry (Written n) exit = (
         (sym (our-packet-same format sync text (data-some format text a.some a.coded) (omega (arith, a.few)))),
   ),
 )
-writes-same terms small number sync text entry (Refused refusal) exit = (
+writes-same terms small number sync text entry (Err refusal) exit = (
   λ (p, same). ((write-refuses-same terms small number text (length entry) refusal).0 p, same),
   λ (p, same). ((write-refuses-same terms small number text (length entry) refusal).1 p, same),
 )

@@ -1,7 +1,7 @@
 -- At 300 bps nothing changed when packets came to have up to four sections: there a packet has one, and every statement about it is the one that stood
 -- before, whatever number of header bits is named. A call that names none is one that names 1.
 -- Assumes nothing.
-use Rattle.std.specs.Prelude.{Bool, false, List, ◌↔◌, ◌≡◌, ℕ, ◌+◌, ◌≤◌, length}
+use Rattle.std.specs.Prelude.{Bool, false, List, ◌↔◌, ◌≡◌, ℕ, ◌+◌, ◌≤◌, length, Err}
 use Rattle.header.specs.declared.Format.{Format}
 use Rattle.sections.specs.Sections.{besides}
 use Rattle.packet.specs.Packet.{whole_length}
@@ -10,14 +10,9 @@ use Rattle.refusals.specs.declared.ReadRefusal.TheVariants.{Packet}
 use Rattle.terms.specs.declared.Terms.{Terms}
 use Rattle.terms.specs.Terms.{MayMend, naming}
 use Rattle.examine.specs.declared.Reading.{Reading}
-use Rattle.examine.specs.declared.ExamineAnswer.{ExamineAnswer}
-use Rattle.examine.specs.declared.ExamineAnswer.TheVariants.{Refused as NotReadable}
-use Rattle.reader.specs.declared.ReadAnswer.{ReadAnswer}
-use Rattle.reader.specs.declared.ReadAnswer.TheVariants.{Refused as NotRead}
-use Rattle.examine.specs.Examine.{Allowed, Accepts, Examines}
-use Rattle.reader.specs.Reader.{Reads}
-use Rattle.writer.specs.declared.WriteAnswer.{WriteAnswer}
-use Rattle.writer.specs.Writer.{Writes}
+use Rattle.examine.specs.Examine.{ExamineAnswer, Allowed, Accepts, Examines}
+use Rattle.reader.specs.Reader.{ReadAnswer, Reads}
+use Rattle.writer.specs.Writer.{WriteAnswer, Writes}
 use Rattle.demands.specs.Makers.{Made}
 use Rattle.at_300.specs.OneSection.Demand3.{Damaged}
 use Rattle.at_300.specs.OneSection.Examine as one-section
@@ -52,8 +47,8 @@ pub record At300 (mend : ℕ) : Type 0 where
   pub made : (format : Format) (sync : Bool) (text packet : List ℕ)
       → Made (now mend) format sync text packet ↔ one-section-makers.Made (before mend) format sync text packet
   -- and refusal 6, whose number is the section's now, has 0.
-  pub examined-six : (packet : List ℕ) (section : ℕ) → Examines (now mend) packet (NotReadable (Checksum section)) → section ≡ 0
-  pub read-six : (packet entry exit : List ℕ) (section : ℕ) → Reads (now mend) packet entry (NotRead (Packet (Checksum section))) exit → section ≡ 0
+  pub examined-six : (packet : List ℕ) (section : ℕ) → Examines (now mend) packet (Err (Checksum section)) → section ≡ 0
+  pub read-six : (packet entry exit : List ℕ) (section : ℕ) → Reads (now mend) packet entry (Err (Packet (Checksum section))) exit → section ≡ 0
   -- A packet has 6 bytes more than its data, which is what `used` and the writer's lengths say;
   pub whole_length_lem : (n : ℕ) → 1 ≤ n → n ≤ 4000 → whole_length n ≡ n + 6
   -- what came for section 0 is all that came, so that demand 3 says of damage what it said.

@@ -11,9 +11,9 @@ ghost use Rattle.codes.specs.Steps.EightBytes.{eight_at};
 ghost use Rattle.codes.specs.Steps.Laid.{laid};
 ghost use Rattle.codes.specs.Steps.Measure.{with_front, FrontFits};
 ghost use Rattle.codes.specs.Steps.Taken.{characters_of};
-ghost use Rattle.codes.specs.Steps.Words.{NearEnd, Last};
+ghost use Rattle.codes.specs.Steps.Words.{Last};
 
-use codes::{Code, Measured, Place};
+use codes::{Code, Extent, MalformedAt, Measured};
 
 // The bits that are still to be read: the lowest `have` bits of `held`, then those of the bytes from `next` on.
 #[derive(Clone, Copy)]
@@ -23,17 +23,11 @@ pub struct Buffer {
     pub next: usize,
 }
 
-fn wide(b: u8) -> u64
-    ensures { (result ≡ b) × (result < 256) }
-{
-    b as u64
-}
-
-// Four bytes in a row as one number.
-fn word(a: u8, b: u8, c: u8, d: u8) -> u64
-    ensures { (result ≡ (a * 256 + b) * 65536 + (c * 256 + d)) × (result < 4294967296) }
-{
-    ((wide(a) * 256 + wide(b)) * 256 + wide(c)) * 256 + wide(d)
+// The last bits that are to be read: the lowest `have` bits of `held`.
+#[derive(Clone, Copy)]
+pub struct LastBits {
+    pub held: u64,
+    pub have: u64,
 }
 
 // Eight bytes in a row, from place `at` on, as one number.
@@ -41,9 +35,16 @@ pub fn eight(s: &[u8], at: usize) -> u64
     requires { at + 8 ≤ length s.now }
     ensures { (result ≡ eight_at s.now at) × ((i : ℕ) → get_or s.now i 0 < 256) }
 {
-    let upper = word(s[at], s[at + 1], s[at + 2], s[at + 3]);
-    let lower = word(s[at + 4], s[at + 5], s[at + 6], s[at + 7]);
-    upper * 4294967296 + lower
+    u64::from_be_bytes([
+        s[at],
+        s[at + 1],
+        s[at + 2],
+        s[at + 3],
+        s[at + 4],
+        s[at + 5],
+        s[at + 6],
+        s[at + 7],
+    ])
 }
 
 // The next nine bits, with ones for those that are not there.
@@ -66,10 +67,7 @@ pub fn at_end(held: u64, have: u64) -> bool
     if 7 < have {
         return false;
     }
-    if window(held, have) == 511 {
-        return true;
-    }
-    false
+    window(held, have) == 511
 }
 
 // `width` bits put in at the lower end.
@@ -80,21 +78,18 @@ pub fn push(held: u64, bits: u64, width: u64) -> u64
     (held << width) | bits
 }
 
-// The last bits in a buffer: those of fewer than eight bytes.
-pub fn last_bits(s: &[u8], place: Place) -> Buffer
-    requires { NearEnd s.now place }
-    ensures { Last s.now place result.held result.have result.next }
+// Fewer than eight bytes as one number, and how many of its lowest bits are left without the first `skip` of them.
+pub fn last_bits(rest: &[u8], skip: u64) -> LastBits
+    requires { (length rest.now < 8) × (skip ≤ length rest.now * 8) }
+    ensures { Last rest.now skip result.held result.have }
 {
     let mut held: u64 = 0;
-    let mut next = place.next;
-    while next < s.len() {
-        held = held * 256 + wide(s[next]);
-        next += 1;
+    for byte in rest {
+        held = held * 256 + *byte as u64;
     }
-    Buffer {
+    LastBits {
         held,
-        have: (next - place.next) as u64 * 8 - place.skip,
-        next,
+        have: rest.len() as u64 * 8 - skip,
     }
 }
 
@@ -104,8 +99,14 @@ pub fn with_front(last: Measured, n: usize, codes: usize, at: usize) -> Measured
     ensures { result ≡ with_front n codes at last }
 {
     match last {
-        Measured::Text(k, more) => Measured::Text(n + k, codes + more),
-        Measured::Malformed(i, more) => Measured::Malformed(at + i, codes + more),
+        Ok(extent) => Ok(Extent {
+            characters: n + extent.characters,
+            codes: codes + extent.codes,
+        }),
+        Err(malformed) => Err(MalformedAt {
+            bit: at + malformed.bit,
+            codes: codes + malformed.codes,
+        }),
     }
 }
 

@@ -3,7 +3,7 @@
 
 #![tactic(auto)]
 
-ghost use Rattle.std.specs.Prelude.{cond, ◌≡◌, ◌⊎◌, ◌+◌, ◌/◌, ◌^◌, ◌≤◌, ◌<◌, length, take};
+ghost use Rattle.std.specs.Prelude.{cond, ◌≡◌, ◌+◌, ◌/◌, ◌^◌, ◌≤◌, ◌<◌, length, take};
 ghost use Rattle.codes.specs.Coded.{last_of};
 ghost use Rattle.codes.specs.Pack.{low};
 ghost use Rattle.codes.specs.Steps.EightBytes.{spilled};
@@ -17,11 +17,12 @@ pub fn spill(out: &mut [u8], n: usize, held: u64, have: u64)
     requires { (32 ≤ have) × (have ≤ 64) × (n + 4 ≤ length out.old) }
     ensures { out.new ≡ spilled 4 out.old n held have }
 {
-    let four = held >> (have - 32);
-    out[n] = (four / 0x100_0000 % 256) as u8;
-    out[n + 1] = (four / 0x1_0000 % 256) as u8;
-    out[n + 2] = (four / 0x100 % 256) as u8;
-    out[n + 3] = (four % 256) as u8;
+    let four = (held >> (have - 32)) % 0x1_0000_0000;
+    let [first, second, third, fourth] = (four as u32).to_be_bytes();
+    out[n] = first;
+    out[n + 1] = second;
+    out[n + 2] = third;
+    out[n + 3] = fourth;
 }
 
 // `width` bits more, and if four bytes or more are held then, the upper four of them into the buffer.
@@ -94,18 +95,6 @@ pub fn before_at(text: &[u8], i: usize) -> u8
         return 0;
     }
     text[i - 1]
-}
-
-// Where the next characters end whose bits are counted together: 7,000 have fewer than 2^16, at nine each, and numbers of 16 bits are added twice as many at
-// once as those of 32.
-pub fn block_end(from: usize, length: usize) -> usize
-    requires { from < length }
-    ensures { (from < result) × (result ≤ length) × (result ≤ from + 7000) × ((result ≡ length) ⊎ (result ≡ from + 7000)) }
-{
-    if length - from < 7000 {
-        return length;
-    }
-    from + 7000
 }
 
 // One of two numbers that are both at hand: a choice without a branch, which is made for several characters at once.

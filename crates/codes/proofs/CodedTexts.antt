@@ -1,14 +1,11 @@
 -- A code for each character of a text: by the row, by a computed test, and one character more at a time.
 -- Assumes nothing.
-use mathlib.Core.Path.{◌≡◌, subst, subst⁻¹}
-use mathlib.Core.Bool.{Bool, true, false, ◌&&◌}
+use mathlib.Core.Bool.{Bool, true, false}
 use mathlib.Core.List.{List, [], ◌∷◌, ◌++◌}
-use Prim.Native.Nat.{ℕ, zero, suc, ◌+◌, ◌≤◌, ◌<◌}
+use Prim.Native.Nat.{ℕ, zero, suc, ◌≤◌, ◌<◌}
 use native.Mathlib.Omega.{arith}
 use lib.Dec.{T}
 use lib.ListN.{length, take, get_or}
-use borrow.Author.Count.{below_more}
-use Rattle.bits.specs.Says.{Says}
 use Rattle.codes.specs.Coded.{alone, CodedBelow, FirstUncoded}
 use Rattle.bits.proofs.Below.{below_next}
 use Rattle.bits.proofs.Said.{and_left, and_right}
@@ -39,18 +36,6 @@ module _ (has : ℕ → Bool) where
   coded-every (c ∷ t) h = coded-cons c t (and_left (has c) (every has t) h) (coded-every t (and_right (has c) (every has t) h))
 
 module _ (has : List ℕ → ℕ → Bool) where
-  -- whether the characters that were passed have codes, with one more
-  pub coded-more : (text : List ℕ) (i : ℕ) (all one : Bool) → Says all (CodedBelow has text i) → one ≡ has (take i text) (get_or text i 0)
-      → Says (all && one) (CodedBelow has text (i + 1))
-  coded-more text i true true s e = below_more (λ (k : ℕ). T (has (take k text) (get_or text k 0))) i s (subst T e tt)
-  coded-more text i true false s e = λ h. subst⁻¹ T e (h i (omega arith))
-  coded-more text i false one s e = λ h. s (λ k l. h k (omega arith))
-
-  -- the first character that has none, by its index
-  pub first-at : (text : List ℕ) (index i : ℕ) → index ≡ i → i < length text → CodedBelow has text i → has (take i text) (get_or text i 0) ≡ false → FirstUncoded has text index
-  first-at text index i e there before none =
-      subst⁻¹ (FirstUncoded has text) e (record { there = there; before = before; none = λ t. subst T none t })
-
   -- a text of which no character is the first without a code has a code for each
   settled : (b : Bool) → ((T b → ⊥) → ⊥) → T b
   settled true not-not = tt

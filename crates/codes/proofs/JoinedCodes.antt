@@ -29,19 +29,8 @@ module _ (first next : Sent) where
     count = c;
   }
 
-pub four-joined : (a b c d left right r : Sent) → Joined a b left → Joined c d right → Joined left right r → FourJoined a b c d r
-four-joined a b c d left right r x y z = record {
-  same = z.same ∙ ap₂ (λ (l k : List ℕ). l ++ k) x.same y.same;
-  fits = z.fits;
-  width = omega (arith, z.width, x.width, y.width);
-  count = omega (arith, z.count, x.count, y.count);
-}
-
 -- the first bits of a text, where they stand one behind the other
 module _ (rest : ℕ → List ℕ) (size : ℕ) where
-  pub first-joinable : (i most : ℕ) (r : Sent) → FirstOf rest size i most r → r.count ≤ most → Joinable most r
-  first-joinable i most r f c = record { fits = f.fits; long = f.long; count = c }
-
   pub first-four : (i j k l most : ℕ) (a b c d r : Sent) → FirstOf rest size i most a → FirstOf rest size j most b → FirstOf rest size k most c
       → FirstOf rest size l most d → j ≡ i + a.count → k ≡ j + b.count → l ≡ k + c.count → FourJoined a b c d r → FirstOf rest size i (4 * most) r
   first-four i j k l most a b c d r f g h m x y z o =

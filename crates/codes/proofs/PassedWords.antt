@@ -1,110 +1,123 @@
 -- Eight bytes of the data passed as one number: what is still to be read after them; and the last bytes. It holds of every scheme.
 -- Assumes nothing.
-use mathlib.Core.Path.{◌≡◌, sym, ap, ap₂, subst, subst₂, subst⁻¹, ◌∙◌}
-use mathlib.Core.List.{List, ◌++◌, append-nil}
+use mathlib.Core.Path.{◌≡◌, refl, sym, ap, subst, subst₂, subst⁻¹, ◌∙◌}
+use mathlib.Core.List.{List, [], ◌∷◌, ◌++◌, append_assoc, append-nil}
 use Prim.Native.Nat.{ℕ, ◌+◌, ◌-◌, ◌*◌, ◌/◌, ◌%◌, ◌^◌, ◌≤◌, ◌<◌}
 use native.Mathlib.Nat.{mod-eq_of_lt, lt_of_lt_of_le}
 use native.Mathlib.Omega.{arith}
-use lib.Dec.{T}
-use lib.ListN.{length, drop, get_or, length-append, length-drop, drop_of_length-le}
+use lib.ListN.{length, take, drop, get_or, replicate, length-drop, take-append-drop, drop_of_length-le}
 use lib.Arith.{digits_lt}
 use lib.Pow.{pow-add, pow_mono}
-use lib.Seq.{drop-drop, drop-append-le}
+use lib.Seq.{drop-drop, take-append-le, drop-append-le}
 use Rattle.bits.specs.Row.{bits}
 use Rattle.codes.specs.Chain.{Scheme}
-use Rattle.codes.specs.Steps.Laid.{Readable}
 use Rattle.codes.specs.Pack.{low, value}
+use Rattle.codes.specs.Steps.BitBuffer.{ahead, Window}
 use Rattle.codes.specs.Steps.EightBytes.{eight_at}
+use Rattle.codes.specs.Steps.Laid.{Readable}
+use Rattle.codes.specs.Steps.Measure.{Measured, Measures, with_front}
 use Rattle.codes.specs.Steps.Passed.{CountedSoFar, LaidSoFar}
-use Rattle.codes.specs.Steps.Measure.{Measures, countable, with_front, FrontFits}
-use Rattle.codes.specs.Steps.Words.{SkimsInto, Begun, beyond, LaidWords, CountedTo, Last}
-use Rattle.codes.specs.declared.Measured.{Measured}
-use Rattle.codes.specs.declared.Measured.TheVariants.{Malformed}
-use Rattle.codes.specs.declared.Counted.{Counted}
+use Rattle.codes.specs.Steps.Words.{SkimsInto, Begun, LaidWords, Last}
 use Rattle.codes.specs.declared.Laid.{Laid}
-use Rattle.codes.specs.declared.Place.{Place}
-use Rattle.codes.proofs.BitBuffer.{low-drop}
-use Rattle.codes.proofs.ReadSoFar.{counting-on, counting-front, counting-bits, counting-stuck, counting-whole, front_fits, laying-on, laying-front, laying-length, laying-later, laying-within}
-use Rattle.codes.proofs.LowBits.{length-low, value_low}
-use Rattle.codes.proofs.BitsInBytes.{drop_bits, length-bits}
+use Rattle.codes.proofs.BitBuffer.{ahead-byte, low-drop}
+use Rattle.codes.proofs.BitsInBytes.{bits-cons, drop_bits}
 use Rattle.codes.proofs.EightBytes.{eight-bits}
-use Rattle.codes.proofs.OneReading.{Halts}
-use Rattle.codes.proofs.EveryElement.{every}
+use Rattle.codes.proofs.LowBits.{length-low, value_low}
+use Rattle.codes.proofs.ReadSoFar.{counting-on, counting-front, counting-whole, laying-on, laying-front, laying-length, laying-later, laying-within}
 use Rattle.codes.proofs.SchemeLaws.{Laws}
-use Rattle.codes.proofs.SizeBounds.{brief}
 
-module _ (s : List ℕ) (next held : ℕ) (here : next + 8 ≤ length s) (bytes : (i : ℕ) → get_or s i 0 < 256) (word : held ≡ eight_at s next) where
-  after : List ℕ
-  after = bits (drop (next + 8) s)
+-- the next nine stay where bits are added behind them
+pub longer : (held left : ℕ) (more : List ℕ) (nine : ℕ) → Window held left nine → 9 ≤ left
+    → low 9 nine ≡ take 9 ((low left held ++ more) ++ replicate 9 1)
+longer held left more nine w h =
+    let within : 9 ≤ length (low left held) = omega (arith, length-low left held) in
+    w.nine
+    ∙ take-append-le 9 (low left held) (replicate 9 1) within
+    ∙ sym (take-append-le 9 (low left held) (more ++ replicate 9 1) within)
+    ∙ ap (take 9) (sym (append_assoc (low left held) more (replicate 9 1)))
 
-  -- where the lowest `left` bits of the number are left
-  beyond-left : (left : ℕ) → left ≤ 64 → low left held ++ after ≡ beyond s (next + (64 - left) / 8) ((64 - left) % 8)
-  unfolding beyond after
-  beyond-left left h =
-      let k : ℕ = 64 - left in
-      ap (λ (l : List ℕ). l ++ after)
-      (ap (λ (n : ℕ). low n held) (let e : left ≡ 64 - k = omega arith in e) ∙ sym (low-drop held 64 k (omega arith)))
-      ∙ sym (drop-append-le k (low 64 held) after (omega (arith, length-low 64 held)))
-      ∙ ap (drop k) (ap (λ (v : ℕ). low 64 v ++ after) word ∙ eight-bits s next here bytes)
-      ∙ ap (λ (n : ℕ). drop n (bits (drop next s))) (let e : k ≡ k / 8 * 8 + k % 8 = omega arith in e)
-      ∙ sym (drop-drop (k % 8) (k / 8 * 8) (bits (drop next s)))
-      ∙ ap (drop (k % 8)) (drop_bits (k / 8) (drop next s) ∙ ap bits (drop-drop (k / 8) next s))
+all_passed : (s : List ℕ) (held i : ℕ) → length s ≤ i → low (i * 8) held ++ bits (drop i s) ≡ bits s → low (i * 8) held ≡ bits s
+unfolding bits
+all_passed s held i h e =
+    sym (append-nil (low (i * 8) held)) ∙ ap (λ l. low (i * 8) held ++ bits l) (sym (drop_of_length-le s h)) ∙ e
 
-  module _ (skip : ℕ) (some : skip < 8) where
-    -- and before
-    beyond-here : low (64 - skip) held ++ after ≡ beyond s next skip
-    beyond-here =
-        beyond-left (64 - skip) (omega arith)
-        ∙ ap₂ (beyond s) (let e : next + (64 - (64 - skip)) / 8 ≡ next = omega arith in e) (let e : (64 - (64 - skip)) % 8 ≡ skip = omega arith in e)
+bits-append : (s t : List ℕ) → bits (s ++ t) ≡ bits s ++ bits t
+unfolding bits
+bits-append [] t = refl
+bits-append (b ∷ s) t =
+    bits-cons b (s ++ t) ∙ ap (λ l. low 8 b ++ l) (bits-append s t) ∙ sym (append_assoc (low 8 b) (bits s) (bits t))
+    ∙ ap (λ l. l ++ bits t) (sym (bits-cons b s))
 
-    -- the codes of the number are passed
-    pub counted-word : {scheme : Scheme} (bs : List ℕ) (n codes left count more : ℕ) → left ≤ 64 → CountedSoFar scheme bs (beyond s next skip) n codes
-        → CountedSoFar scheme (low (64 - skip) held) (low left held) count more
-        → CountedSoFar scheme bs (beyond s (next + (64 - left) / 8) ((64 - left) % 8)) (n + count) (codes + more)
-    counted-word {scheme} bs n codes left count more h c d =
-        counting-on c (subst₂ (λ (a b : List ℕ). CountedSoFar scheme a b count more) beyond-here (beyond-left left h) (counting-front d after))
+pub eight_whole : (word : List ℕ) → length word ≡ 8 → ((i : ℕ) → get_or word i 0 < 256) → low 64 (eight_at word 0) ≡ bits word
+eight_whole word e b = all_passed word (eight_at word 0) 8 (omega arith) (eight-bits word 0 (omega arith) b)
 
-    -- and no code comes next, whatever follows the number
-    pub stuck-word : {scheme : Scheme} {at before : ℕ} (n codes left count more : ℕ) → at ≡ next * 8 + (64 - left) → before ≡ codes + more → left ≤ 64
-        → scheme.unused < left → CountedSoFar scheme (bits s) (beyond s next skip) n codes → CountedSoFar scheme (low (64 - skip) held) (low left held) count more
-        → ((behind : List ℕ) → Halts scheme 0 (low left held ++ behind)) → Measures scheme (bits s) (Malformed at before)
-    unfolding after
-    stuck-word {scheme} {at} {before} n codes left count more e told h k c d halts =
-        let size : length (low left held ++ after) ≡ left + (length s - (next + 8)) * 8 =
-        length-append (low left held) after
-        ∙ ap₂ (λ (a b : ℕ). a + b) (length-low left held)
-        (length-bits (drop (next + 8) s) ∙ ap (λ (a : ℕ). a * 8) (length-drop (next + 8) s)) in
-        counting-stuck
-        (counting-on c (subst (λ (a : List ℕ). CountedSoFar scheme a (low left held ++ after) count more) beyond-here (counting-front d after)))
-        at before (omega (arith, size, length-bits s)) told (halts after)
-        (λ f. let no' : ⊥ = omega (arith, f.few, size) in no')
+-- a byte more at the lower end of a number
+pub byte_more : (s : List ℕ) (held i : ℕ) → i < length s → get_or s i 0 < 256
+    → low ((i + 1) * 8) (held * 256 + get_or s i 0) ++ bits (drop (i + 1) s) ≡ low (i * 8) held ++ bits (drop i s)
+unfolding ahead
+byte_more s held i h k =
+    ap (λ n. low n (held * 256 + get_or s i 0) ++ bits (drop (i + 1) s)) (let e : (i + 1) * 8 ≡ i * 8 + 8 = omega arith in e)
+    ∙ ahead-byte s held (i * 8) i h k
 
-  -- where there is room for the whole text: for what the number's codes say there is, and then they are passed
-  module _ {scheme : Scheme} {entry out : List ℕ} {skip n : ℕ} (laws : Laws scheme) (f : Readable scheme (bits s) (length entry))
-      (y : LaidWords scheme s entry out next skip n) where
-    pub words-begun : (n ≤ length out) × Begun scheme held (64 - skip) (length out - n)
-    words-begun =
-        let same : length out ≡ length entry = laying-length y.laid y.room in (
+-- a place in bits, by the byte
+pub by_byte : (s : List ℕ) (k : ℕ) → drop (k % 8) (bits (drop (k / 8) s)) ≡ drop k (bits s)
+by_byte s k =
+    ap (drop (k % 8)) (sym (drop_bits (k / 8) s))
+    ∙ drop-drop (k % 8) (k / 8 * 8) (bits s)
+    ∙ ap (λ n. drop n (bits s)) (let e : k / 8 * 8 + k % 8 ≡ k = omega arith in e)
+
+module _ (rest word : List ℕ) (held : ℕ) (w : word ≡ take 8 rest) (h : low 64 held ≡ bits word) where
+  -- the bits behind the first k of a word and what follows it
+  pub behind : (k : ℕ) → k ≤ 64 → drop k (bits rest) ≡ low (64 - k) held ++ bits (drop 8 rest)
+  behind k small =
+      ap (λ s. drop k (bits s)) (sym (take-append-drop 8 rest) ∙ ap (λ s. s ++ drop 8 rest) (sym w))
+      ∙ ap (drop k) (bits-append word (drop 8 rest) ∙ ap (λ l. l ++ bits (drop 8 rest)) (sym h))
+      ∙ drop-append-le k (low 64 held) (bits (drop 8 rest)) (let e : k ≤ length (low 64 held) = omega (arith, length-low 64 held) in e)
+      ∙ ap (λ l. l ++ bits (drop 8 rest)) (low-drop held 64 k small)
+
+  pub ahead_left : (left : ℕ) → left ≤ 64 → low left held ++ bits (drop 8 rest) ≡ drop (64 - left) (bits rest)
+  ahead_left left few =
+      ap (λ k. low k held ++ bits (drop 8 rest)) (let e : left ≡ 64 - (64 - left) = omega arith in e) ∙ sym (behind (64 - left) (omega arith))
+
+  -- codes of a word passed, after those before it
+  pub word_more : {scheme : Scheme} {bs : List ℕ} {n codes count more left skip : ℕ} → skip ≤ 64 → left ≤ 64
+      → CountedSoFar scheme bs (drop skip (bits rest)) n codes → CountedSoFar scheme (low (64 - skip) held) (low left held) count more
+      → CountedSoFar scheme bs (drop (64 - left) (bits rest)) (n + count) (codes + more)
+  word_more {scheme} {bs} {n} {codes} {count} {more} {left} {skip} small few before now =
+      counting-on before
+      (subst₂ (λ a b. CountedSoFar scheme a b count more) (sym (behind skip small)) (ahead_left left few) (counting-front now (bits (drop 8 rest))))
+
+  module _ {scheme : Scheme} {s entry out : List ℕ} {skip n : ℕ} (laws : Laws scheme) (f : Readable scheme (bits s) (length entry))
+      (y : LaidWords scheme s entry out rest skip n) where
+    -- where there is room for the whole text there is for what the word's codes say
+    pub word_begun : (n ≤ length out) × Begun scheme held (64 - skip) (length out - n)
+    word_begun =
+        let same : length out ≡ length entry = laying-length y.laid y.room in
+        let short : skip ≤ 64 = omega (arith, y.short) in (
           omega (arith, same, y.room),
           (
-            after,
-            subst₂ (Readable scheme) (sym (beyond-here skip y.short)) (let e : 0 + length entry - n ≡ length out - n = omega (arith, same) in e)
+            bits (drop 8 rest),
+            subst₂ (Readable scheme) (behind skip short) (let e : 0 + length entry - n ≡ length out - n = omega (arith, same) in e)
                 (laying-later y.laid laws f),
           ),
         )
 
-    pub words-on : {exit : List ℕ} (r : Laid) → SkimsInto scheme held (64 - skip) out exit n r
-        → LaidWords scheme s entry exit (next + (64 - r.left) / 8) ((64 - r.left) % 8) (n + r.count)
-    words-on {exit} r z =
-        let on : LaidSoFar scheme (bits s) (beyond s (next + (64 - r.left) / 8) ((64 - r.left) % 8)) entry exit 0 (n + r.count) =
+    -- and then they are passed
+    pub word_laid : {exit after : List ℕ} (r : Laid) → 8 ≤ length rest → SkimsInto scheme held (64 - skip) out exit n r
+        → after ≡ drop ((64 - r.left) / 8) rest → LaidWords scheme s entry exit after ((64 - r.left) % 8) (n + r.count)
+    word_laid {exit} {after} r whole z moved =
+        let short : skip ≤ 64 = omega (arith, y.short) in
+        let few : r.left ≤ 64 = omega (arith, z.0.last) in
+        let on : LaidSoFar scheme (bits s) (drop (64 - r.left) (bits rest)) entry exit 0 (n + r.count) =
         laying-on y.laid y.room
-        (subst₂ (λ (a b : List ℕ). LaidSoFar scheme a b out exit n (n + r.count)) (beyond-here skip y.short)
-        (beyond-left r.left (omega (arith, z.0.last))) (laying-front z.1 after)) in
+        (subst₂ (λ a b. LaidSoFar scheme a b out exit n (n + r.count)) (sym (behind skip short)) (ahead_left r.left few)
+        (laying-front z.1 (bits (drop 8 rest)))) in
         record {
           short = omega arith;
-          within = omega (arith, z.0.last);
+          within = omega (arith, whole, z.0.last, ap length moved, length-drop ((64 - r.left) / 8) rest);
           room = omega (arith, laying-within on laws f);
-          laid = on;
+          laid = subst (λ row. LaidSoFar scheme (bits s) row entry exit 0 (n + r.count))
+              (sym (by_byte rest (64 - r.left)) ∙ ap (λ s. drop ((64 - r.left) % 8) (bits s)) (sym moved)) on;
         }
 
 -- a byte more at the lower end of the last bits: no more than these
@@ -114,42 +127,23 @@ last-small held byte k h b = subst⁻¹ (λ (n : ℕ). held * 256 + byte < n) (p
 pub last-fits-word : (held byte k : ℕ) → k ≤ 56 → held < 2 ^ k → byte < 256 → held * 256 + byte < 2 ^ 64
 last-fits-word held byte k small h b = lt_of_lt_of_le (last-small held byte k h b) (pow_mono (let e : k + 8 ≤ 64 = omega arith in e))
 
--- the bits of all the last bytes, without the first `skip`
-pub last-held : (s : List ℕ) (held next skip end have : ℕ) → length s ≤ end → low ((end - next) * 8) held ++ bits (drop end s) ≡ bits (drop next s)
-    → have + skip ≡ (end - next) * 8 → low have held ≡ beyond s next skip
-unfolding beyond bits
-last-held s held next skip end have h e size =
-    ap (λ (n : ℕ). low n held) (let x : have ≡ (end - next) * 8 - skip = omega arith in x)
-    ∙ sym (low-drop held ((end - next) * 8) skip (omega arith))
-    ∙ ap (drop skip) (sym (ap (λ (l : List ℕ). low ((end - next) * 8) held ++ bits l) (drop_of_length-le s h) ∙ append-nil (low ((end - next) * 8) held)) ∙ e)
-
--- they are that number
-pub last-value : (s : List ℕ) (held next end : ℕ) → length s ≤ end → held < 2 ^ ((end - next) * 8)
-    → low ((end - next) * 8) held ++ bits (drop end s) ≡ bits (drop next s) → held ≡ value (bits (drop next s))
-unfolding bits
-last-value s held next end h small e =
-    sym (value_low ((end - next) * 8) held ∙ mod-eq_of_lt small)
-    ∙ ap value
-    (sym (ap (λ (l : List ℕ). low ((end - next) * 8) held ++ bits l) (drop_of_length-le s h) ∙ append-nil (low ((end - next) * 8) held)) ∙ e)
+-- the last bytes as a number, without the first `skip` bits
+pub last-told : (rest : List ℕ) (held skip have n : ℕ) → n ≡ length rest → held < 2 ^ (n * 8) → low (n * 8) held ++ bits (drop n rest) ≡ bits rest
+    → have + skip ≡ length rest * 8 → Last rest skip held have
+last-told rest held skip have n all small e size =
+    let whole : low (n * 8) held ≡ bits rest = all_passed rest held n (omega (arith, all)) e in
+    record {
+      whole = sym (value_low (n * 8) held ∙ mod-eq_of_lt small) ∙ ap value whole;
+      same = ap (λ k. low k held) (let x : have ≡ n * 8 - skip = omega (arith, all, size) in x)
+          ∙ sym (low-drop held (n * 8) skip (omega (arith, all, size))) ∙ ap (drop skip) whole;
+      size = size;
+    }
 
 -- and so there is one answer
-pub last_one : {s : List ℕ} {place : Place} {held have end held' have' end' : ℕ} → Last s place held have end → Last s place held' have' end'
-    → (held ≡ held') × (have ≡ have') × (end ≡ end')
-last_one a b = (a.whole ∙ sym b.whole, omega (arith, a.size, b.size), a.behind ∙ sym b.behind)
+pub last_one : {rest : List ℕ} {skip held have held' have' : ℕ} → Last rest skip held have → Last rest skip held' have' → (held ≡ held') × (have ≡ have')
+last_one a b = (a.whole ∙ sym b.whole, omega (arith, a.size, b.size))
 
--- what the last bits come to, told of the whole
-module _ {scheme : Scheme} (s : List ℕ) (r : Counted) (held have end n codes at : ℕ) (counted : CountedTo scheme s r) (last : Last s r.place held have end)
-    (said : n ≡ r.place.n) (taken : codes ≡ r.codes) (size : at + have ≡ length s * 8) (m : Measured) (comes : Measures scheme (low have held) m) where
-  here : CountedSoFar scheme (bits s) (low have held) n codes
-  here =
-      subst⁻¹ (λ (l : List ℕ). CountedSoFar scheme (bits s) l n codes) last.same
-      (subst₂ (CountedSoFar scheme (bits s) (beyond s r.place.next r.place.skip)) (sym said) (sym taken) counted.2)
-
-  pub last_fits : Laws scheme → ((k : ℕ) → T (every (brief 1) (scheme.table k))) → length s < countable → FrontFits n codes at m
-  last_fits laws briefs h =
-      let near : (r.place.next ≤ length s) × (r.place.skip ≤ (length s - r.place.next) * 8) = (counted.0.within, counted.0.skips) in
-      front_fits scheme laws briefs (low have held) n codes at m comes (omega (arith, near, counted.1, last.size, length-low have held))
-      (omega (arith, counting-bits here laws, length-bits s)) (omega (arith, length-low have held))
-
-  pub last-whole : Measures scheme (bits s) (with_front n codes at m)
-  last-whole = counting-whole here at (omega (arith, length-low have held, length-bits s)) m comes
+-- what they come to, told of the whole; each number with what it must be, so that a wrong one is refused where it stands
+pub last-whole : {scheme : Scheme} {bs row : List ℕ} {n codes k j : ℕ} (at : ℕ) → CountedSoFar scheme bs row n codes → k ≡ n → j ≡ codes
+    → at + length row ≡ length bs → (m : Measured) → Measures scheme row m → Measures scheme bs (with_front k j at m)
+last-whole {scheme} {bs} {row} at c e f size m t = counting-whole (subst₂ (CountedSoFar scheme bs row) (sym e) (sym f) c) at size m t

@@ -77,11 +77,6 @@ module _ (w entry : List ℕ) (m : ℕ) (bytes : Bytes w) (room : m + length w �
             ∙ ap (laid entry m) (sym (take-suc w k 0 there) ∙ ap (λ (i : ℕ). take i w) (sym (add-one k)));
       }
 
-  -- the next k bytes
-  pub pending-room-bytes : (k : ℕ) (out : List ℕ) (n held have : ℕ) (rest : List ℕ) → k * 8 ≤ have → Pending w entry out m n held have rest
-      → n + k ≤ length entry
-  pending-room-bytes k out n held have rest h p = omega (arith, row_room w entry out m n held have [] rest room p)
-
   pub pending-bytes : (k : ℕ) (out : List ℕ) (n held have : ℕ) (rest : List ℕ) → k * 8 ≤ have → Pending w entry out m n held have rest
       → Pending w entry (spilled k out n held have) m (n + k) held (have - k * 8) rest
   unfolding spilled

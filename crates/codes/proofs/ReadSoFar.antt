@@ -9,10 +9,9 @@ use lib.Dec.{T}
 use lib.ListN.{length, length-append}
 use Rattle.codes.specs.Chain.{Scheme, Fill, Builds}
 use Rattle.codes.specs.Steps.Laid.{laid, Readable, Placed}
-use Rattle.codes.specs.Steps.Measure.{BuildsIn, StuckAfter, Measures, with_front, FrontFits}
+use Rattle.codes.specs.Steps.Measure.{BuildsIn, StuckAfter, Measured, extent, malformed_at, Measures, with_front, FrontFits}
 use Rattle.codes.specs.Steps.Passed.{Passed, CountedSoFar, LaidSoFar}
-use Rattle.codes.specs.declared.Measured.{Measured}
-use Rattle.codes.specs.declared.Measured.TheVariants.{Text, Malformed}
+use Rattle.std.specs.Prelude.{Ok, Err}
 use Rattle.codes.proofs.EveryElement.{every}
 use Rattle.codes.proofs.SizeBounds.{brief, builds-within, stuck-within, builds-count, stuck-count, passed-within}
 use Rattle.codes.proofs.LaidRows.{laid_nil, laid-laid, length-laid}
@@ -42,7 +41,7 @@ module _ {scheme : Scheme} {bs rest : List ℕ} {n codes : ℕ} (c : CountedSoFa
   counting-bits laws = passed-within laws c.passed
 
   -- the ends of the reading, each number with what it must be, so that a wrong one is refused where it stands
-  pub counting-end : (r k : ℕ) → r ≡ n → k ≡ codes → Fill scheme.unused rest → Measures scheme bs (Text r k)
+  pub counting-end : (r k : ℕ) → r ≡ n → k ≡ codes → Fill scheme.unused rest → Measures scheme bs (Ok (extent r k))
   unfolding builds-end
   counting-end r k e d f =
       let whole = passed-builds rest [] c.passed (builds-end scheme f) in
@@ -50,34 +49,34 @@ module _ {scheme : Scheme} {bs rest : List ℕ} {n codes : ℕ} (c : CountedSoFa
       (c.said, c.counts ∙ sym e, subst₂ (BuildsIn scheme 0 bs) (append-nil c.said) is whole)
 
   pub counting-stuck : (i before : ℕ) → i + length rest ≡ length bs → before ≡ codes → Halts scheme 0 rest → (Fill scheme.unused rest → ⊥)
-      → Measures scheme bs (Malformed i before)
+      → Measures scheme bs (Err (malformed_at i before))
   unfolding stuck-here
   counting-stuck i before e d h f =
       let is : codes + 0 ≡ before = omega arith in
       subst (StuckAfter scheme 0 bs i) is (passed-stuck rest i 0 c.passed (omega arith) (stuck-here h (λ x. f)))
 
   -- what the rest comes to, of the whole
-  pub counting-text : (k j : ℕ) → Measures scheme rest (Text k j) → Measures scheme bs (Text (n + k) (codes + j))
+  pub counting-text : (k j : ℕ) → Measures scheme rest (Ok (extent k j)) → Measures scheme bs (Ok (extent (n + k) (codes + j)))
   counting-text k j t =
       let whole = passed-builds rest t.0 c.passed t.2.0 in
       (c.said ++ t.0, omega (arith, length-append c.said t.0, c.counts, t.1), (whole.0, whole.1 ∙ ap (λ (x : ℕ). codes + x) t.2.1))
 
-  pub counting-malformed : (i place j : ℕ) → place + length rest ≡ length bs + i → Measures scheme rest (Malformed i j)
-      → Measures scheme bs (Malformed place (codes + j))
+  pub counting-malformed : (i place j : ℕ) → place + length rest ≡ length bs + i → Measures scheme rest (Err (malformed_at i j))
+      → Measures scheme bs (Err (malformed_at place (codes + j)))
   counting-malformed i place j e s =
       let whole = passed-stuck rest place i c.passed e s.0 in
       (whole.0, whole.1 ∙ ap (λ (x : ℕ). codes + x) s.1)
 
   pub counting-whole : (at : ℕ) → at + length rest ≡ length bs → (m : Measured) → Measures scheme rest m → Measures scheme bs (with_front n codes at m)
-  counting-whole at e (Text k j) t = counting-text k j t
-  counting-whole at e (Malformed i j) s = counting-malformed i (at + i) j (omega arith) s
+  counting-whole at e (Ok d) t = counting-text d.characters d.codes t
+  counting-whole at e (Err m) s = counting-malformed m.bit (at + m.bit) m.codes (omega arith) s
 
 -- where a scheme says at most one character a bit, what a row comes to is counted
 pub front_fits : (scheme : Scheme) → Laws scheme → ((m : ℕ) → T (every (brief 1) (scheme.table m))) → (bs : List ℕ) (n codes at : ℕ) (m : Measured)
     → Measures scheme bs m → n + length bs < 2 ^ 64 → codes + length bs < 2 ^ 64 → at + length bs < 2 ^ 64 → FrontFits n codes at m
-front_fits scheme laws briefs bs n codes at (Text k j) t h i l =
+front_fits scheme laws briefs bs n codes at (Ok d) t h i l =
     (omega (arith, t.1, builds-within scheme 1 briefs t.2.0), omega (arith, t.2.1, builds-count laws t.2.0))
-front_fits scheme laws briefs bs n codes at (Malformed i j) s h k l =
+front_fits scheme laws briefs bs n codes at (Err m) s h k l =
     (omega (arith, stuck-within s.0), omega (arith, s.1, stuck-count laws s.0))
 
 pub laying-none : (scheme : Scheme) (bs out : List ℕ) (n : ℕ) → LaidSoFar scheme bs bs out out n n

@@ -2,18 +2,15 @@
 -- entries announce nothing.
 -- Assumes nothing.
 use mathlib.Core.Path.{◌≡◌, sym, ap, subst, subst₂, ◌∙◌}
-use mathlib.Core.Logic.{by_cases}
 use mathlib.Core.List.{List, [], ◌∷◌, ◌++◌}
 use Prim.Native.Nat.{ℕ, ◌+◌, ◌-◌, ◌≤◌, ◌<◌}
-use native.Mathlib.Decide.{dec_le}
-use native.Mathlib.Nat.{add_assoc}
 use native.Mathlib.Omega.{arith}
 use lib.Dec.{T}
 use lib.ListN.{length, take, set, length-append}
-use Rattle.codes.specs.Chain.{Entry, single, Fill}
+use Rattle.codes.specs.Chain.{Entry, single}
 use Rattle.codes.specs.Pack.{low}
 use Rattle.codes.specs.Steps.BitBuffer.{Window}
-use Rattle.codes.specs.Steps.Laid.{laid, Readable}
+use Rattle.codes.specs.Steps.Laid.{laid}
 use Rattle.codes.specs.Steps.Passed.{Passed, CountedSoFar, LaidSoFar}
 use Rattle.codes.specs.Steps.Taken.{FirstCode, characters_of}
 use Rattle.codes.specs.Steps.Words.{Begun}
@@ -22,7 +19,7 @@ use Rattle.codes.proofs.BitBuffer.{window-begins, begins-window}
 use Rattle.codes.proofs.EveryElement.{every}
 use Rattle.codes.proofs.LaidRows.{set-laid, set-laid-two}
 use Rattle.codes.proofs.LowBits.{length-low}
-use Rattle.codes.proofs.OneReading.{Halts, stuck-here, never_both}
+use Rattle.codes.proofs.OneReading.{Halts}
 use Rattle.codes.proofs.ReadSoFar.{counting_more, laying-more, laying-front, laying-within}
 use Rattle.codes.proofs.SchemeLaws.{Laws}
 use Rattle.codes.proofs.SingleTable.{mute, passed-one}
@@ -71,15 +68,6 @@ module _ {table : List Entry} (laws : Laws (single table 7)) (held have n : ℕ)
   pub puts-room : {rest out : List ℕ} {m : ℕ} → LaidSoFar (single table 7) (low have held) rest entry out n m → m ≤ length entry
   puts-room y = omega (arith, laying-within (laying-front y b.0) laws b.1)
 
-  pub puts-code : T (every mute table) → (out : List ℕ) (count left w : ℕ) (r : Code) → Window held left w → FirstCode table w r → r.width ≤ left
-      → LaidSoFar (single table 7) (low have held) (low left held) entry out n (n + count)
-      → LaidSoFar (single table 7) (low have held) (low (left - r.width) held) entry (laid out (n + count) (characters_of r)) n
-      (n + (count + r.count))
-  puts-code mutes out count left w r v k h y =
-      subst (LaidSoFar (single table 7) (low have held) (low (left - r.width) held) entry (laid out (n + count) (characters_of r)) n)
-      (add_assoc n count r.count)
-      (laying-code mutes (low have held) entry out n (n + count) held left w r v k y h (puts-room y))
-
 module _ {table : List Entry} (laws : Laws (single table 7)) where
   -- if the bits of the window's code are not there, no code begins what there is
   pub no_code : (held have w : ℕ) (r : Code) → Window held have w → FirstCode table w r → have < r.width → Halts (single table 7) 0 (low have held)
@@ -89,10 +77,3 @@ module _ {table : List Entry} (laws : Laws (single table 7)) where
       laws.alone 0 e k.entry j k.legal (low 9 w)
       (begins-window held have w e.code v b (omega (arith, k.long))) k.begins in
       omega (arith, size, k.width, ap (λ (d : Entry). length d.code) same)
-
-  -- where the bits are no fill, the next code is there
-  pub code-there : (held have w : ℕ) (r : Code) (room : ℕ) → Window held have w → FirstCode table w r → Readable (single table 7) (low have held) room
-      → (Fill 7 (low have held) → ⊥) → r.width ≤ have
-  code-there held have w r room v k f no-fill =
-      by_cases (dec_le r.width have) (λ h. h)
-      (λ h. absurd (never_both laws f.reads (stuck-here (no_code held have w r v k (omega arith)) (λ e. no-fill))))

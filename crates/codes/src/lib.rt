@@ -3,40 +3,56 @@
 
 #![tactic(auto)]
 
-// What a reading comes to, its text unwritten: the text's length, or the bit at which it is malformed; and how many indicators, values and codes were read.
-#[derive(Clone, Copy)]
-pub enum Measured {
-    Text(usize, usize),
-    Malformed(usize, usize),
+ghost use Rattle.std.specs.Prelude.{◌≡◌};
+ghost use Rattle.codes.specs.declared.Unread.TheVariants.{Malformed};
+
+// Data of so many bytes or more is not looked at: its bits or characters might not be counted in 64 bits.
+pub const LIMIT: usize = 0x100_0000_0000_0000;
+
+// What well-formed data comes to, its text unwritten: how many characters the text has, and how many indicators, values and codes were read.
+#[derive(Clone, Copy, Debug, PartialEq, Eq)]
+pub struct Extent {
+    pub characters: usize,
+    pub codes: usize,
 }
 
-// The same of data of any length: there is data so long that its bits or characters cannot be counted.
-#[derive(Clone, Copy)]
-pub enum Outcome {
-    Text(usize, usize),
-    Malformed(usize, usize),
+// Where data is malformed: the bit at which its first unreadable indicator, value or code starts, counted from 0, and how many were read before it (001, 4).
+#[derive(Clone, Copy, Debug, PartialEq, Eq)]
+pub struct MalformedAt {
+    pub bit: usize,
+    pub codes: usize,
+}
+
+// What measuring comes to.
+pub type Measured = Result<Extent, MalformedAt>;
+
+// Why data of any length has no text: it is malformed, or so long (LIMIT) that it is not looked at.
+#[derive(Clone, Copy, Debug, PartialEq, Eq)]
+pub enum Unread {
+    Malformed(MalformedAt),
     TooLong,
 }
 
-impl Outcome {
-    // Data of so many bytes or more is not looked at.
-    pub const LIMIT: usize = 0x100_0000_0000_0000;
+impl From<MalformedAt> for Unread {
+    ghost from_gives = { λ at unread. unread ≡ Malformed at };
+
+    fn from(at: MalformedAt) -> Unread {
+        Unread::Malformed(at)
+    }
 }
 
-// The index of the first character that has no code, if there is one.
-#[derive(Clone, Copy)]
-pub enum Uncoded {
-    At(usize),
-    Nowhere,
-}
+// What data of any length comes to.
+pub type Outcome = Result<Extent, Unread>;
 
-// How many data bytes a text takes, if each character has a code and they are no more than a caller allows.
-#[derive(Clone, Copy)]
-pub enum Needed {
+// Why a text has no data: the index of its first character that has no code, or more bytes than a caller allows.
+#[derive(Clone, Copy, Debug, PartialEq, Eq)]
+pub enum Unfit {
     NoCode(usize),
     TooMany,
-    Bytes(usize),
 }
+
+// How many data bytes a text takes.
+pub type Needed = Result<usize, Unfit>;
 
 // A code that was taken out of the bits: how many it has, and the one or two characters that it says.
 #[derive(Clone, Copy)]
@@ -60,21 +76,6 @@ pub struct Skimmed {
 pub struct Laid {
     pub left: u64,
     pub count: usize,
-}
-
-// How far a reading has come: the next byte, how many of its bits are passed, and the characters so far.
-#[derive(Clone, Copy)]
-pub struct Place {
-    pub next: usize,
-    pub skip: u64,
-    pub n: usize,
-}
-
-// The same with the codes so far.
-#[derive(Clone, Copy)]
-pub struct Counted {
-    pub place: Place,
-    pub codes: usize,
 }
 
 // A code to be sent, or some in a row: the bits as a number, how many they are, and the characters that they take.

@@ -6,13 +6,12 @@ use mathlib.Core.Path.{◌≡◌, sym, subst}
 use Prim.Native.Nat.{ℕ, ◌<◌}
 use native.Mathlib.Omega.{arith}
 use lib.ListN.{length}
+use Rattle.std.specs.Prelude.{Ok, Err}
 use Rattle.formats.specs.Data.{data_of}
 use Rattle.refusals.specs.declared.WriteRefusal.{WriteRefusal}
 use Rattle.refusals.specs.declared.WriteRefusal.TheVariants.{OtherFormat, Empty, NoCode, TooLong, NoRoom}
 use Rattle.terms.specs.declared.Terms.{Terms}
-use Rattle.writer.specs.declared.WriteAnswer.{WriteAnswer}
-use Rattle.writer.specs.declared.WriteAnswer.TheVariants.{Written, Refused as NotWritten}
-use Rattle.writer.specs.Writer.{WriteFault, Writes}
+use Rattle.writer.specs.Writer.{WriteAnswer, WriteFault, Writes}
 
 fault-alike : (s t : Terms) → s.most ≡ t.most → (number : ℕ) (text : List ℕ) (room : ℕ) (r : WriteRefusal) → WriteFault s number text room r
     → WriteFault t number text room r
@@ -24,12 +23,12 @@ fault-alike s t e number text room (NoRoom needed) f = f
 
 pub writes-alike : (s t : Terms) → s.most ≡ t.most → (number : ℕ) (sync : Bool) (text entry exit : List ℕ) (answer : WriteAnswer)
     → Writes s number sync text entry answer exit → Writes t number sync text entry answer exit
-writes-alike s t e number sync text entry exit (Written n) (format, a, is) = (
+writes-alike s t e number sync text entry exit (Ok n) (format, a, is) = (
   format,
   record { named = a.named; some = a.some; coded = a.coded; few = omega (arith, e, a.few); fits = a.fits; held = a.held },
   is,
 )
-writes-alike s t e number sync text entry exit (NotWritten r) (p, same) = (
+writes-alike s t e number sync text entry exit (Err r) (p, same) = (
   record {
     fault = fault-alike s t e number text (length entry) r p.fault;
     first = λ other lt f. p.first other lt (fault-alike t s (sym e) number text (length entry) other f);

@@ -10,6 +10,7 @@ use native.Mathlib.Omega.{arith}
 use lib.Dec.{T}
 use lib.ListN.{length, get_or, take, drop}
 use lib.Seq.{drop_at, length-take-le, get_or-take}
+use Rattle.std.specs.Prelude.{Err}
 use Rattle.bits.proofs.Below.{below_next}
 use Rattle.header.specs.declared.Format.{Format}
 use Rattle.header.specs.declared.Format.TheVariants.{Open, PseudoBinary, Numeric, Shef, FullAscii}
@@ -28,16 +29,11 @@ use Rattle.refusals.specs.Match.{FirstMatch, reader_turn, writer_turn}
 use Rattle.refusals.specs.Refusals.{Told, examine_told, read_told, write_told}
 use Rattle.refusals.proofs.Refused.{numbered}
 use Rattle.terms.specs.declared.Terms.{Terms}
-use Rattle.examine.specs.declared.ExamineAnswer.TheVariants.{Refused as NotReadable}
-use Rattle.reader.specs.declared.ReadAnswer.{ReadAnswer}
-use Rattle.reader.specs.declared.ReadAnswer.TheVariants.{Refused as NotRead}
-use Rattle.writer.specs.declared.WriteAnswer.{WriteAnswer}
-use Rattle.writer.specs.declared.WriteAnswer.TheVariants.{Refused as NotWritten}
 use Rattle.examine.specs.Examine.{Fault, Examines}
 use Rattle.packet.specs.Packet.{whole_length, header_for}
-use Rattle.reader.specs.Reader.{ReadFault, Reads}
+use Rattle.reader.specs.Reader.{ReadAnswer, ReadFault, Reads}
 use Rattle.terms.specs.Terms.{OnePacket}
-use Rattle.writer.specs.Writer.{WriteFault, Writes, our_packet}
+use Rattle.writer.specs.Writer.{WriteAnswer, WriteFault, Writes, our_packet}
 use Rattle.examine.proofs.ExamineOnce.{examines-one}
 use Rattle.reader.proofs.ReadOnce.{reads-one}
 use Rattle.writer.proofs.WriteOnce.{writes_one}
@@ -60,16 +56,16 @@ module _ (terms : Terms) (bytes : OnePacket terms.most) where
   pub demand-1 : Demand1 terms
   demand-1 = record {
     examine-refuses = λ packet answer examines.
-        exactly ExamineRefusal examine_told (Fault terms packet) reader_turn (λ refusal. answer ≡ NotReadable refusal)
-        (λ r e. subst (Examines terms packet) e examines) (λ r f. examines-one terms bytes packet answer (NotReadable r) examines f);
+        exactly ExamineRefusal examine_told (Fault terms packet) reader_turn (λ refusal. answer ≡ Err refusal)
+        (λ r e. subst (Examines terms packet) e examines) (λ r f. examines-one terms bytes packet answer (Err r) examines f);
     read-refuses = λ packet entry exit answer reads.
-        exactly ReadRefusal read_told (ReadFault terms packet (length entry)) reader_turn (λ refusal. answer ≡ NotRead refusal)
+        exactly ReadRefusal read_told (ReadFault terms packet (length entry)) reader_turn (λ refusal. answer ≡ Err refusal)
         (λ r e. (subst (λ (a : ReadAnswer). Reads terms packet entry a exit) e reads).0)
-        (λ r f. (reads-one terms bytes packet entry answer (NotRead r) exit entry reads (f, refl)).0);
+        (λ r f. (reads-one terms bytes packet entry answer (Err r) exit entry reads (f, refl)).0);
     write-refuses = λ number sync text entry exit answer writes.
-        exactly WriteRefusal write_told (WriteFault terms number text (length entry)) writer_turn (λ refusal. answer ≡ NotWritten refusal)
+        exactly WriteRefusal write_told (WriteFault terms number text (length entry)) writer_turn (λ refusal. answer ≡ Err refusal)
         (λ r e. (subst (λ (a : WriteAnswer). Writes terms number sync text entry a exit) e writes).0)
-        (λ r f. (writes_one terms number sync text entry answer (NotWritten r) exit entry writes (f, refl)).0);
+        (λ r f. (writes_one terms number sync text entry answer (Err r) exit entry writes (f, refl)).0);
     read-refusal-changes-nothing = λ packet entry exit refusal reads. reads.1;
     write-refusal-changes-nothing = λ number sync text entry exit refusal writes. writes.1;
     read-writes-counted = λ packet entry exit reading reads.

@@ -8,6 +8,7 @@ use Prim.Native.Nat.{ℕ, ◌^◌, ◌≤◌, ◌<◌}
 use native.Mathlib.Omega.{arith}
 use lib.Bits.{bit_xor, xor_self}
 use lib.ListN.{length, drop}
+use Rattle.std.specs.Prelude.{Ok, Err}
 use Rattle.bits.specs.Row.{Bytes}
 use Rattle.bits.proofs.Ones.{differences-self}
 use Rattle.header.specs.declared.Format.{Format}
@@ -24,17 +25,11 @@ use Rattle.formats.proofs.Formats.{carries-coded, carries_kept, carries-some, da
 use Rattle.refusals.specs.declared.WriteRefusal.TheVariants.{Empty}
 use Rattle.terms.specs.declared.Terms.{Terms}
 use Rattle.examine.specs.declared.Reading.{Reading}
-use Rattle.examine.specs.declared.ExamineAnswer.{ExamineAnswer}
-use Rattle.examine.specs.declared.ExamineAnswer.TheVariants.{Readable}
-use Rattle.reader.specs.declared.ReadAnswer.{ReadAnswer}
-use Rattle.reader.specs.declared.ReadAnswer.TheVariants.{Accepted}
-use Rattle.writer.specs.declared.WriteAnswer.{WriteAnswer}
-use Rattle.writer.specs.declared.WriteAnswer.TheVariants.{Written, Refused as NotWritten}
-use Rattle.examine.specs.Examine.{Allowed, reading_of, Accepts, Examines}
+use Rattle.examine.specs.Examine.{ExamineAnswer, Allowed, reading_of, Accepts, Examines}
 use Rattle.packet.specs.Packet.{whole_length, received, data_in, packet_of, header_for}
-use Rattle.reader.specs.Reader.{Reads}
+use Rattle.reader.specs.Reader.{ReadAnswer, Reads}
 use Rattle.terms.specs.Terms.{MayBeNamed}
-use Rattle.writer.specs.Writer.{our_packet, Writes}
+use Rattle.writer.specs.Writer.{WriteAnswer, our_packet, Writes}
 use Rattle.examine.proofs.ExamineOnce.{examines-one}
 use Rattle.reader.proofs.ReadOnce.{reads-one}
 use Rattle.packet.proofs.Sent.{header-valid}
@@ -77,15 +72,15 @@ module _ (terms : Terms) (named : MayBeNamed terms) where
 
   written : (format : Format) (sync : Bool) (text entry exit : List ℕ) (answer : WriteAnswer) → Writable terms format text
       → packet_length format text ≤ length entry → Writes terms (format_number format) sync text entry answer exit
-      → (answer ≡ Written (packet_length format text)) × (exit ≡ our_packet format sync text ++ drop (packet_length format text) entry)
+      → (answer ≡ Ok (packet_length format text)) × (exit ≡ our_packet format sync text ++ drop (packet_length format text) entry)
   written format sync text entry exit answer w room writes =
-      writes_one terms (format_number format) sync text entry answer (Written (packet_length format text)) exit
+      writes_one terms (format_number format) sync text entry answer (Ok (packet_length format text)) exit
       (our_packet format sync text ++ drop (packet_length format text) entry) writes
       (format, record { named = refl; some = w.some; coded = w.coded; few = w.few; fits = refl; held = room }, refl)
 
   reads-back : (format : Format) (sync : Bool) (text after entry exit : List ℕ) (answer : ReadAnswer) → Writable terms format text
       → length (comes_back format text) ≤ length entry → Reads terms (our_packet format sync text ++ after) entry answer exit
-      → (answer ≡ Accepted (clean_reading format sync text)) × StandsInFront (comes_back format text) entry exit
+      → (answer ≡ Ok (clean_reading format sync text)) × StandsInFront (comes_back format text) entry exit
   reads-back format sync text after entry exit answer w held reads =
       let made = written-is-made terms format sync text w in
       let packet = our_packet format sync text in
@@ -101,15 +96,15 @@ module _ (terms : Terms) (named : MayBeNamed terms) where
       (record { bits = (header-valid format sync (length (data_of format text)) small).bits; few = omega (arith, clean) }) after entry exit answer held
       (subst (λ (p : List ℕ). Reads terms p entry answer exit) (in-front format sync text after) reads) in (
         once.0
-            ∙ ap₂ (λ (mended mask : ℕ). Accepted (reading_with format sync mended mask codes (length (data_of format text)) (length (comes_back format text)))) clean same
-            ∙ ap (λ (k : ℕ). Accepted (reading_with format sync 0 0 k (length (data_of format text)) (length (comes_back format text)))) ours,
+            ∙ ap₂ (λ (mended mask : ℕ). Ok (reading_with format sync mended mask codes (length (data_of format text)) (length (comes_back format text)))) clean same
+            ∙ ap (λ (k : ℕ). Ok (reading_with format sync 0 0 k (length (data_of format text)) (length (comes_back format text)))) ours,
         once.1,
       )
 
   written-reads-back : (format : Format) (sync : Bool) (text lent packet : List ℕ) (n : ℕ)
-      → Writes terms (format_number format) sync text lent (Written n) packet
+      → Writes terms (format_number format) sync text lent (Ok n) packet
       → (entry exit : List ℕ) (answer : ReadAnswer) → length (comes_back format text) ≤ length entry → Reads terms packet entry answer exit
-      → (answer ≡ Accepted (clean_reading format sync text)) × ((clean_reading format sync text).used ≡ n) × StandsInFront (comes_back format text) entry exit
+      → (answer ≡ Ok (clean_reading format sync text)) × ((clean_reading format sync text).used ≡ n) × StandsInFront (comes_back format text) entry exit
   written-reads-back format sync text lent packet n (other, w, e) entry exit answer held reads =
       let same : other ≡ format = one_number other format w.named in
       let is : packet ≡ our_packet format sync text ++ drop n lent = e ∙ ap (λ (k : Format). our_packet k sync text ++ drop n lent) same in
@@ -130,19 +125,19 @@ module _ (terms : Terms) (named : MayBeNamed terms) where
   accepts-of packet format header text a = record { format = format; header = header; allowed = a; is = refl }
 
   allowed-readable : (packet : List ℕ) (answer : ExamineAnswer) → Examines terms packet answer → (format : Format) (header : ℕ) (text : List ℕ)
-      → (a : Allowed terms packet format header text) → answer ≡ Readable (reading_in packet format header text a)
+      → (a : Allowed terms packet format header text) → answer ≡ Ok (reading_in packet format header text a)
   allowed-readable packet answer examines format header text a =
-      examines-one terms named.bytes packet answer (Readable (reading_in packet format header text a)) examines (text, accepts-of packet format header text a)
+      examines-one terms named.bytes packet answer (Ok (reading_in packet format header text a)) examines (text, accepts-of packet format header text a)
 
   allowed-accepted : (packet entry exit : List ℕ) (answer : ReadAnswer) → Reads terms packet entry answer exit
       → (format : Format) (header : ℕ) (text : List ℕ) (a : Allowed terms packet format header text) → length text ≤ length entry
-      → (answer ≡ Accepted (reading_in packet format header text a)) × StandsInFront text entry exit
+      → (answer ≡ Ok (reading_in packet format header text a)) × StandsInFront text entry exit
   allowed-accepted packet entry exit answer reads format header text a held =
-      reads-one terms named.bytes packet entry answer (Accepted (reading_in packet format header text a)) exit (text ++ drop (length text) entry) reads
+      reads-one terms named.bytes packet entry answer (Ok (reading_in packet format header text a)) exit (text ++ drop (length text) entry) reads
       (text, accepts-of packet format header text a, held, refl)
 
   accepted-exactly : (packet entry exit : List ℕ) (answer : ReadAnswer) → Reads terms packet entry answer exit
-      → ((reading : Reading) × (answer ≡ Accepted reading))
+      → ((reading : Reading) × (answer ≡ Ok reading))
       ↔ ((format : Format) × (header : ℕ) × (text : List ℕ) × Allowed terms packet format header text × (length text ≤ length entry))
   accepted-exactly packet entry exit answer reads = (
     λ a.
@@ -155,7 +150,7 @@ module _ (terms : Terms) (named : MayBeNamed terms) where
   )
 
   readable-exactly : (packet : List ℕ) (answer : ExamineAnswer) → Examines terms packet answer
-      → ((reading : Reading) × (answer ≡ Readable reading)) ↔ ((format : Format) × (header : ℕ) × (text : List ℕ) × Allowed terms packet format header text)
+      → ((reading : Reading) × (answer ≡ Ok reading)) ↔ ((format : Format) × (header : ℕ) × (text : List ℕ) × Allowed terms packet format header text)
   readable-exactly packet answer examines = (
     λ a. let told = subst (Examines terms packet) a.1 examines in (told.1.format, told.1.header, told.0, told.1.allowed),
     λ a. (reading_in packet a.0 a.1 a.2 a.3, allowed-readable packet answer examines a.0 a.1 a.2 a.3),
@@ -272,7 +267,7 @@ module _ (terms : Terms) (named : MayBeNamed terms) where
 
     written-again : (sync : Bool) (lent exit : List ℕ) (answer : WriteAnswer) → packet_length reading.format text ≤ length lent
         → Writes terms (format_number reading.format) sync text lent answer exit
-        → (answer ≡ Written (packet_length reading.format text))
+        → (answer ≡ Ok (packet_length reading.format text))
         × (exit ≡ our_packet reading.format sync text ++ drop (packet_length reading.format text) lent)
         × (packet_length reading.format text ≤ reading.used)
     written-again sync lent exit answer held writes =
@@ -285,7 +280,7 @@ module _ (terms : Terms) (named : MayBeNamed terms) where
         → Writes terms (format_number reading.format) sync text lent wrote again
         → (entry exit : List ℕ) (answer : ReadAnswer) → length text ≤ length entry → Reads terms again entry answer exit
         → (answer
-        ≡ Accepted (reading_with reading.format sync 0 0 (codes_of reading.format text) (length (data_of reading.format text)) (length text)))
+        ≡ Ok (reading_with reading.format sync 0 0 (codes_of reading.format text) (length (data_of reading.format text)) (length text)))
         × StandsInFront text entry exit
     reads-the-same sync lent again wrote given writes entry exit answer held reads =
         let is = (written-again sync lent again wrote given writes).0 in
@@ -296,7 +291,7 @@ module _ (terms : Terms) (named : MayBeNamed terms) where
         subst
         (λ (t : List ℕ).
         (answer
-        ≡ Accepted (reading_with reading.format sync 0 0 (codes_of reading.format text) (length (data_of reading.format text)) (length t)))
+        ≡ Ok (reading_with reading.format sync 0 0 (codes_of reading.format text) (length (data_of reading.format text)) (length t)))
         × StandsInFront t entry exit)
         again_kept (back.0, back.2)
 
@@ -308,7 +303,7 @@ module _ (terms : Terms) (named : MayBeNamed terms) where
     reads-back = reads-back;
     written-reads-back = written-reads-back;
     empty-refused = λ format sync entry exit answer writes.
-        writes_one terms (format_number format) sync [] entry answer (NotWritten Empty) exit entry writes
+        writes_one terms (format_number format) sync [] entry answer (Err Empty) exit entry writes
         (record { fault = refl; first = clear-ten terms (format_number format) [] (length entry) format refl }, refl);
     empty-never-written = λ number sync entry exit n writes. omega (arith, writes.1.some);
     accepted-exactly = accepted-exactly;

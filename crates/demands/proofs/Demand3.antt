@@ -8,6 +8,7 @@ use Prim.Native.Nat.{ℕ, ◌^◌, ◌≤◌, ◌<◌}
 use native.Mathlib.Omega.{arith}
 use lib.Bits.{bit_xor}
 use lib.ListN.{length, drop}
+use Rattle.std.specs.Prelude.{Ok, Err}
 use Rattle.bits.specs.Row.{Bytes}
 use Rattle.bits.specs.Word.{bit}
 use Rattle.bits.proofs.Ones.{xor-bit-told}
@@ -26,13 +27,9 @@ use Rattle.refusals.specs.declared.ExamineRefusal.TheVariants.{NoHeader, Checksu
 use Rattle.refusals.specs.declared.ReadRefusal.TheVariants.{Packet}
 use Rattle.terms.specs.declared.Terms.{Terms}
 use Rattle.examine.specs.declared.Reading.{Reading}
-use Rattle.examine.specs.declared.ExamineAnswer.{ExamineAnswer}
-use Rattle.examine.specs.declared.ExamineAnswer.TheVariants.{Refused as NotReadable}
-use Rattle.reader.specs.declared.ReadAnswer.{ReadAnswer}
-use Rattle.reader.specs.declared.ReadAnswer.TheVariants.{Accepted, Refused}
-use Rattle.examine.specs.Examine.{reading_of, Accepts, Refuses, Examines}
+use Rattle.examine.specs.Examine.{ExamineAnswer, reading_of, Accepts, Refuses, Examines}
 use Rattle.packet.specs.Packet.{received, data_in, packet_of, header_for}
-use Rattle.reader.specs.Reader.{Reads}
+use Rattle.reader.specs.Reader.{ReadAnswer, Reads}
 use Rattle.terms.specs.Terms.{MayBeNamed}
 use Rattle.examine.proofs.ExamineOnce.{examines-one}
 use Rattle.examine.proofs.ExamineStages.{clear-two}
@@ -63,7 +60,7 @@ module _ (terms : Terms) (named : MayBeNamed terms) (format : Format) (sync : Bo
   module _ (word : ℕ) (flipped : Flipped terms packet word) (after entry exit : List ℕ) (answer : ReadAnswer) where
     pub intact : length (comes_back format text) ≤ length entry → Reads terms (arriving word packet after) entry answer exit
         → (answer
-        ≡ Accepted
+        ≡ Ok
         (reading_with format sync (distance word (received packet)) (bit_xor word (received packet))
         (codes_in format (comes_back format text) made.carried made.carries) (length made.carried) (length (comes_back format text))))
         × (exit ≡ comes_back format text ++ drop (length (comes_back format text)) entry)
@@ -75,13 +72,13 @@ module _ (terms : Terms) (named : MayBeNamed terms) (format : Format) (sync : Bo
         let codes = codes_in format back (data_in header came) allowed.carries in
         let sent = sent-codes terms named format sync word made.carried after made.some made.few flipped.bits (near word flipped) back made.carries in
         let once =
-        reads-one terms named.bytes came entry answer (Accepted (reading_of format header (received came) back codes)) exit (back ++ drop (length back) entry)
+        reads-one terms named.bytes came entry answer (Ok (reading_of format header (received came) back codes)) exit (back ++ drop (length back) entry)
         (subst (λ (p : List ℕ). Reads terms p entry answer exit) (arrives word after) reads)
         (back, record { format = format; header = header; allowed = allowed; is = refl }, held, refl) in (
           once.0
-              ∙ ap {B = ReadAnswer} Accepted
+              ∙ ap {B = ReadAnswer} Ok
               (sent-reading terms named format sync word made.carried after made.some made.few flipped.bits (near word flipped) back codes)
-              ∙ ap₂ (λ (h k : ℕ). Accepted (reading_with format sync (distance word h) (bit_xor word h) k (length made.carried) (length back))) (sym packet-header) sent,
+              ∙ ap₂ (λ (h k : ℕ). Ok (reading_with format sync (distance word h) (bit_xor word h) k (length made.carried) (length back))) (sym packet-header) sent,
           once.1,
         )
 
@@ -93,7 +90,7 @@ module _ (terms : Terms) (named : MayBeNamed terms) (format : Format) (sync : Bo
         let came = arrived word (besides made.carried k (row ++ sum)) after in
         let refuses =
         sent-refused terms named format sync word made.carried after made.some made.few flipped.bits (near word flipped) k there row sum as_long two bad in
-        reads-one terms named.bytes came entry answer (Refused (Packet (Checksum k))) exit entry reads (refused-packet terms came (length entry) (Checksum k) refuses, refl)
+        reads-one terms named.bytes came entry answer (Err (Packet (Checksum k))) exit entry reads (refused-packet terms came (length entry) (Checksum k) refuses, refl)
 
     pub damaged-data : (k : ℕ) → k < section_count (length made.carried) → (place : ℕ) (other : List ℕ) → Bytes (section made.carried k) → Bytes other
         → AlikeBut place other (section made.carried k) → other ≢ section made.carried k
@@ -149,12 +146,12 @@ module _ (terms : Terms) (named : MayBeNamed terms) (format : Format) (sync : Bo
     no_header : Refuses terms came NoHeader
     no_header = record { fault = far; first = clear-two terms came named.bits four }
 
-    pub beyond : (entry exit : List ℕ) (answer : ReadAnswer) → Reads terms came entry answer exit → (answer ≡ Refused (Packet NoHeader)) × (exit ≡ entry)
+    pub beyond : (entry exit : List ℕ) (answer : ReadAnswer) → Reads terms came entry answer exit → (answer ≡ Err (Packet NoHeader)) × (exit ≡ entry)
     beyond entry exit answer reads =
-        reads-one terms named.bytes came entry answer (Refused (Packet NoHeader)) exit entry reads (refused-packet terms came (length entry) NoHeader no_header, refl)
+        reads-one terms named.bytes came entry answer (Err (Packet NoHeader)) exit entry reads (refused-packet terms came (length entry) NoHeader no_header, refl)
 
-    pub beyond-examined : (answer : ExamineAnswer) → Examines terms came answer → answer ≡ NotReadable NoHeader
-    beyond-examined answer examines = examines-one terms named.bytes came answer (NotReadable NoHeader) examines no_header
+    pub beyond-examined : (answer : ExamineAnswer) → Examines terms came answer → answer ≡ Err NoHeader
+    beyond-examined answer examines = examines-one terms named.bytes came answer (Err NoHeader) examines no_header
 
 pub demand-3 : (terms : Terms) → MayBeNamed terms → Demand3 terms
 demand-3 terms named = record {

@@ -9,6 +9,7 @@ use lib.Bits.{bit_xor}
 use lib.Count.{ones_in}
 use lib.Dec.{T, T_not, leb, ltb, eqb, leb→le, ltb→lt, eqb→eq, eqb_refl}
 use lib.ListN.{length, take, get_or}
+use Rattle.std.specs.Prelude.{Some, None}
 use Rattle.bits.specs.First.{first}
 use Rattle.bits.specs.Numbers.{numbers}
 use Rattle.bits.specs.Row.{bits}
@@ -68,7 +69,6 @@ use Rattle.pseudo_binary.proofs.Length.{width, each}
 use Rattle.pseudo_binary.proofs.Size.{started}
 use Rattle.examine.proofs.ExamineOnce.{too_many}
 use Rattle.reader.proofs.ReadOnce.{refused-packet}
-use Rattle.apart.specs.declared.Comparison.TheVariants.{AsOurs, Departs}
 use Rattle.demands.specs.Edges.{Edge, checks, heads, reads, hopeless, foreign, unnamed, writes, carries, stops, fullest, lacks, divides, fits, overlong, longest, singly, judged, RefusesAt, RefusesAll, Holds, edges, Every}
 use Rattle.demands.proofs.HeaderTests.{finds_none, none, none-near, mends-by-test, ours, other, other_none, refuses-hopeless, refuses-foreign, refuses-overlong, whichever}
 use Rattle.demands.proofs.NoShorter.{alike-bytes}
@@ -176,11 +176,11 @@ tests (longest bytes characters) =
 tests (singly character count single ours) =
     let k = pseudo-writer.kind character in
     pseudo.coded character ∷ eqb (single_bytes k count) single ∷ eqb (full_bytes k count) ours ∷ []
-tests (judged format text carried AsOurs more) =
+tests (judged format text carried None more) =
     let read = reading format carried in
     let ours = data_of format text in
     comes-to read text (codes-read read) ∷ same carried ours ∷ eqb (length carried) (length ours + more) ∷ []
-tests (judged format text carried (Departs bit) more) =
+tests (judged format text carried (Some bit) more) =
     let read = reading format carried in
     let a = bits carried in
     let b = bits (data_of format text) in
@@ -281,11 +281,11 @@ row-holds (singly character count single ours) (has, (one, (full, t))) =
     let k = pseudo-writer.kind character in
     let b = alike-bytes k character count (kind-of k character has refl) in
     (b.0, b.1 ∙ eqb→eq (single_bytes k count) single one, b.2 ∙ eqb→eq (full_bytes k count) ours full)
-row-holds (judged format text carried AsOurs more) (read, (is, (long, t))) = (
+row-holds (judged format text carried None more) (read, (is, (long, t))) = (
   (carries-by-test format text carried (codes-read (reading format carried)) read).0,
   record { compares = same-is carried (data_of format text) is; longer = eqb→eq (length carried) (length (data_of format text) + more) long },
 )
-row-holds (judged format text carried (Departs bit) more) (read, (one, (other, (before, (here, (long, t)))))) =
+row-holds (judged format text carried (Some bit) more) (read, (one, (other, (before, (here, (long, t)))))) =
     let a = bits carried in
     let b = bits (data_of format text) in (
       (carries-by-test format text carried (codes-read (reading format carried)) read).0,

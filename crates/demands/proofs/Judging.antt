@@ -7,6 +7,7 @@ use mathlib.Core.Path.{◌≡◌, refl, ap, subst, subst₂, ◌∙◌}
 use Prim.Native.Nat.{ℕ, ◌≤◌}
 use native.Mathlib.Omega.{arith}
 use lib.ListN.{length}
+use Rattle.std.specs.Prelude.{Ok, Err, Option, Some, None}
 use Rattle.header.specs.declared.Format.{Format}
 use Rattle.header.specs.declared.Format.TheVariants.{Open}
 use Rattle.header.specs.Formats.{format_number}
@@ -18,22 +19,15 @@ use Rattle.packet.proofs.Sent.{arrived, header-length, data_is}
 use Rattle.refusals.specs.declared.ExamineRefusal.{ExamineRefusal}
 use Rattle.terms.specs.declared.Terms.{Terms}
 use Rattle.terms.specs.Terms.{MayMend, OnePacket, MayBeNamed}
-use Rattle.examine.specs.declared.ExamineAnswer.{ExamineAnswer}
-use Rattle.examine.specs.declared.ExamineAnswer.TheVariants.{Refused as NotReadable}
-use Rattle.examine.specs.Examine.{Allowed, Examines}
+use Rattle.examine.specs.Examine.{ExamineAnswer, Allowed, Examines}
 use Rattle.examine.proofs.ExamineOnce.{examines-one, accepts-no-fault}
 use Rattle.examine.proofs.Sent.{sent-allowed}
-use Rattle.apart.specs.declared.Comparison.{Comparison}
-use Rattle.apart.specs.declared.Comparison.TheVariants.{AsOurs, Departs}
 use Rattle.apart.specs.declared.Judgement.{Judgement}
-use Rattle.judge.specs.declared.JudgeAnswer.{JudgeAnswer}
-use Rattle.judge.specs.declared.JudgeAnswer.TheVariants.{Judged, Refused}
 use Rattle.apart.specs.Comparison.{Compares, Against}
-use Rattle.judge.specs.Judge.{Judges}
+use Rattle.judge.specs.Judge.{JudgeAnswer, Judges}
 use Rattle.apart.proofs.Comparing.{one-comparison, one-judgement}
 use Rattle.judge.proofs.JudgeOnce.{allowed-accepts, held-so, judges-one}
 use Rattle.judge.proofs.Makers.{none-behind, written-again, one-way-ours}
-use Rattle.writer.specs.declared.WriteAnswer.TheVariants.{Written}
 use Rattle.writer.specs.Writer.{our_packet, WriteAccepts, Writes}
 use Rattle.demands.specs.Judging.{just_ours, Judging}
 use Rattle.demands.specs.Makers.{Made, Flipped, arriving}
@@ -45,18 +39,18 @@ none_left [] none = refl
 none_left (x ∷ rest) none = absurd (let no' : ⊥ = omega (arith, none) in no')
 
 -- the same bytes are judged as ours, with none more
-just-ours : (theirs ours : List ℕ) (judgement : Judgement) → Against theirs ours judgement → theirs ≡ ours → Judged judgement ≡ just_ours
+just-ours : (theirs ours : List ℕ) (judgement : Judgement) → Against theirs ours judgement → theirs ≡ ours → Ok judgement ≡ just_ours
 just-ours theirs ours judgement against same =
-    ap {B = JudgeAnswer} Judged
-    (one-judgement theirs ours judgement (record { comparison = AsOurs; more = 0 }) against
+    ap {B = JudgeAnswer} Ok
+    (one-judgement theirs ours judgement (record { departs_at = None; more = 0 }) against
     (record { compares = same; longer = omega (arith, ap length same) }))
 
 module _ (terms : Terms) (bytes : OnePacket terms.most) where
   refused-as-read : (packet : List ℕ) (judged : JudgeAnswer) (examined : ExamineAnswer) → Judges terms packet judged → Examines terms packet examined
-      → (refusal : ExamineRefusal) → (judged ≡ Refused refusal) ↔ (examined ≡ NotReadable refusal)
+      → (refusal : ExamineRefusal) → (judged ≡ Err refusal) ↔ (examined ≡ Err refusal)
   refused-as-read packet judged examined judges examines refusal = (
-    λ e. examines-one terms bytes packet examined (NotReadable refusal) examines (subst (Judges terms packet) e judges),
-    λ e. judges-one terms packet bytes judged (Refused refusal) judges (subst (Examines terms packet) e examines),
+    λ e. examines-one terms bytes packet examined (Err refusal) examines (subst (Judges terms packet) e judges),
+    λ e. judges-one terms packet bytes judged (Err refusal) judges (subst (Examines terms packet) e examines),
   )
 
   -- ---- of a packet that is allowed with a text
@@ -65,15 +59,15 @@ module _ (terms : Terms) (bytes : OnePacket terms.most) where
     named : MayBeNamed terms
     named = record { bits = allowed.framed.bits; bytes = bytes }
 
-    against : (judgement : Judgement) → Judges terms packet (Judged judgement) → Against (data_in header packet) (data_of format text) judgement
+    against : (judgement : Judgement) → Judges terms packet (Ok judgement) → Against (data_in header packet) (data_of format text) judgement
     against judgement judges = held-so terms packet named judgement judges format header text allowed
 
     -- it is judged so, whatever that is, exactly when it compares so
-    exactly : (judgement : Judgement) → Judges terms packet (Judged judgement) → (other : Comparison)
-        → (judgement.comparison ≡ other) ↔ Compares (data_in header packet) (data_of format text) other
+    exactly : (judgement : Judgement) → Judges terms packet (Ok judgement) → (other : Option ℕ)
+        → (judgement.departs_at ≡ other) ↔ Compares (data_in header packet) (data_of format text) other
     exactly judgement judges other = (
       λ e. subst (Compares (data_in header packet) (data_of format text)) e (against judgement judges).compares,
-      one-comparison (data_in header packet) (data_of format text) judgement.comparison other (against judgement judges).compares,
+      one-comparison (data_in header packet) (data_of format text) judgement.departs_at other (against judgement judges).compares,
     )
 
     -- where it is ours, it is judged as ours
@@ -96,7 +90,7 @@ module _ (terms : Terms) (bytes : OnePacket terms.most) where
     may = record { bits = mends; bytes = bytes }
 
     made-judged : (answer : JudgeAnswer) → Judges terms (arriving word packet after) answer
-        → (judgement : Judgement) × (answer ≡ Judged judgement) × Against made.carried (data_of format text) judgement
+        → (judgement : Judgement) × (answer ≡ Ok judgement) × Against made.carried (data_of format text) judgement
     made-judged answer judges = pick answer (subst (λ (p : List ℕ). Judges terms p answer) (arrives terms may format sync text packet made word after) judges)
       where
         carried : List ℕ
@@ -114,20 +108,20 @@ module _ (terms : Terms) (bytes : OnePacket terms.most) where
             (comes_back format text) made.carries
 
         pick : (answer : JudgeAnswer) → Judges terms came answer
-            → (judgement : Judgement) × (answer ≡ Judged judgement) × Against carried (data_of format text) judgement
-        pick (Judged judgement) held = (
+            → (judgement : Judgement) × (answer ≡ Ok judgement) × Against carried (data_of format text) judgement
+        pick (Ok judgement) held = (
           judgement,
           refl,
           subst₂ (λ (a b : List ℕ). Against a b judgement)
               (data_is word carried after header (header-length format sync (length carried) (small terms may format sync text packet made)))
               (written-again format text made.coded) (against came format header (comes_back format text) allowed judgement held),
         )
-        pick (Refused refusal) refused = absurd (accepts-no-fault terms may came _ (comes_back format text) (allowed-accepts allowed) refusal refused.fault)
+        pick (Err refusal) refused = absurd (accepts-no-fault terms may came _ (comes_back format text) (allowed-accepts allowed) refusal refused.fault)
 
   -- ---- of a packet that our writer made
 
   ours-as-ours : MayMend terms.mend → (other : Terms) → other.most ≤ terms.most → (format : Format) (sync : Bool) (text entry exit : List ℕ) (n : ℕ)
-      → Writes other (format_number format) sync text entry (Written n) exit → (word : ℕ) → Flipped terms (our_packet format sync text) word
+      → Writes other (format_number format) sync text entry (Ok n) exit → (word : ℕ) → Flipped terms (our_packet format sync text) word
       → (after : List ℕ) (answer : JudgeAnswer) → Judges terms (arriving word (our_packet format sync text) after) answer → answer ≡ just_ours
   ours-as-ours mends other within format sync text entry exit n (named-format, accepts, whole) word flipped after answer judges =
       let a = subst (λ (k : Format). WriteAccepts other (format_number format) text (length entry) k n) (one_number named-format format accepts.named) accepts in
@@ -139,8 +133,8 @@ pub judging : (terms : Terms) → OnePacket terms.most → Judging terms
 judging terms bytes = record {
   judges-one = λ packet. judges-one terms packet bytes;
   refused-as-read = refused-as-read terms bytes;
-  yes-exactly = λ packet judgement judges format header text allowed. exactly terms bytes packet format header text allowed judgement judges AsOurs;
-  first-departs = λ packet judgement judges format header text allowed bit. exactly terms bytes packet format header text allowed judgement judges (Departs bit);
+  yes-exactly = λ packet judgement judges format header text allowed. exactly terms bytes packet format header text allowed judgement judges None;
+  first-departs = λ packet judgement judges format header text allowed bit. exactly terms bytes packet format header text allowed judgement judges (Some bit);
   neither-front = λ format text a rest p q. none_left rest (none-behind format text a rest p q);
   more-exactly = λ packet judgement judges format header text allowed. (against terms bytes packet format header text allowed judgement judges).longer;
   made-judged = made-judged terms bytes;

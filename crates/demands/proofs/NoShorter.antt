@@ -8,6 +8,7 @@ use Prim.Native.Nat.{ℕ, ◌+◌, ◌*◌, ◌/◌, ◌≤◌, ◌<◌}
 use native.Mathlib.Decide.{dec_le}
 use native.Mathlib.Omega.{arith}
 use lib.ListN.{length, replicate, length-replicate}
+use Rattle.std.specs.Prelude.{Ok, Err}
 use Rattle.header.specs.declared.Format.{Format}
 use Rattle.header.specs.declared.Format.TheVariants.{PseudoBinary}
 use Rattle.header.specs.Formats.{format_number}
@@ -32,9 +33,7 @@ use Rattle.terms.specs.declared.Terms.{Terms}
 use Rattle.examine.specs.declared.Reading.{Reading}
 use Rattle.examine.specs.Examine.{Accepts}
 use Rattle.packet.specs.Packet.{whole_length, data_in, header_for}
-use Rattle.writer.specs.declared.WriteAnswer.{WriteAnswer}
-use Rattle.writer.specs.declared.WriteAnswer.TheVariants.{Written, Refused as NotWritten}
-use Rattle.writer.specs.Writer.{our_packet, WriteRefuses, Writes}
+use Rattle.writer.specs.Writer.{WriteAnswer, our_packet, WriteRefuses, Writes}
 use Rattle.writer.proofs.WriteOnce.{writes_one}
 use Rattle.writer.proofs.WriteStages.{in-format, clear-eleven}
 use Rattle.demands.specs.Demand2.{Writable}
@@ -79,7 +78,7 @@ fewest terms format text n w is = record {
 }
 
 written-is-fewest : (terms : Terms) (format : Format) (sync : Bool) (text entry exit : List ℕ) (n : ℕ)
-    → Writes terms (format_number format) sync text entry (Written n) exit → Fewest terms format text n
+    → Writes terms (format_number format) sync text entry (Ok n) exit → Fewest terms format text n
 written-is-fewest terms format sync text entry exit n (other, w, e) =
     subst (λ (k : Format). Fewest terms k text n) (one_number other format w.named) (fewest terms other text n (record { some = w.some; coded = w.coded; few = w.few }) w.fits)
 
@@ -106,7 +105,7 @@ module _ (terms : Terms) (format : Format) (text : List ℕ) (room : ℕ) (r : W
       pick (no many) = absurd (refuses.first TooLong (omega arith) (format, refl, omega arith))
 
 room-is-fewest : (terms : Terms) (format : Format) (sync : Bool) (text entry exit : List ℕ) (n : ℕ)
-    → Writes terms (format_number format) sync text entry (NotWritten (NoRoom n)) exit → Fewest terms format text n
+    → Writes terms (format_number format) sync text entry (Err (NoRoom n)) exit → Fewest terms format text n
 unfolding turn_in
 room-is-fewest terms format sync text entry exit n (refuses, e) =
     let room = length entry in
@@ -119,14 +118,14 @@ room-is-fewest terms format sync text entry exit n (refuses, e) =
 
 too-long-fits-in-none : (terms : Terms) (format : Format) (sync : Bool) (text entry exit : List ℕ) (answer : WriteAnswer)
     → Writes terms (format_number format) sync text entry answer exit
-    → (answer ≡ NotWritten TooLong) ↔ ((0 < length text) × AllCoded format text × FitsInNone terms format text)
+    → (answer ≡ Err TooLong) ↔ ((0 < length text) × AllCoded format text × FitsInNone terms format text)
 unfolding turn_in
 too-long-fits-in-none terms format sync text entry exit answer writes = (none, given)
   where
     room : ℕ
     room = length entry
 
-    none : answer ≡ NotWritten TooLong → (0 < length text) × AllCoded format text × FitsInNone terms format text
+    none : answer ≡ Err TooLong → (0 < length text) × AllCoded format text × FitsInNone terms format text
     none e =
         let refuses = (subst (λ (a : WriteAnswer). Writes terms (format_number format) sync text entry a exit) e writes).0 in
         let long = in-format (format_number format) (λ (k : Format). terms.most < length (data_of k text)) format refl refuses.fault in (
@@ -135,13 +134,13 @@ too-long-fits-in-none terms format sync text entry exit answer writes = (none, g
           λ theirs packet made. let no : ⊥ = omega (arith, no-fewer format text made.carried made.coded made.carries, made.few) in no,
         )
 
-    given : (0 < length text) × AllCoded format text × FitsInNone terms format text → answer ≡ NotWritten TooLong
+    given : (0 < length text) × AllCoded format text × FitsInNone terms format text → answer ≡ Err TooLong
     given (some, all, fits-in-none) = pick (dec_le (length (data_of format text)) terms.most)
       where
-        pick : Dec (length (data_of format text) ≤ terms.most) → answer ≡ NotWritten TooLong
+        pick : Dec (length (data_of format text) ≤ terms.most) → answer ≡ Err TooLong
         pick (yes few) = absurd (fits-in-none sync (our_packet format sync text) (written-is-made terms format sync text (record { some = some; coded = all; few = few })))
         pick (no many) =
-            (writes_one terms (format_number format) sync text entry answer (NotWritten TooLong) exit entry writes
+            (writes_one terms (format_number format) sync text entry answer (Err TooLong) exit entry writes
             (record { fault = (format, refl, omega arith); first = clear-eleven terms (format_number format) text room format refl some all }, refl)).0
 
 pub no-shorter : (terms : Terms) → NoShorter terms

@@ -9,6 +9,7 @@ use native.Mathlib.Decide.{dec_le}
 use native.Mathlib.Omega.{arith}
 use lib.ListN.{length, drop, length-append, length-drop}
 use lib.Seq.{drop-append-le}
+use Rattle.std.specs.Prelude.{Ok, Err}
 use Rattle.header.specs.declared.Format.{Format}
 use Rattle.header.specs.Fields.{fields_in}
 use Rattle.header.specs.Formats.{HasFormat}
@@ -27,14 +28,10 @@ use Rattle.refusals.specs.declared.ReadRefusal.{ReadRefusal}
 use Rattle.refusals.specs.declared.ReadRefusal.TheVariants.{Packet, NoRoom}
 use Rattle.terms.specs.declared.Terms.{Terms}
 use Rattle.examine.specs.declared.Reading.{Reading}
-use Rattle.examine.specs.declared.ExamineAnswer.{ExamineAnswer}
-use Rattle.examine.specs.declared.ExamineAnswer.TheVariants.{Readable, Refused as NotReadable}
-use Rattle.reader.specs.declared.ReadAnswer.{ReadAnswer}
-use Rattle.reader.specs.declared.ReadAnswer.TheVariants.{Accepted, Refused as NotRead}
-use Rattle.examine.specs.Examine.{Fault, Refuses, Allowed, reading_of, Accepts, Examines}
+use Rattle.examine.specs.Examine.{ExamineAnswer, Fault, Refuses, Allowed, reading_of, Accepts, Examines}
 use Rattle.packet.specs.Packet.{whole_length, received, data_in, FirstUnsummed}
 use Rattle.packet.proofs.Sent.{received-behind}
-use Rattle.reader.specs.Reader.{ReadFault, Reads}
+use Rattle.reader.specs.Reader.{ReadAnswer, ReadFault, Reads}
 use Rattle.terms.specs.Terms.{OnePacket, MayBeNamed}
 use Rattle.examine.proofs.ExamineOnce.{examined-too-many, examines-one}
 use Rattle.examine.proofs.Headers.{one-header, under}
@@ -56,14 +53,14 @@ module _ (terms : Terms) (bytes : OnePacket terms.most) where
   -- ---- examined and read
 
   both-refuse : (packet entry exit : List ℕ) (examined : ExamineAnswer) (read : ReadAnswer) → Examines terms packet examined → Reads terms packet entry read exit
-      → (refusal : ExamineRefusal) → (examined ≡ NotReadable refusal) ↔ (read ≡ NotRead (Packet refusal))
+      → (refusal : ExamineRefusal) → (examined ≡ Err refusal) ↔ (read ≡ Err (Packet refusal))
   both-refuse packet entry exit examined read examines reads r = (
     λ e.
-        (reads-one terms bytes packet entry read (NotRead (Packet r)) exit entry reads
+        (reads-one terms bytes packet entry read (Err (Packet r)) exit entry reads
         (refused-packet terms packet (length entry) r (subst (Examines terms packet) e examines), refl)
         ).0,
     λ e.
-        examines-one terms bytes packet examined (NotReadable r) examines
+        examines-one terms bytes packet examined (Err r) examines
         (packet-refused terms packet (length entry) r (subst (λ (a : ReadAnswer). Reads terms packet entry a exit) e reads).0),
   )
 
@@ -72,11 +69,11 @@ module _ (terms : Terms) (bytes : OnePacket terms.most) where
     both-refuse = both-refuse;
     room-decides = λ packet entry exit reading read examines reads. (
       λ held.
-          (reads-one terms bytes packet entry read (Accepted reading) exit (examines.0 ++ drop (length examines.0) entry) reads
+          (reads-one terms bytes packet entry read (Ok reading) exit (examines.0 ++ drop (length examines.0) entry) reads
           (read-into terms packet entry reading examines.0 examines.1 held)
           ).0,
       λ short.
-          (reads-one terms bytes packet entry read (NotRead (NoRoom reading.text_length)) exit entry reads
+          (reads-one terms bytes packet entry read (Err (NoRoom reading.text_length)) exit entry reads
           (no_room terms packet (record { bits = examines.1.allowed.framed.bits; bytes = bytes }) entry reading examines.0 examines.1 reading.text_length refl short)
           ).0,
     );
@@ -176,12 +173,12 @@ module _ (terms : Terms) (named : MayBeNamed terms) (packet after : List ℕ) (h
   refuses-behind r p = record { fault = there r p.fault; first = λ other lt f. p.first other lt (back other f) }
 
   examined-behind : (answer : ExamineAnswer) → Examines terms packet answer → Examines terms (packet ++ after) answer
-  examined-behind (Readable reading) (text, a) = (text, accepts-behind reading text a)
-  examined-behind (NotReadable r) p = refuses-behind r p
+  examined-behind (Ok reading) (text, a) = (text, accepts-behind reading text a)
+  examined-behind (Err r) p = refuses-behind r p
 
   read_behind : (entry exit : List ℕ) (answer : ReadAnswer) → Reads terms packet entry answer exit → Reads terms (packet ++ after) entry answer exit
-  read_behind entry exit (Accepted reading) (text, a, held, e) = (text, accepts-behind reading text a, held, e)
-  read_behind entry exit (NotRead r) (p, e) = (
+  read_behind entry exit (Ok reading) (text, a, held, e) = (text, accepts-behind reading text a, held, e)
+  read_behind entry exit (Err r) (p, e) = (
     record {
       fault = read-moves terms named packet (packet ++ after) header near near-behind whole same-data wrong-behind (length entry) r p.fault;
       first = λ other lt f.

@@ -3,7 +3,7 @@
 -- The first sentence is what a check says of each function that requires nothing, as `examine::examine`, `reader::read`, `examine::examine_mending`,
 -- `reader::read_mending` and `writer::write`. The rest holds at either rate and whatever number of bits is named.
 -- Assumes nothing.
-use Rattle.std.specs.Prelude.{Bool, List, ◌⊎◌, ◌↔◌, ◌≡◌, ℕ, suc, ◌<◌, length, take, drop}
+use Rattle.std.specs.Prelude.{Bool, List, ◌⊎◌, ◌↔◌, ◌≡◌, ℕ, suc, ◌<◌, length, take, drop, Ok, Err}
 use Rattle.header.specs.declared.Format.{Format}
 use Rattle.header.specs.declared.Format.TheVariants.{Open, PseudoBinary, Numeric, Shef, FullAscii}
 use Rattle.codes.specs.Reading.{DataGives, stuck}
@@ -19,15 +19,9 @@ use Rattle.refusals.specs.Match.{ToldAs, reader_turn, writer_turn}
 use Rattle.refusals.specs.Refusals.{Told, number_in, examine_told, read_told, write_told}
 use Rattle.terms.specs.declared.Terms.{Terms}
 use Rattle.examine.specs.declared.Reading.{Reading}
-use Rattle.examine.specs.declared.ExamineAnswer.{ExamineAnswer}
-use Rattle.examine.specs.declared.ExamineAnswer.TheVariants.{Refused as NotReadable}
-use Rattle.reader.specs.declared.ReadAnswer.{ReadAnswer}
-use Rattle.reader.specs.declared.ReadAnswer.TheVariants.{Accepted, Refused as NotRead}
-use Rattle.writer.specs.declared.WriteAnswer.{WriteAnswer}
-use Rattle.writer.specs.declared.WriteAnswer.TheVariants.{Written, Refused as NotWritten}
-use Rattle.examine.specs.Examine.{Fault, Examines}
-use Rattle.reader.specs.Reader.{ReadFault, Reads}
-use Rattle.writer.specs.Writer.{WriteFault, Writes}
+use Rattle.examine.specs.Examine.{ExamineAnswer, Fault, Examines}
+use Rattle.reader.specs.Reader.{ReadAnswer, ReadFault, Reads}
+use Rattle.writer.specs.Writer.{WriteAnswer, WriteFault, Writes}
 
 -- the answer is the refusal of this number, value and codes exactly when the condition of that number holds, with these, and none that is tested before it
 abbrev pub RefusedExactly : (Refusal : Type 0) → (Refusal → Told) → (Refusal → Type 0) → (ℕ → ℕ) → (Refusal → Type 0) → Type 0
@@ -47,21 +41,21 @@ StuckAt FullAscii carried bit codes = DataGives ascii.scheme carried (stuck bit 
 pub record Demand1 (terms : Terms) : Type 0 where
   -- Each kind of bad input has one refusal number, given under its stated condition and under no other: 17, then 1 to 7,
   pub examine-refuses : (packet : List ℕ) (answer : ExamineAnswer) → Examines terms packet answer
-      → RefusedExactly ExamineRefusal examine_told (Fault terms packet) reader_turn (λ refusal. answer ≡ NotReadable refusal)
+      → RefusedExactly ExamineRefusal examine_told (Fault terms packet) reader_turn (λ refusal. answer ≡ Err refusal)
   -- 17, then 1 to 8,
   pub read-refuses : (packet entry exit : List ℕ) (answer : ReadAnswer) → Reads terms packet entry answer exit
-      → RefusedExactly ReadRefusal read_told (ReadFault terms packet (length entry)) reader_turn (λ refusal. answer ≡ NotRead refusal)
+      → RefusedExactly ReadRefusal read_told (ReadFault terms packet (length entry)) reader_turn (λ refusal. answer ≡ Err refusal)
   -- 12, 10, 9, 11, 8.
   pub write-refuses : (number : ℕ) (sync : Bool) (text entry exit : List ℕ) (answer : WriteAnswer) → Writes terms number sync text entry answer exit
-      → RefusedExactly WriteRefusal write_told (WriteFault terms number text (length entry)) writer_turn (λ refusal. answer ≡ NotWritten refusal)
+      → RefusedExactly WriteRefusal write_told (WriteFault terms number text (length entry)) writer_turn (λ refusal. answer ≡ Err refusal)
   -- A refusal changes no byte of a lent buffer;
-  pub read-refusal-changes-nothing : (packet entry exit : List ℕ) (refusal : ReadRefusal) → Reads terms packet entry (NotRead refusal) exit → exit ≡ entry
+  pub read-refusal-changes-nothing : (packet entry exit : List ℕ) (refusal : ReadRefusal) → Reads terms packet entry (Err refusal) exit → exit ≡ entry
   pub write-refusal-changes-nothing : (number : ℕ) (sync : Bool) (text entry exit : List ℕ) (refusal : WriteRefusal)
-      → Writes terms number sync text entry (NotWritten refusal) exit → exit ≡ entry
+      → Writes terms number sync text entry (Err refusal) exit → exit ≡ entry
   -- an accepted call writes only the bytes that it counts: behind them the buffer is as it was.
-  pub read-writes-counted : (packet entry exit : List ℕ) (reading : Reading) → Reads terms packet entry (Accepted reading) exit
+  pub read-writes-counted : (packet entry exit : List ℕ) (reading : Reading) → Reads terms packet entry (Ok reading) exit
       → drop reading.text_length exit ≡ drop reading.text_length entry
-  pub write-writes-counted : (number : ℕ) (sync : Bool) (text entry exit : List ℕ) (n : ℕ) → Writes terms number sync text entry (Written n) exit
+  pub write-writes-counted : (number : ℕ) (sync : Bool) (text entry exit : List ℕ) (n : ℕ) → Writes terms number sync text entry (Ok n) exit
       → drop n exit ≡ drop n entry
 
 -- what the conditions of 7, 9 and 11 come to

@@ -5,7 +5,7 @@
 -- that section's number and hands out nothing. And with more header bits flipped than named, but together with the named number at most four, the answer is
 -- refusal 2, never another reading. All this holds at either rate and for each number that may be named.
 -- Assumes nothing.
-use Rattle.std.specs.Prelude.{Bool, List, [], ◌∷◌, ◌++◌, ◌≢◌, ◌↔◌, ◌≡◌, ℕ, ◌≤◌, ◌<◌, length, drop}
+use Rattle.std.specs.Prelude.{Bool, List, [], ◌∷◌, ◌++◌, ◌≢◌, ◌↔◌, ◌≡◌, ℕ, ◌≤◌, ◌<◌, length, drop, Ok, Err}
 use Rattle.std.specs.Int.Bits.{bit_xor}
 use Rattle.bits.specs.Row.{Bytes}
 use Rattle.bits.specs.Word.{bit}
@@ -19,19 +19,15 @@ use Rattle.refusals.specs.declared.ExamineRefusal.TheVariants.{NoHeader, Checksu
 use Rattle.refusals.specs.declared.ReadRefusal.TheVariants.{Packet}
 use Rattle.terms.specs.declared.Terms.{Terms}
 use Rattle.examine.specs.declared.Reading.{Reading}
-use Rattle.examine.specs.declared.ExamineAnswer.{ExamineAnswer}
-use Rattle.examine.specs.declared.ExamineAnswer.TheVariants.{Refused as NotReadable}
-use Rattle.reader.specs.declared.ReadAnswer.{ReadAnswer}
-use Rattle.reader.specs.declared.ReadAnswer.TheVariants.{Accepted, Refused}
 use Rattle.packet.specs.Packet.{received}
 use Rattle.sections.specs.Sections.{section_count, section, besides}
-use Rattle.examine.specs.Examine.{Accepts, Examines}
-use Rattle.reader.specs.Reader.{Reads}
+use Rattle.examine.specs.Examine.{ExamineAnswer, Accepts, Examines}
+use Rattle.reader.specs.Reader.{ReadAnswer, Reads}
 use Rattle.demands.specs.Makers.{Made, Flipped, FlippedBeyond, arriving, reading_with}
 
 -- what the reader does with the packet in its slice: it refuses by the checksum of this section, and the buffer is as it was
 abbrev pub RefusedByChecksum : ℕ → List ℕ → ReadAnswer → List ℕ → Type 0
-RefusedByChecksum k entry answer exit = (answer ≡ Refused (Packet (Checksum k))) × (exit ≡ entry)
+RefusedByChecksum k entry answer exit = (answer ≡ Err (Packet (Checksum k))) × (exit ≡ entry)
 
 -- of a packet that was made, and of 32 bits that came for its header, whatever follows it
 pub record Demand3 (terms : Terms) : Type 0 where
@@ -41,7 +37,7 @@ pub record Demand3 (terms : Terms) : Type 0 where
       → (after entry exit : List ℕ) (answer : ReadAnswer) → length (comes_back format text) ≤ length entry
       → Reads terms (arriving word packet after) entry answer exit
       → (answer
-      ≡ Accepted
+      ≡ Ok
       (reading_with format sync (distance word (received packet)) (bit_xor word (received packet))
       (codes_in format (comes_back format text) made.carried made.carries) (length made.carried) (length (comes_back format text))))
       × (exit ≡ comes_back format text ++ drop (length (comes_back format text)) entry)
@@ -67,8 +63,8 @@ pub record Demand3 (terms : Terms) : Type 0 where
   -- handed out;
   pub beyond : (format : Format) (sync : Bool) (text packet : List ℕ) → Made terms format sync text packet → (word : ℕ) → FlippedBeyond terms packet word
       → (behind entry exit : List ℕ) (answer : ReadAnswer) → Reads terms (bytes_of word ++ behind) entry answer exit
-      → (answer ≡ Refused (Packet NoHeader)) × (exit ≡ entry)
+      → (answer ≡ Err (Packet NoHeader)) × (exit ≡ entry)
   -- also without a buffer.
   pub beyond-examined : (format : Format) (sync : Bool) (text packet : List ℕ) → Made terms format sync text packet → (word : ℕ)
       → FlippedBeyond terms packet word → (behind : List ℕ) (answer : ExamineAnswer) → Examines terms (bytes_of word ++ behind) answer
-      → answer ≡ NotReadable NoHeader
+      → answer ≡ Err NoHeader

@@ -1,13 +1,11 @@
 -- Both sides of each edge (RULES, Edges): the table, a row a line, in literal numbers, and what a row says. `edges-hold` proves every row.
 -- Assumes nothing.
-use Rattle.std.specs.Prelude.{Bool, true, false, List, [], ◌∷◌, ◌++◌, ◌≡◌, ℕ, ◌≤◌, length, replicate}
+use Rattle.std.specs.Prelude.{Bool, true, false, List, [], ◌∷◌, ◌++◌, ◌≡◌, ℕ, ◌≤◌, length, replicate, Option, Some, None}
 use Rattle.header.specs.declared.Format.{Format}
 use Rattle.header.specs.declared.Format.TheVariants.{Open, PseudoBinary, Numeric, Shef, FullAscii}
 use Rattle.header.specs.Fields.{fields_in, bytes_of}
 use Rattle.header.specs.Formats.{HasFormat}
 use Rattle.header.specs.Valid.{Valid, flag_in, length_in, check_in}
-use Rattle.apart.specs.declared.Comparison.{Comparison}
-use Rattle.apart.specs.declared.Comparison.TheVariants.{AsOurs, Departs}
 use Rattle.apart.specs.Comparison.{Against}
 use Rattle.mending.specs.declared.Mending.TheVariants.{Mended}
 use Rattle.mending.specs.Mends.{MendsWithin}
@@ -58,7 +56,7 @@ pub data Edge : Type 0 where
   -- so many of one character in Pseudo Binary, each under an indicator of its own, take so many data bytes, and ours of them so many
   singly : (character count single ours : ℕ) → Edge
   -- the data carries the text, and is judged so against ours, with so many bytes more
-  judged : Format → (text carried : List ℕ) → Comparison → (more : ℕ) → Edge
+  judged : Format → (text carried : List ℕ) → Option ℕ → (more : ℕ) → Edge
 
 -- it is so whichever of the numbers is named
 abbrev pub Naming : List ℕ → (ℕ → Type 0) → Type 0
@@ -103,7 +101,7 @@ Holds (singly character count single ours) =
     Carries PseudoBinary (comes_back PseudoBinary text) (written (makers.singly text)) × (length (written (makers.singly text)) ≡ single)
     × (length (data_of PseudoBinary text) ≡ ours)
 Holds (judged format text carried comparison more) =
-    Carries format text carried × Against carried (data_of format text) (record { comparison = comparison; more = more })
+    Carries format text carried × Against carried (data_of format text) (record { departs_at = comparison; more = more })
 
 -- text in ASCII: A 65, B 66, E 69, a 97, > 62, ? 63, ~ 126, DEL 127, 0 48, 1 49, 2 50, space 32, # 35, + 43, - 45, . 46, slash 47, : 58, ; 59, = 61, CR 13, LF 10
 abbrev pub edges : List Edge
@@ -230,19 +228,19 @@ edges =
     -- A2
     ∷ singly 65 128 224 97
     -- J1
-    ∷ judged PseudoBinary (replicate 17 47) (0x7D ∷ 0x0F ∷ []) AsOurs 0
-    ∷ judged PseudoBinary (replicate 17 47) (0x41 ∷ 0xFF ∷ []) (Departs 2) 0
+    ∷ judged PseudoBinary (replicate 17 47) (0x7D ∷ 0x0F ∷ []) None 0
+    ∷ judged PseudoBinary (replicate 17 47) (0x41 ∷ 0xFF ∷ []) (Some 2) 0
     -- J2
-    ∷ judged PseudoBinary (replicate 26 47) (0x65 ∷ 0xFF ∷ []) (Departs 3) 0
+    ∷ judged PseudoBinary (replicate 26 47) (0x65 ∷ 0xFF ∷ []) (Some 3) 0
     -- J3
-    ∷ judged PseudoBinary (65 ∷ 66 ∷ 47 ∷ 47 ∷ []) (0x81 ∷ 0x04 ∷ 0x24 ∷ 0x10 ∷ []) (Departs 25) 0
+    ∷ judged PseudoBinary (65 ∷ 66 ∷ 47 ∷ 47 ∷ []) (0x81 ∷ 0x04 ∷ 0x24 ∷ 0x10 ∷ []) (Some 25) 0
     -- J4
-    ∷ judged PseudoBinary (65 ∷ 66 ∷ []) (0x80 ∷ 0x06 ∷ 0x00 ∷ 0x2F ∷ []) (Departs 7) 1
+    ∷ judged PseudoBinary (65 ∷ 66 ∷ []) (0x80 ∷ 0x06 ∷ 0x00 ∷ 0x2F ∷ []) (Some 7) 1
     -- J5
-    ∷ judged FullAscii (13 ∷ 10 ∷ []) (0xFE ∷ 0xFF ∷ 0xBF ∷ []) (Departs 7) 1
+    ∷ judged FullAscii (13 ∷ 10 ∷ []) (0xFE ∷ 0xFF ∷ 0xBF ∷ []) (Some 7) 1
     -- J6
-    ∷ judged Numeric (49 ∷ 32 ∷ []) (0x1A ∷ []) AsOurs 0
-    ∷ judged Shef (65 ∷ []) (0x83 ∷ []) AsOurs 0
+    ∷ judged Numeric (49 ∷ 32 ∷ []) (0x1A ∷ []) None 0
+    ∷ judged Shef (65 ∷ []) (0x83 ∷ []) None 0
     ∷ []
 
 abbrev pub Every : List Edge → Type 0

@@ -1,7 +1,7 @@
 -- No shorter packet (RULES, Air time): what our writer sends of a text has the fewest bits before its fill, and so its packet the fewest bytes, of all that
 -- any maker may build of the text in that format; what its refusals 11 and 8 say of that; and how much more another maker may take.
 -- Assumes nothing.
-use Rattle.std.specs.Prelude.{Bool, List, ◌↔◌, ◌≡◌, ℕ, ◌+◌, ◌*◌, ◌/◌, ◌≤◌, ◌<◌, length, replicate}
+use Rattle.std.specs.Prelude.{Bool, List, ◌↔◌, ◌≡◌, ℕ, ◌+◌, ◌*◌, ◌/◌, ◌≤◌, ◌<◌, length, replicate, Ok, Err}
 use Rattle.header.specs.declared.Format.{Format}
 use Rattle.header.specs.declared.Format.TheVariants.{PseudoBinary}
 use Rattle.header.specs.Formats.{format_number}
@@ -15,9 +15,7 @@ use Rattle.refusals.specs.declared.WriteRefusal.TheVariants.{TooLong, NoRoom}
 use Rattle.terms.specs.declared.Terms.{Terms}
 use Rattle.examine.specs.declared.Reading.{Reading}
 use Rattle.examine.specs.Examine.{Accepts}
-use Rattle.writer.specs.declared.WriteAnswer.{WriteAnswer}
-use Rattle.writer.specs.declared.WriteAnswer.TheVariants.{Written, Refused as NotWritten}
-use Rattle.writer.specs.Writer.{our_packet, Writes}
+use Rattle.writer.specs.Writer.{WriteAnswer, our_packet, Writes}
 use Rattle.demands.specs.Makers.{Made}
 
 -- a packet of the text needs so many bytes: one of them has just so many, with either sync bit, and none has fewer, under whatever terms it was made
@@ -47,14 +45,14 @@ pub record NoShorter (terms : Terms) : Type 0 where
       → Accepts other packet reading (comes_back format text) → reading.format ≡ format → length (our_packet format sync text) ≤ reading.used
   -- So the bytes that the writer answers are the fewest that any packet of the text needs;
   pub written-is-fewest : (format : Format) (sync : Bool) (text entry exit : List ℕ) (n : ℕ)
-      → Writes terms (format_number format) sync text entry (Written n) exit → Fewest terms format text n
+      → Writes terms (format_number format) sync text entry (Ok n) exit → Fewest terms format text n
   -- refusal 8 names the fewest that any packet of it needs;
   pub room-is-fewest : (format : Format) (sync : Bool) (text entry exit : List ℕ) (n : ℕ)
-      → Writes terms (format_number format) sync text entry (NotWritten (NoRoom n)) exit → Fewest terms format text n
+      → Writes terms (format_number format) sync text entry (Err (NoRoom n)) exit → Fewest terms format text n
   -- and refusal 11 means that the text, which is not empty and has codes, fits in no single packet of that format: it is given exactly then.
   pub too-long-fits-in-none : (format : Format) (sync : Bool) (text entry exit : List ℕ) (answer : WriteAnswer)
       → Writes terms (format_number format) sync text entry answer exit
-      → (answer ≡ NotWritten TooLong) ↔ ((0 < length text) × AllCoded format text × FitsInNone terms format text)
+      → (answer ≡ Err TooLong) ↔ ((0 < length text) × AllCoded format text × FitsInNone terms format text)
 
 -- a text of Pseudo Binary, each character under an indicator of its own: so many bits before the fill, where our writer's data has so many
 pub record Singly (text : List ℕ) (single ours : ℕ) : Type 0 where

@@ -2,7 +2,7 @@
 -- reader say of one packet agrees; no text has two buildings in Numeric or SHEF; what any maker may build of a text in Pseudo Binary; and bytes after the
 -- last checksum are not looked at (RULES, Packet).
 -- Assumes nothing.
-use Rattle.std.specs.Prelude.{Bool, List, ◌++◌, ◌↔◌, ◌≡◌, ℕ, ◌≤◌, ◌<◌, length}
+use Rattle.std.specs.Prelude.{Bool, List, ◌++◌, ◌↔◌, ◌≡◌, ℕ, ◌≤◌, ◌<◌, length, Ok, Err}
 use Rattle.bits.specs.Row.{Bytes}
 use Rattle.header.specs.declared.Format.TheVariants.{PseudoBinary, Numeric, Shef}
 use Rattle.header.specs.Valid.{length_in}
@@ -13,15 +13,10 @@ use Rattle.refusals.specs.declared.ExamineRefusal.{ExamineRefusal}
 use Rattle.refusals.specs.declared.ReadRefusal.TheVariants.{Packet, NoRoom}
 use Rattle.terms.specs.declared.Terms.{Terms}
 use Rattle.examine.specs.declared.Reading.{Reading}
-use Rattle.examine.specs.declared.ExamineAnswer.{ExamineAnswer}
-use Rattle.examine.specs.declared.ExamineAnswer.TheVariants.{Readable, Refused as NotReadable}
-use Rattle.reader.specs.declared.ReadAnswer.{ReadAnswer}
-use Rattle.reader.specs.declared.ReadAnswer.TheVariants.{Accepted, Refused as NotRead}
-use Rattle.writer.specs.declared.WriteAnswer.{WriteAnswer}
-use Rattle.examine.specs.Examine.{Examines}
+use Rattle.examine.specs.Examine.{ExamineAnswer, Examines}
 use Rattle.packet.specs.Packet.{whole_length, received}
-use Rattle.reader.specs.Reader.{Reads}
-use Rattle.writer.specs.Writer.{Writes}
+use Rattle.reader.specs.Reader.{ReadAnswer, Reads}
+use Rattle.writer.specs.Writer.{WriteAnswer, Writes}
 
 pub record OneAnswer (terms : Terms) : Type 0 where
   pub examines-one : (packet : List ℕ) (a b : ExamineAnswer) → Examines terms packet a → Examines terms packet b → a ≡ b
@@ -42,11 +37,11 @@ pub record Buildings : Type 0 where
 -- of one packet, examined and read into a buffer
 pub record Agreement (terms : Terms) : Type 0 where
   pub both-refuse : (packet entry exit : List ℕ) (examined : ExamineAnswer) (read : ReadAnswer) → Examines terms packet examined
-      → Reads terms packet entry read exit → (refusal : ExamineRefusal) → (examined ≡ NotReadable refusal) ↔ (read ≡ NotRead (Packet refusal))
-  pub room-decides : (packet entry exit : List ℕ) (reading : Reading) (read : ReadAnswer) → Examines terms packet (Readable reading)
+      → Reads terms packet entry read exit → (refusal : ExamineRefusal) → (examined ≡ Err refusal) ↔ (read ≡ Err (Packet refusal))
+  pub room-decides : (packet entry exit : List ℕ) (reading : Reading) (read : ReadAnswer) → Examines terms packet (Ok reading)
       → Reads terms packet entry read exit
-      → (reading.text_length ≤ length entry → read ≡ Accepted reading)
-      × (length entry < reading.text_length → read ≡ NotRead (NoRoom reading.text_length))
+      → (reading.text_length ≤ length entry → read ≡ Ok reading)
+      × (length entry < reading.text_length → read ≡ Err (NoRoom reading.text_length))
 
 -- a slice that holds the whole packet is read as the packet alone, whatever follows
 pub record NothingAfter (terms : Terms) : Type 0 where

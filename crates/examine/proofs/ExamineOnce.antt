@@ -5,6 +5,7 @@ use mathlib.Core.Path.{◌≡◌, refl, sym, ap, ap₂, ◌∙◌, subst, subst�
 use Prim.Native.Nat.{ℕ, ◌≤◌}
 use lib.ListN.{drop}
 use native.Mathlib.Decide.{dec_le}
+use Rattle.std.specs.Prelude.{Ok, Err}
 use Rattle.header.specs.declared.Format.{Format}
 use Rattle.header.specs.Fields.{fields_in}
 use Rattle.header.specs.Formats.{HasFormat}
@@ -21,9 +22,7 @@ use Rattle.refusals.proofs.Known.{examine_from, examine_known, examine-at-turn, 
 use Rattle.refusals.proofs.Refused.{match-one, first-of-all}
 use Rattle.terms.specs.declared.Terms.{Terms}
 use Rattle.examine.specs.declared.Reading.{Reading}
-use Rattle.examine.specs.declared.ExamineAnswer.{ExamineAnswer}
-use Rattle.examine.specs.declared.ExamineAnswer.TheVariants.{Readable, Refused}
-use Rattle.examine.specs.Examine.{Fault, Refuses, reading_of, Accepts, Examines}
+use Rattle.examine.specs.Examine.{ExamineAnswer, Fault, Refuses, reading_of, Accepts, Examines}
 use Rattle.packet.specs.Packet.{received, data_in, FirstUnsummed}
 use Rattle.terms.specs.Terms.{MayMend, OnePacket, MayBeNamed}
 use Rattle.examine.proofs.ExamineStages.{clear-seventeen, clear-eight}
@@ -105,9 +104,9 @@ module _ (terms : Terms) (packet : List ℕ) (many : MayMend terms.mend → ⊥)
   pub never-accepted : (reading : Reading) (text : List ℕ) → Accepts terms packet reading text → ⊥
   never-accepted reading text a = many a.allowed.framed.bits
 
-  pub examined-too-many : (answer : ExamineAnswer) → Examines terms packet answer → answer ≡ Refused TooManyBits
-  examined-too-many (Readable reading) (text, a) = absurd (never-accepted reading text a)
-  examined-too-many (Refused r) p = ap {B = ExamineAnswer} Refused (only-too-many r p)
+  pub examined-too-many : (answer : ExamineAnswer) → Examines terms packet answer → answer ≡ Err TooManyBits
+  examined-too-many (Ok reading) (text, a) = absurd (never-accepted reading text a)
+  examined-too-many (Err r) p = ap {B = ExamineAnswer} Err (only-too-many r p)
 
 -- ---- one answer, whatever number is named
 
@@ -115,10 +114,10 @@ pub examines-one : (terms : Terms) → OnePacket terms.most → (packet : List �
 examines-one terms bytes packet a b p q = pick (dec_le terms.mend 2)
   where
     same : MayBeNamed terms → (a b : ExamineAnswer) → Examines terms packet a → Examines terms packet b → a ≡ b
-    same named (Readable a) (Readable b) (t, p) (u, q) = ap {B = ExamineAnswer} Readable (accepts-one-reading terms named packet a b t u p q)
-    same named (Readable a) (Refused s) (t, p) q = absurd (accepts-no-fault terms named packet a t p s q.fault)
-    same named (Refused r) (Readable b) p (u, q) = absurd (accepts-no-fault terms named packet b u q r p.fault)
-    same named (Refused r) (Refused s) p q = ap {B = ExamineAnswer} Refused (refuses-one terms named packet r s p q)
+    same named (Ok a) (Ok b) (t, p) (u, q) = ap {B = ExamineAnswer} Ok (accepts-one-reading terms named packet a b t u p q)
+    same named (Ok a) (Err s) (t, p) q = absurd (accepts-no-fault terms named packet a t p s q.fault)
+    same named (Err r) (Ok b) p (u, q) = absurd (accepts-no-fault terms named packet b u q r p.fault)
+    same named (Err r) (Err s) p q = ap {B = ExamineAnswer} Err (refuses-one terms named packet r s p q)
 
     pick : Dec (terms.mend ≤ 2) → a ≡ b
     pick (yes bits) = same (record { bits = bits; bytes = bytes }) a b p q

@@ -3,5 +3,4 @@ pub mod ExamineAnswers
 pub mod ExamineOnce
 pub mod ExamineStages
 pub mod Headers
-pub mod Named
 pub mod Sent

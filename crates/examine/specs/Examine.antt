@@ -1,7 +1,7 @@
 -- What is found out about a packet without a text buffer (RULES, Refusals: 17, then 1 to 7): the stated condition of each refusal, tested in this order,
 -- first match answers; and when a packet is accepted, with what.
 -- Assumes nothing.
-use Rattle.std.specs.Prelude.{List, ◌⊎◌, ◌≡◌, ℕ, ◌≤◌, ◌<◌, length}
+use Rattle.std.specs.Prelude.{List, ◌⊎◌, ◌≡◌, ℕ, ◌≤◌, ◌<◌, length, Result, Ok, Err}
 use Rattle.std.specs.Int.Bits.{bit_xor}
 use Rattle.header.specs.declared.Format.{Format}
 use Rattle.header.specs.Fields.{fields_in}
@@ -16,8 +16,6 @@ use Rattle.refusals.specs.Refusals.{examine_told}
 use Rattle.terms.specs.declared.Terms.{Terms}
 use Rattle.terms.specs.Terms.{MayMend}
 use Rattle.examine.specs.declared.Reading.{Reading}
-use Rattle.examine.specs.declared.ExamineAnswer.{ExamineAnswer}
-use Rattle.examine.specs.declared.ExamineAnswer.TheVariants.{Readable, Refused}
 use Rattle.packet.specs.Packet.{whole_length, received, data_in, Summed, FirstUnsummed}
 
 -- the valid header that the packet is read as, no further away than the bits to mend, with what the condition says of it
@@ -77,7 +75,10 @@ pub record Accepts (terms : Terms) (packet : List ℕ) (reading : Reading) (text
   pub allowed : Allowed terms packet format header text
   pub is : reading ≡ reading_of format header (received packet) text (codes_in format text (data_in header packet) allowed.carries)
 
--- the answer
+-- the answer: what is found out, or the refusal
+abbrev pub ExamineAnswer : Type 0
+ExamineAnswer = Result Reading ExamineRefusal
+
 abbrev pub Examines : Terms → List ℕ → ExamineAnswer → Type 0
-Examines terms packet (Readable reading) = (text : List ℕ) × Accepts terms packet reading text
-Examines terms packet (Refused refusal) = Refuses terms packet refusal
+Examines terms packet (Ok reading) = (text : List ℕ) × Accepts terms packet reading text
+Examines terms packet (Err refusal) = Refuses terms packet refusal

@@ -2,20 +2,18 @@
 
 #![tactic(auto)]
 
-ghost use Rattle.terms.specs.Terms.{OnePacket, MayBeNamed, naming, usual};
+ghost use Rattle.terms.specs.Terms.{OnePacket, naming, usual};
 ghost use Rattle.examine.specs.Examine.{Examines};
-ghost use Rattle.examine.specs.Steps.Reading.{HeaderFound, FindsHeader, SumsRight};
+ghost use Rattle.examine.specs.Steps.Reading.{FindsHeader};
 
-use codes::Outcome;
-use header::{Format, Header, WhichFormat};
+use header::{Format, Header};
 use mending::Mending;
 use refusals::ExamineRefusal;
-use sections::Sums;
 use terms::Terms;
 
 // An accepted packet: its format and sync bit, how many header bits were mended and which, how many codes were read, the lengths of data and text, and the
 // bytes used. Why the mask does not stand beside the count: docs/DECISIONS.md.
-#[derive(Clone, Copy)]
+#[derive(Clone, Copy, Debug, PartialEq, Eq)]
 pub struct Reading {
     pub format: Format,
     pub sync: bool,
@@ -27,55 +25,43 @@ pub struct Reading {
     pub used: usize,
 }
 
-#[derive(Clone, Copy)]
-pub enum ExamineAnswer {
-    Readable(Reading),
-    Refused(ExamineRefusal),
-}
-
-// The reading of a packet whose header is found, with no text yet.
-#[derive(Clone, Copy)]
-enum HeaderAnswer {
-    Found(Reading),
-    Refused(ExamineRefusal),
-}
+// What is found out about a packet, or why it is refused.
+pub type ExamineAnswer = Result<Reading, ExamineRefusal>;
 
 // Tests 17 and 1 to 5: a number that may be named, the header that the packet is read as, its type and length, and bytes enough. The members of the answer
 // are put together here, all but the text's length and the codes.
-fn find_header(terms: Terms, packet: &[u8]) -> HeaderAnswer
+fn find_header(terms: Terms, packet: &[u8]) -> ExamineAnswer
     requires { OnePacket terms.most }
     ensures { FindsHeader terms packet.now result }
 {
     if Terms::MOST_MENDED < terms.mend {
-        return HeaderAnswer::Refused(ExamineRefusal::TooManyBits); // tested first of all
+        return Err(ExamineRefusal::TooManyBits); // tested first of all
     }
     if packet.len() < 4 {
-        return HeaderAnswer::Refused(ExamineRefusal::Short);
+        return Err(ExamineRefusal::Short);
     }
     let received = header::word(packet[0], packet[1], packet[2], packet[3]);
-    let mending = mending::mend(received, terms.mend);
-    let Mending::Mended(bits, mended) = mending else {
-        return HeaderAnswer::Refused(ExamineRefusal::NoHeader);
+    let Mending::Mended(bits, mended) = mending::mend(received, terms.mend) else {
+        return Err(ExamineRefusal::NoHeader);
     };
     let fields = Header::from_bits(bits);
-    let which = fields.format();
-    let WhichFormat::Ours(format) = which else {
-        return HeaderAnswer::Refused(ExamineRefusal::OtherType);
+    let Some(format) = fields.format() else {
+        return Err(ExamineRefusal::OtherType);
     };
     let length = fields.length as usize;
     let sync = fields.sync;
     let most = terms.most as usize;
     if length == 0 {
-        return HeaderAnswer::Refused(ExamineRefusal::OtherLength); // no data
+        return Err(ExamineRefusal::OtherLength); // no data
     }
     if most < length {
-        return HeaderAnswer::Refused(ExamineRefusal::OtherLength); // too much
+        return Err(ExamineRefusal::OtherLength); // too much
     }
     let used = packet::whole_length(length);
     if packet.len() < used {
-        return HeaderAnswer::Refused(ExamineRefusal::CutOff); // too few bytes
+        return Err(ExamineRefusal::CutOff); // too few bytes
     }
-    HeaderAnswer::Found(Reading {
+    Ok(Reading {
         format,
         sync,
         mended,
@@ -87,49 +73,21 @@ fn find_header(terms: Terms, packet: &[u8]) -> HeaderAnswer
     })
 }
 
-// Test 7, under a header that is found and with every checksum right. The terms are those that it was found under; the contract names them.
-fn examine_text(terms: Terms, found: Reading, packet: &[u8]) -> ExamineAnswer
-    requires { MayBeNamed terms × SumsRight terms packet.now found }
-    ensures { Examines terms packet.now result }
-{
-    let format = found.format;
-    let outcome = section_data::take_apart(format, found.data_length, &packet[4..]);
-    match outcome {
-        Outcome::Text(n, codes) => {
-            let mut reading = found;
-            reading.codes = codes;
-            reading.text_length = n;
-            ExamineAnswer::Readable(reading)
-        }
-        Outcome::Malformed(bit, codes) => {
-            ExamineAnswer::Refused(ExamineRefusal::Malformed(bit, codes))
-        }
-        Outcome::TooLong => ExamineAnswer::Refused(ExamineRefusal::OtherLength), // never: a packet's data is short
-    }
-}
-
-// Tests 6 and 7, under a header that is found.
-fn examine_data(terms: Terms, found: Reading, packet: &[u8]) -> ExamineAnswer
-    requires { MayBeNamed terms × HeaderFound terms packet.now found }
-    ensures { Examines terms packet.now result }
-{
-    let sums = sections::judge(found.data_length, &packet[4..]);
-    match sums {
-        Sums::Right => examine_text(terms, found, packet),
-        Sums::Wrong(section) => ExamineAnswer::Refused(ExamineRefusal::Checksum(section)),
-    }
-}
-
 // What is found out about the packet at the front of a slice, under terms.
 pub fn examine_under(terms: Terms, packet: &[u8]) -> ExamineAnswer
     requires { OnePacket terms.most }
     ensures { Examines terms packet.now result }
 {
-    let header = find_header(terms, packet);
-    match header {
-        HeaderAnswer::Found(found) => examine_data(terms, found, packet),
-        HeaderAnswer::Refused(refusal) => ExamineAnswer::Refused(refusal),
+    let found = find_header(terms, packet)?;
+    if let Some(section) = sections::judge(found.data_length, &packet[4..]) {
+        return Err(ExamineRefusal::Checksum(section));
     }
+    let extent = section_data::take_apart(found.format, found.data_length, &packet[4..])?;
+    Ok(Reading {
+        codes: extent.codes,
+        text_length: extent.characters,
+        ..found
+    })
 }
 
 // Finds out about the packet at the front of a slice all but its text, at most so many header bits mended, at 1200 bps or else at 300. Bytes after the

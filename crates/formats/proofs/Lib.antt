@@ -5,5 +5,3 @@ pub mod NumericData
 pub mod OfScheme
 pub mod Once
 pub mod OpenData
-pub mod TakenApart
-pub mod Which

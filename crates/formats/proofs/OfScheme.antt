@@ -9,21 +9,20 @@ use Rattle.bits.specs.Row.{bits}
 use Rattle.header.specs.declared.Format.{Format}
 use Rattle.header.specs.declared.Format.TheVariants.{PseudoBinary, Shef, FullAscii}
 use Rattle.codes.specs.Chain.{Scheme, Built}
-use Rattle.codes.specs.Steps.Laid.{laid, Readable, Placed}
-use Rattle.codes.specs.Steps.Measure.{Measures}
-use Rattle.codes.specs.declared.Measured.{Measured}
-use Rattle.codes.specs.declared.Measured.TheVariants.{Text, Malformed}
+use Rattle.codes.specs.Steps.Laid.{laid, Placed}
+use Rattle.codes.specs.Steps.Measure.{Measured, extent, malformed_at, Measures}
+use Rattle.std.specs.Prelude.{Ok, Err}
 use Rattle.full_ascii.specs.Table as ascii
 use Rattle.pseudo_binary.specs.Table as pseudo
 use Rattle.shef.specs.Table as shef
 use Rattle.formats.specs.Data.{Carries}
-use Rattle.formats.specs.Steps.Text.{MeasuresData, HasRoom, PutsText}
+use Rattle.formats.specs.Steps.Text.{MeasuresData, PutsText}
 
 pub record OfScheme (scheme : Scheme) (format : Format) : Type 0 where
   pub carries : (text carried : List ℕ) → Built scheme text carried → Carries format text carried
   pub built : (text carried : List ℕ) → Carries format text carried → Built scheme text carried
-  pub text : (carried : List ℕ) (n codes : ℕ) → Measures scheme (bits carried) (Text n codes) → MeasuresData format carried (Text n codes)
-  pub place : (carried : List ℕ) (i codes : ℕ) → Measures scheme (bits carried) (Malformed i codes) → MeasuresData format carried (Malformed i codes)
+  pub text : (carried : List ℕ) (n codes : ℕ) → Measures scheme (bits carried) (Ok (extent n codes)) → MeasuresData format carried (Ok (extent n codes))
+  pub place : (carried : List ℕ) (i codes : ℕ) → Measures scheme (bits carried) (Err (malformed_at i codes)) → MeasuresData format carried (Err (malformed_at i codes))
 
 pub of-pseudo-binary : (format : Format) → format ≡ PseudoBinary → OfScheme pseudo.scheme format
 of-pseudo-binary format told =
@@ -42,11 +41,8 @@ of-full-ascii format told =
 
 module _ {scheme : Scheme} {format : Format} (o : OfScheme scheme format) (carried : List ℕ) where
   pub scheme-measures : (r : Measured) → Measures scheme (bits carried) r → MeasuresData format carried r
-  scheme-measures (Text n codes) m = o.text carried n codes m
-  scheme-measures (Malformed i codes) m = o.place carried i codes m
-
-  pub scheme-room : (room : ℕ) → HasRoom format carried room → Readable scheme (bits carried) room
-  scheme-room room h = record { text = h.text; reads = o.built h.text carried h.carries; fits = h.fits }
+  scheme-measures (Ok e) m = o.text carried e.characters e.codes m
+  scheme-measures (Err at) m = o.place carried at.bit at.codes m
 
   pub scheme-text : (entry exit : List ℕ) (r : ℕ) → Placed scheme (bits carried) entry exit 0 r → PutsText format carried entry exit r
   unfolding laid

@@ -6,11 +6,9 @@ use Prim.Native.Nat.{ℕ}
 use lib.ListN.{length}
 use Rattle.header.specs.declared.Format.{Format}
 use Rattle.codes.specs.Steps.Laid.{Fronted}
-use Rattle.codes.specs.Steps.Measure.{TakesApart}
-use Rattle.codes.specs.Steps.Size.{FindsUncoded, Needs}
-use Rattle.codes.specs.declared.Needed.{Needed}
-use Rattle.codes.specs.declared.Outcome.{Outcome}
-use Rattle.codes.specs.declared.Uncoded.{Uncoded}
+use Rattle.codes.specs.Steps.Measure.{Outcome, TakesApart}
+use Rattle.codes.specs.Steps.Size.{Needed, FindsUncoded, Needs}
+use Rattle.std.specs.Prelude.{Option}
 use Rattle.codes.proofs.OneAnswer.{one-coming, one-search, one-need, one-front}
 use Rattle.formats.specs.Data.{CarriesIn, UnreadableAfter, coded, data_of}
 use Rattle.formats.specs.Steps.Text.{PutsText}
@@ -18,7 +16,7 @@ use Rattle.formats.proofs.Codes.{carries-in-one, unreadable-after-one}
 use Rattle.formats.proofs.Formats.{carries-one, never-unreadable}
 
 module _ (format : Format) (text : List ℕ) where
-  pub first-uncoded-once : (a b : Uncoded) → FindsUncoded (coded format) text a → FindsUncoded (coded format) text b → a ≡ b
+  pub first-uncoded-once : (a b : Option ℕ) → FindsUncoded (coded format) text a → FindsUncoded (coded format) text b → a ≡ b
   first-uncoded-once = one-search (coded format) text
 
   module _ (most : ℕ) where

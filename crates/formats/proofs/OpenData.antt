@@ -9,8 +9,8 @@ use lib.Seq.{take-length}
 use Rattle.header.specs.declared.Format.{Format}
 use Rattle.header.specs.declared.Format.TheVariants.{Open}
 use Rattle.codes.specs.Steps.Laid.{Fronted}
-use Rattle.codes.specs.declared.Measured.TheVariants.{Text}
-use Rattle.formats.specs.Data.{data_of}
+use Rattle.codes.specs.Steps.Measure.{extent}
+use Rattle.std.specs.Prelude.{Ok}
 use Rattle.formats.specs.Steps.Text.{MeasuresData, HasRoom, PutsText}
 
 -- a copy stands at the front of the buffer
@@ -23,13 +23,9 @@ copied row entry exit r long whole =
 
 -- where the format is Open. Each number of the answer stands with what it must be, so that a wrong one is refused where it stands
 module _ (format : Format) (told : format ≡ Open) where
-  pub open-copied : (text entry exit : List ℕ) (r : ℕ) → r ≡ length text → exit ≡ take (length text) text ++ drop (length text) entry
-      → Fronted (data_of format text) entry exit r
-  open-copied text entry exit r long whole = subst⁻¹ (λ (k : Format). Fronted (data_of k text) entry exit r) told (copied text entry exit r long whole)
-
   module _ (carried : List ℕ) where
-    pub open-measures : (n codes : ℕ) → n ≡ length carried → codes ≡ 0 → MeasuresData format carried (Text n codes)
-    open-measures n codes e d = subst⁻¹ (λ (k : Format). MeasuresData k carried (Text n codes)) told (carried, sym e, (refl, sym d))
+    pub open-measures : (n codes : ℕ) → n ≡ length carried → codes ≡ 0 → MeasuresData format carried (Ok (extent n codes))
+    open-measures n codes e d = subst⁻¹ (λ (k : Format). MeasuresData k carried (Ok (extent n codes))) told (carried, sym e, (refl, sym d))
 
     pub open-room : (room : ℕ) → HasRoom format carried room → length carried ≤ room
     open-room room h = let held = subst (λ (k : Format). HasRoom k carried room) told h in omega (arith, ap length held.carries, held.fits)

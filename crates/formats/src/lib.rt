@@ -13,26 +13,47 @@ ghost use Rattle.header.specs.declared.Format.TheVariants.{Open};
 ghost use Rattle.formats.specs.Data.{CarriesIn, UnreadableAfter, coded, AllCoded, data_of};
 ghost use Rattle.formats.specs.Steps.Text.{MeasuresData, HasRoom, PutsText};
 
-use codes::{Measured, Needed, Outcome, Uncoded};
+use codes::{Extent, Measured, Needed, Outcome, Unfit, Unread};
 use header::{Format, Header};
+
+// One of five expressions, by the format: the lower two first, by its number.
+macro_rules! by_format {
+    (
+        $format:expr;
+        Open => $open:expr,
+        PseudoBinary => $pseudo_binary:expr,
+        Numeric => $numeric:expr,
+        Shef => $shef:expr,
+        FullAscii => $full_ascii:expr $(,)?
+    ) => {{
+        if Header::number($format) < Header::NUMERIC {
+            if $format == Format::Open {
+                $open
+            } else {
+                $pseudo_binary
+            }
+        } else {
+            match $format {
+                Format::Numeric => $numeric,
+                Format::Shef => $shef,
+                _ => $full_ascii,
+            }
+        }
+    }};
+}
 
 // Whether the character at place i has a code.
 fn has_code(format: Format, text: &[u8], i: usize) -> bool
     requires { i < length text.now }
     ensures { result ≡ coded format (take i text.now) (get_or text.now i 0) }
 {
-    let number = Header::number(format);
-    if number < Header::NUMERIC {
-        if number == Header::OPEN {
-            return true;
-        }
-        return pseudo_binary_writer::is_coded(text[i]);
-    }
-    match number {
-        Header::NUMERIC => numeric_writer::is_coded(text, i),
-        Header::SHEF => shef_writer::is_coded(text[i]),
-        _ => full_ascii_writer::is_coded(text[i]),
-    }
+    by_format!(format;
+        Open => true,
+        PseudoBinary => pseudo_binary_writer::is_coded(text[i]),
+        Numeric => numeric_writer::is_coded(text, i),
+        Shef => shef_writer::is_coded(text[i]),
+        FullAscii => full_ascii_writer::is_coded(text[i]),
+    )
 }
 
 // Whether each character has a code. All are looked at, whatever is found: a loop with no way out before its end is done for many characters at once.
@@ -41,10 +62,8 @@ fn all_coded_in(format: Format, text: &[u8]) -> bool
     ensures { Says result (AllCoded format text.now) }
 {
     let mut all = has_code(format, text, 0);
-    let mut i: usize = 1;
-    while i < text.len() {
-        all = all & has_code(format, text, i);
-        i += 1;
+    for i in 1..text.len() {
+        all &= has_code(format, text, i);
     }
     all
 }
@@ -53,38 +72,31 @@ fn all_coded_in(format: Format, text: &[u8]) -> bool
 fn all_coded(format: Format, text: &[u8]) -> bool
     ensures { Says result (AllCoded format text.now) }
 {
-    if text.len() == 0 {
+    if text.is_empty() {
         return true;
     }
-    let number = Header::number(format);
-    if number < Header::NUMERIC {
-        if number == Header::OPEN {
-            return all_coded_in(Format::Open, text);
-        }
-        return all_coded_in(Format::PseudoBinary, text);
-    }
-    match number {
-        Header::NUMERIC => all_coded_in(Format::Numeric, text),
-        Header::SHEF => all_coded_in(Format::Shef, text),
-        _ => all_coded_in(Format::FullAscii, text),
-    }
+    by_format!(format;
+        Open => all_coded_in(Format::Open, text),
+        PseudoBinary => all_coded_in(Format::PseudoBinary, text),
+        Numeric => all_coded_in(Format::Numeric, text),
+        Shef => all_coded_in(Format::Shef, text),
+        FullAscii => all_coded_in(Format::FullAscii, text),
+    )
 }
 
 // The index of the first character that has no code.
-pub fn first_uncoded(format: Format, text: &[u8]) -> Uncoded
+pub fn first_uncoded(format: Format, text: &[u8]) -> Option<usize>
     ensures { FindsUncoded (coded format) text.now result }
 {
     if all_coded(format, text) {
-        return Uncoded::Nowhere;
+        return None;
     }
-    let mut i: usize = 0;
-    while i < text.len() {
+    for i in 0..text.len() {
         if !has_code(format, text, i) {
-            return Uncoded::At(i);
+            return Some(i);
         }
-        i += 1;
     }
-    Uncoded::Nowhere
+    None
 }
 
 // How many bytes the data of an open text has: as many as it has characters.
@@ -92,9 +104,9 @@ fn open_length(text: &[u8], most: u16) -> Needed
     ensures { Needs most (coded Open) text.now text.now result }
 {
     if (most as usize) < text.len() {
-        return Needed::TooMany;
+        return Err(Unfit::TooMany);
     }
-    Needed::Bytes(text.len())
+    Ok(text.len())
 }
 
 // How many bytes our data of a text with codes has, or that they are more than `most`.
@@ -102,29 +114,23 @@ fn coded_length(format: Format, text: &[u8], most: u16) -> Needed
     requires { AllCoded format text.now }
     ensures { Needs most (coded format) text.now (data_of format text.now) result }
 {
-    let number = Header::number(format);
-    if number < Header::NUMERIC {
-        if number == Header::OPEN {
-            return open_length(text, most);
-        }
-        return pseudo_binary_writer::coded_length(text, most);
-    }
-    match number {
-        Header::NUMERIC => numeric_writer::coded_length(text, most),
-        Header::SHEF => shef_writer::coded_length(text, most),
-        _ => full_ascii_writer::coded_length(text, most),
-    }
+    by_format!(format;
+        Open => open_length(text, most),
+        PseudoBinary => pseudo_binary_writer::coded_length(text, most),
+        Numeric => numeric_writer::coded_length(text, most),
+        Shef => shef_writer::coded_length(text, most),
+        FullAscii => full_ascii_writer::coded_length(text, most),
+    )
 }
 
 // How many bytes our data of the text has; or the first character that has no code; or that the bytes are more than `most`.
 pub fn data_length(format: Format, text: &[u8], most: u16) -> Needed
     ensures { Needs most (coded format) text.now (data_of format text.now) result }
 {
-    let uncoded = first_uncoded(format, text);
-    match uncoded {
-        Uncoded::At(index) => Needed::NoCode(index),
-        Uncoded::Nowhere => coded_length(format, text, most),
+    if let Some(index) = first_uncoded(format, text) {
+        return Err(Unfit::NoCode(index));
     }
+    coded_length(format, text, most)
 }
 
 // Our data of the text, at the front of the buffer; how many bytes it is.
@@ -132,18 +138,13 @@ pub fn put_data(format: Format, text: &[u8], out: &mut [u8]) -> usize
     requires { AllCoded format text.now × (length (data_of format text.now) ≤ length out.old) }
     ensures { Fronted (data_of format text.now) out.old out.new result }
 {
-    let number = Header::number(format);
-    if number < Header::NUMERIC {
-        if number == Header::OPEN {
-            return rows::copy(text, out);
-        }
-        return pseudo_binary_writer::put_data(text, out);
-    }
-    match number {
-        Header::NUMERIC => numeric_writer::put_data(text, out),
-        Header::SHEF => shef_writer::put_data(text, out),
-        _ => full_ascii_writer::put_data(text, out),
-    }
+    by_format!(format;
+        Open => rows::copy(text, out),
+        PseudoBinary => pseudo_binary_writer::put_data(text, out),
+        Numeric => numeric_writer::put_data(text, out),
+        Shef => shef_writer::put_data(text, out),
+        FullAscii => full_ascii_writer::put_data(text, out),
+    )
 }
 
 // The length of the text that the data carries, or the bit at which it is malformed, and how many codes were read; in Open there are none.
@@ -152,7 +153,10 @@ fn measure(format: Format, data: &[u8]) -> Measured
     ensures { MeasuresData format «data».now result }
 {
     match format {
-        Format::Open => Measured::Text(data.len(), 0),
+        Format::Open => Ok(Extent {
+            characters: data.len(),
+            codes: 0,
+        }),
         Format::PseudoBinary => pseudo_binary_reader::measure(data),
         Format::Numeric => numeric_reader::measure(data),
         Format::Shef => shef_reader::measure(data),
@@ -164,14 +168,10 @@ fn measure(format: Format, data: &[u8]) -> Measured
 pub fn take_apart(format: Format, data: &[u8]) -> Outcome
     ensures { TakesApart (CarriesIn format «data».now) (UnreadableAfter format «data».now) (length «data».now) result }
 {
-    if Outcome::LIMIT <= data.len() {
-        return Outcome::TooLong;
+    if codes::LIMIT <= data.len() {
+        return Err(Unread::TooLong);
     }
-    let measured = measure(format, data);
-    match measured {
-        Measured::Text(n, codes) => Outcome::Text(n, codes),
-        Measured::Malformed(bit, codes) => Outcome::Malformed(bit, codes),
-    }
+    Ok(measure(format, data)?)
 }
 
 // The text that the data carries, at the front of the buffer; its length.

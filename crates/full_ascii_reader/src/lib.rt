@@ -8,11 +8,13 @@ ghost use Rattle.codes.specs.Steps.Laid.{Readable, Placed};
 ghost use Rattle.codes.specs.Steps.Measure.{Measures, countable};
 ghost use Rattle.codes.specs.Pack.{low};
 ghost use Rattle.codes.specs.Steps.Taken.{FirstCode, one_character};
-ghost use Rattle.codes.specs.Steps.Words.{SkimsInto, Begun, CountedTo, LaidTo};
+ghost use Rattle.codes.specs.Steps.Words.{SkimsInto, Begun};
+ghost use Rattle.compact.specs.Table.{Skims};
 ghost use Rattle.full_ascii.specs.Table.{table, scheme};
-ghost use Rattle.full_ascii_reader.specs.Steps.Passing.{Plain, Skims};
+ghost use Rattle.full_ascii_reader.specs.Steps.Passing.{Plain, table_laws};
 
-use codes::{Code, Counted, Laid, Measured, Place, Skimmed};
+use codes::{Code, Laid, Measured, Skimmed};
+use compact::{ByWords, Table};
 use full_ascii::{Character, Special};
 
 // A code that says one character.
@@ -85,105 +87,20 @@ fn plain(held: u64) -> bool
 // Eight codes of six or seven bits passed.
 fn skim_plain(held: u64, have: u64) -> Skimmed
     requires { (57 ≤ have) × (have ≤ 64) × Plain held }
-    ensures { Skims held have result }
+    ensures { Skims table held have result }
 {
     let mut top = held << (64 - have);
     let mut left = have;
-    let mut codes: usize = 0;
-    let mut count: usize = 0;
-    while codes < 8 {
+    for _ in 0..8u64 {
         let c = first_plain(top >> 57);
-        top = top << c.width;
+        top <<= c.width;
         left -= c.width;
-        codes += 1;
-        count += c.count;
     }
-    Skimmed { left, codes, count }
-}
-
-// Codes passed one by one, as long as there are nine bits.
-fn skim_each(held: u64, have: u64) -> Skimmed
-    requires { have ≤ 64 }
-    ensures { Skims held have result }
-{
-    let mut left = have;
-    let mut codes: usize = 0;
-    let mut count: usize = 0;
-    while 9 <= left {
-        let c = first_code(bit_buffer::window(held, left));
-        left -= c.width;
-        codes += 1;
-        count += c.count;
+    Skimmed {
+        left,
+        codes: 8,
+        count: 8,
     }
-    Skimmed { left, codes, count }
-}
-
-// The codes in the lowest `have` bits of a number, up to its last few bits.
-fn skim(held: u64, have: u64) -> Skimmed
-    requires { (57 ≤ have) × (have ≤ 64) }
-    ensures { Skims held have result }
-{
-    if plain(held) {
-        return skim_plain(held, have);
-    }
-    skim_each(held, have)
-}
-
-// The codes passed, up to fewer than eight bytes before the end.
-fn measure_words(s: &[u8]) -> Counted
-    requires { length s.now < countable }
-    ensures { CountedTo scheme s.now result }
-{
-    let mut next: usize = 0;
-    let mut skip: u64 = 0;
-    let mut codes: usize = 0;
-    let mut n: usize = 0;
-    while 8 <= s.len() - next {
-        let w = skim(bit_buffer::eight(s, next), 64 - skip);
-        let passed = 64 - w.left;
-        next += (passed / 8) as usize;
-        skip = passed % 8;
-        codes += w.codes;
-        n += w.count;
-    }
-    Counted {
-        place: Place { next, skip, n },
-        codes,
-    }
-}
-
-// What the last bits come to, `have` of them.
-fn measure_last(held: u64, have: u64) -> Measured
-    requires { have ≤ 64 }
-    ensures { Measures scheme (low have held) result }
-{
-    let mut left = have;
-    let mut codes: usize = 0;
-    let mut n: usize = 0;
-    loop {
-        if bit_buffer::at_end(held, left) {
-            return Measured::Text(n, codes);
-        }
-        let c = first_code(bit_buffer::window(held, left));
-        if left < c.width {
-            return Measured::Malformed((have - left) as usize, codes);
-        }
-        left -= c.width;
-        codes += 1;
-        n += c.count;
-    }
-}
-
-// The length of the text, or where the data is malformed.
-pub fn measure(s: &[u8]) -> Measured
-    requires { length s.now < countable }
-    ensures { Measures scheme (bits s.now) result }
-{
-    let counted = measure_words(s);
-    let place = counted.place;
-    let b = bit_buffer::last_bits(s, place);
-    let last = measure_last(b.held, b.have);
-    bit_buffer::with_front(last, place.n, counted.codes, s.len() * 8 - b.have as usize)
 }
 
 // The characters of eight codes of six or seven bits, from place n on.
@@ -193,15 +110,13 @@ fn put_plain(held: u64, have: u64, out: &mut [u8], n: usize) -> Laid
 {
     let mut top = held << (64 - have);
     let mut left = have;
-    let mut count: usize = 0;
-    while count < 8 {
+    for k in 0..8 {
         let c = first_plain(top >> 57);
-        bit_buffer::put(out, n + count, c);
-        top = top << c.width;
+        bit_buffer::put(out, n + k, c);
+        top <<= c.width;
         left -= c.width;
-        count += c.count;
     }
-    Laid { left, count }
+    Laid { left, count: 8 }
 }
 
 // The characters of codes one by one, as long as there are nine bits.
@@ -220,51 +135,41 @@ fn put_each(held: u64, have: u64, out: &mut [u8], n: usize) -> Laid
     Laid { left, count }
 }
 
-// The characters of the codes in the lowest `have` bits of a number, up to its last few bits.
-fn put_word(held: u64, have: u64, out: &mut [u8], n: usize) -> Laid
-    requires { (57 ≤ have) × (have ≤ 64) × (n ≤ length out.old) × Begun scheme held have (length out.old - n) }
-    ensures { SkimsInto scheme held have out.old out.new n result }
-{
-    if plain(held) {
-        return put_plain(held, have, out, n);
+// The format's table, read.
+struct FullAscii;
+
+impl Table for FullAscii {
+    ghost table = { table };
+
+    ghost laws = { table_laws };
+
+    fn first_code(nine: u64) -> Option<Code> {
+        Some(first_code(nine))
     }
-    put_each(held, have, out, n)
 }
 
-// The text of the codes up to fewer than eight bytes before the end.
-fn read_words(s: &[u8], out: &mut [u8]) -> Place
-    requires { Readable scheme (bits s.now) (length out.old) }
-    ensures { LaidTo scheme s.now out.old out.new result }
-{
-    let mut next: usize = 0;
-    let mut skip: u64 = 0;
-    let mut n: usize = 0;
-    while 8 <= s.len() - next {
-        let w = put_word(bit_buffer::eight(s, next), 64 - skip, out, n);
-        let passed = 64 - w.left;
-        next += (passed / 8) as usize;
-        skip = passed % 8;
-        n += w.count;
-    }
-    Place { next, skip, n }
-}
-
-// The text of the last bits, `have` of them, from place n on; the place after it.
-fn read_last(held: u64, have: u64, out: &mut [u8], n: usize) -> usize
-    requires { (have ≤ 64) × (n ≤ length out.old) × Readable scheme (low have held) (length out.old - n) }
-    ensures { Placed scheme (low have held) out.old out.new n result }
-{
-    let mut left = have;
-    let mut at = n;
-    loop {
-        if bit_buffer::at_end(held, left) {
-            return at;
+impl ByWords for FullAscii {
+    fn skim(held: u64, have: u64) -> Skimmed {
+        if plain(held) {
+            return skim_plain(held, have);
         }
-        let c = first_code(bit_buffer::window(held, left));
-        bit_buffer::put(out, at, c);
-        left -= c.width;
-        at += c.count;
+        compact::skim_each::<FullAscii>(held, have)
     }
+
+    fn lay(held: u64, have: u64, out: &mut [u8], n: usize) -> Laid {
+        if plain(held) {
+            return put_plain(held, have, out, n);
+        }
+        put_each(held, have, out, n)
+    }
+}
+
+// The length of the text, or where the data is malformed.
+pub fn measure(s: &[u8]) -> Measured
+    requires { length s.now < countable }
+    ensures { Measures scheme (bits s.now) result }
+{
+    compact::measure::<FullAscii>(s)
 }
 
 // The text of the data, at the front of the buffer; its length.
@@ -272,7 +177,5 @@ pub fn put_text(s: &[u8], out: &mut [u8]) -> usize
     requires { (length s.now < countable) × Readable scheme (bits s.now) (length out.old) }
     ensures { Placed scheme (bits s.now) out.old out.new 0 result }
 {
-    let place = read_words(s, out);
-    let b = bit_buffer::last_bits(s, place);
-    read_last(b.held, b.have, out, place.n)
+    compact::put_text::<FullAscii>(s, out)
 }

@@ -101,20 +101,8 @@ module _ (t : List ℕ) (i : ℕ) where
   end-first e =
       ap (λ (k : ℕ). get_or t k 0) (sym (add-zero i)) ∙ sym (get_or-drop i t 0 0) ∙ ap (λ (l : List ℕ). get_or l 0 0) e.1
 
-  pub end-second : LineEnd (drop i t) → get_or t (i + 1) 0 ≡ LF
-  end-second e = sym (get_or-drop i t 1 0) ∙ ap (λ (l : List ℕ). get_or l 1 0) e.1
-
   pub end-size : LineEnd (drop i t) → 2 ≤ length t - i
   end-size e = omega (arith, length-drop i t, ap length e.1)
-
-  pub end-here : get_or t i 0 ≡ CR → i + 1 < length t → get_or t (i + 1) 0 ≡ LF → LineEnd (drop i t)
-  end-here a h b = (
-    drop (suc (i + 1)) t,
-    drop-cons t i 0 (omega arith)
-        ∙ ap₂ (λ (x : ℕ) (l : List ℕ). x ∷ l) a
-        (ap (λ (k : ℕ). drop k t) (sym (add-one i)) ∙ drop-cons t (i + 1) 0 h
-        ∙ ap (λ (x : ℕ). x ∷ drop (suc (i + 1)) t) b),
-  )
 
 -- the first code of ours
 pair-codes : (t : List ℕ) → LineEnd t → codes (ours t) ≡ low 9 511 ++ codes (ours (drop 2 t))

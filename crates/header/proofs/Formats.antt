@@ -6,9 +6,8 @@ use native.Mathlib.Omega.{arith}
 use Rattle.header.specs.declared.Format.{Format}
 use Rattle.header.specs.declared.Format.TheVariants.{Open, PseudoBinary, Numeric, Shef, FullAscii}
 use Rattle.header.specs.declared.Header.{Header}
-use Rattle.header.specs.declared.WhichFormat.{WhichFormat}
-use Rattle.header.specs.declared.WhichFormat.TheVariants.{Ours, Foreign}
-use Rattle.header.specs.Formats.{format_number, FormatOfNumber, HasFormat, FormatInHeader}
+use Rattle.std.specs.Prelude.{Some, None}
+use Rattle.header.specs.Formats.{WhichFormat, format_number, FormatOfNumber, HasFormat, FormatInHeader}
 
 -- no two formats have one number
 format_from : ℕ → Format
@@ -40,13 +39,13 @@ pub one_format : {f : Header} {a b : Format} → HasFormat f a → HasFormat f b
 one_format {f} {a} {b} s t = one_number a b (sym s.extended_type ∙ t.extended_type)
 
 pub one-which : (f : Header) (a b : WhichFormat) → FormatInHeader f a → FormatInHeader f b → a ≡ b
-one-which f (Ours a) (Ours b) s t = ap Ours (one_format s t)
-one-which f (Ours a) Foreign s t = absurd (t a s)
-one-which f Foreign (Ours b) s t = absurd (s b t)
-one-which f Foreign Foreign s t = refl
+one-which f (Some a) (Some b) s t = ap Some (one_format s t)
+one-which f (Some a) None s t = absurd (t a s)
+one-which f None (Some b) s t = absurd (s b t)
+one-which f None None s t = refl
 
 pub one-of-number : (number : ℕ) (a b : WhichFormat) → FormatOfNumber number a → FormatOfNumber number b → a ≡ b
-one-of-number number (Ours a) (Ours b) s t = ap Ours (one_number a b (s ∙ sym t))
-one-of-number number (Ours a) Foreign s t = absurd (t a s)
-one-of-number number Foreign (Ours b) s t = absurd (s b t)
-one-of-number number Foreign Foreign s t = refl
+one-of-number number (Some a) (Some b) s t = ap Some (one_number a b (s ∙ sym t))
+one-of-number number (Some a) None s t = absurd (t a s)
+one-of-number number None (Some b) s t = absurd (s b t)
+one-of-number number None None s t = refl

@@ -25,10 +25,6 @@ pub one_if-lt : (b : Bool) → one_if b < 2
 one_if-lt true = omega arith
 one_if-lt false = omega arith
 
-pub bit-clear : (b : Bool) → one_if b ≡ 0 → b ≡ false
-bit-clear true e = absurd (let no' : ⊥ = omega arith in no')
-bit-clear false e = refl
-
 pub low-flag-lt : (f : Header) → Fit f → low_flag f < 2 ^ 7
 unfolding low_flag
 low-flag-lt f fit = omega (arith, one_if-lt f.sync, one_if-lt f.spare)

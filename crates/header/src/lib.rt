@@ -9,24 +9,20 @@ ghost use Rattle.header.specs.Flag.{parity_for};
 ghost use Rattle.header.specs.Formats.{format_number, FormatOfNumber, FormatInHeader};
 ghost use Rattle.header.specs.Steps.Differences.{Multiple, difference_in, WithParity};
 
-// The formats that we read and write.
-#[derive(Clone, Copy)]
+// The formats that we read and write, each with its extended type (001, 3.1, Table 2).
+#[derive(Clone, Copy, Debug, PartialEq, Eq)]
 pub enum Format {
-    Open,
-    PseudoBinary,
-    Numeric,
-    Shef,
-    FullAscii,
+    Open = 0,
+    PseudoBinary = 1,
+    Numeric = 2,
+    Shef = 3,
+    FullAscii = 4,
 }
 
 // What the type bits say: one of our formats, or none.
-#[derive(Clone, Copy)]
-pub enum WhichFormat {
-    Ours(Format),
-    Foreign,
-}
+pub type WhichFormat = Option<Format>;
 
-#[derive(Clone, Copy)]
+#[derive(Clone, Copy, Debug, PartialEq, Eq)]
 pub struct Header {
     // bits 7/6 of the flag
     pub message_type: u32,
@@ -87,15 +83,10 @@ impl Header {
     pub fn format(self) -> WhichFormat
         ensures { FormatInHeader self result }
     {
-        let message_type = self.message_type;
-        let extended_type = self.extended_type;
-        if self.spare {
-            return WhichFormat::Foreign;
+        if self.spare || self.message_type != Header::BINARY {
+            return None;
         }
-        if message_type != Header::BINARY {
-            return WhichFormat::Foreign;
-        }
-        Header::format_of(extended_type)
+        Header::format_of(self.extended_type)
     }
 
     // The format of a number, which is its extended type.
@@ -103,12 +94,12 @@ impl Header {
         ensures { FormatOfNumber number result }
     {
         match number {
-            Header::OPEN => WhichFormat::Ours(Format::Open),
-            Header::PSEUDO_BINARY => WhichFormat::Ours(Format::PseudoBinary),
-            Header::NUMERIC => WhichFormat::Ours(Format::Numeric),
-            Header::SHEF => WhichFormat::Ours(Format::Shef),
-            Header::FULL_ASCII => WhichFormat::Ours(Format::FullAscii),
-            _ => WhichFormat::Foreign,
+            Header::OPEN => Some(Format::Open),
+            Header::PSEUDO_BINARY => Some(Format::PseudoBinary),
+            Header::NUMERIC => Some(Format::Numeric),
+            Header::SHEF => Some(Format::Shef),
+            Header::FULL_ASCII => Some(Format::FullAscii),
+            _ => None,
         }
     }
 
@@ -116,13 +107,7 @@ impl Header {
     pub fn number(format: Format) -> u32
         ensures { result ≡ format_number format }
     {
-        match format {
-            Format::Open => Header::OPEN,
-            Format::PseudoBinary => Header::PSEUDO_BINARY,
-            Format::Numeric => Header::NUMERIC,
-            Format::Shef => Header::SHEF,
-            Format::FullAscii => Header::FULL_ASCII,
-        }
+        format as u32
     }
 
     // The seven bits of the flag below its parity.
@@ -149,7 +134,7 @@ impl Header {
 pub fn one_if(set: bool) -> u32
     ensures { result ≡ one_if set }
 {
-    if set { 1 } else { 0 }
+    u32::from(set)
 }
 
 // The parity bit of a flag: 1 where the seven bits below it have an even number of ones.
@@ -157,7 +142,7 @@ fn parity_for(low: u32) -> u32
     requires { low < 2 ^ 7 }
     ensures { result ≡ parity_for low }
 {
-    (u32::count_ones(low) + 1) % 2
+    (low.count_ones() + 1) % 2
 }
 
 // The multiple of the generator whose coefficients from x^10 up are these four bits: first those of the quotient, then its product with the generator.
@@ -178,10 +163,8 @@ fn check_bits(information: u32) -> u32
     ensures { result ≡ check_of information }
 {
     let mut left: u32 = information << 10;
-    let mut power: u32 = 24;
-    while 0 < power {
-        power -= 4;
-        left ^= multiple_for((left >> (power + 10)) % 16) << power;
+    for k in (0..6u32).rev() {
+        left ^= multiple_for((left >> (4 * k + 10)) % 16) << (4 * k);
     }
     left
 }
@@ -204,8 +187,5 @@ pub fn with_parity(word: u32) -> u32
 pub fn word(first: u8, second: u8, third: u8, fourth: u8) -> u32
     ensures { result ≡ word_of first second third fourth }
 {
-    (first as u32) * 0x100_0000
-        + (second as u32) * 0x1_0000
-        + (third as u32) * 0x100
-        + (fourth as u32)
+    u32::from_be_bytes([first, second, third, fourth])
 }

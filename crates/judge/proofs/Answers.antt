@@ -3,15 +3,17 @@
 use mathlib.Core.List.{List}
 use mathlib.Core.Logic.{inr}
 use mathlib.Core.Path.{◌≡◌, ap, subst⁻¹, subst₂, ◌∙◌}
-use Prim.Native.Nat.{ℕ, ◌-◌, ◌≤◌}
+use Prim.Native.Nat.{ℕ, ◌≤◌}
 use native.Mathlib.Decide.{dec_le}
 use native.Mathlib.Omega.{arith}
 use lib.ListN.{length, take, drop, length-append, length-drop}
 use lib.Seq.{take_at}
+use Rattle.std.specs.Prelude.{Ok, Err}
 use Rattle.header.specs.Valid.{length_in}
 use Rattle.formats.specs.Data.{Carries, data_of}
 use Rattle.sections.proofs.Found.{joined_length}
 use Rattle.packet.specs.Packet.{whole_length, data_in}
+use Rattle.refusals.specs.declared.ExamineRefusal.{ExamineRefusal}
 use Rattle.refusals.specs.declared.ExamineRefusal.TheVariants.{OtherLength, CutOff}
 use Rattle.refusals.specs.declared.ReadRefusal.{ReadRefusal}
 use Rattle.refusals.specs.declared.ReadRefusal.TheVariants.{Packet, NoRoom}
@@ -19,23 +21,21 @@ use Rattle.refusals.proofs.Known.{before-room}
 use Rattle.terms.specs.declared.Terms.{Terms}
 use Rattle.terms.specs.Terms.{OnePacket}
 use Rattle.examine.specs.declared.Reading.{Reading}
-use Rattle.examine.specs.Examine.{Accepts}
+use Rattle.examine.specs.Examine.{Refuses, Accepts}
 use Rattle.examine.proofs.AcceptedData as accepted
 use Rattle.examine.proofs.ExamineAnswers.{data-there}
-use Rattle.reader.specs.declared.ReadAnswer.TheVariants.{Accepted, Refused as NotRead}
 use Rattle.reader.specs.Reader.{ReadRefuses, Reads}
 use Rattle.reader.proofs.ReadOnce.{packet-refused}
 use Rattle.apart.specs.declared.Judgement.{Judgement}
 use Rattle.apart.specs.Comparison.{Against}
-use Rattle.judge.specs.declared.JudgeAnswer.{JudgeAnswer}
-use Rattle.judge.specs.Judge.{HeldAgainst, Judges}
+use Rattle.judge.specs.Judge.{HeldAgainst}
 use Rattle.judge.specs.Steps.Judging.{longest_of, Fits, RefusesAs}
 use Rattle.judge.proofs.Longest.{text-few}
 
 module _ (terms : Terms) (packet entry exit : List ℕ) (bytes : OnePacket terms.most) where
   -- ---- a packet that was read
 
-  module _ (reading : Reading) (read : Reads terms packet entry (Accepted reading) exit) where
+  module _ (reading : Reading) (read : Reads terms packet entry (Ok reading) exit) where
     abbrev text : List ℕ
     text = read.0
 
@@ -52,14 +52,14 @@ module _ (terms : Terms) (packet entry exit : List ℕ) (bytes : OnePacket terms
     within = omega (arith, long, ap length read.3, length-append text (drop (length text) entry))
 
     -- its text, as the code takes it
-    part : take (count - 0) exit ≡ text
-    part = ap (take (count - 0)) read.3 ∙ take_at text (drop (length text) entry) (count - 0) (omega (arith, long))
+    part : take count exit ≡ text
+    part = ap (take count) read.3 ∙ take_at text (drop (length text) entry) count (omega (arith, long))
 
     abbrev rest : List ℕ
     rest = accepted.rest terms packet bytes reading text a
 
     -- and its data
-    pub fits : Fits 16000 reading.format reading.data_length rest (take (count - 0) exit)
+    pub fits : Fits 16000 reading.format reading.data_length rest (take count exit)
     fits = record {
       few = accepted.short terms packet bytes reading text a;
       whole = accepted.all_there terms packet bytes reading text a;
@@ -69,7 +69,7 @@ module _ (terms : Terms) (packet entry exit : List ℕ) (bytes : OnePacket terms
     }
 
     -- what is judged of them, said of the packet
-    pub held : (judgement : Judgement) → Against (accepted.data-in terms packet bytes reading text a) (data_of reading.format (take (count - 0) exit)) judgement
+    pub held : (judgement : Judgement) → Against (accepted.data-in terms packet bytes reading text a) (data_of reading.format (take count exit)) judgement
         → HeldAgainst terms packet judgement
     held judgement against =
         let there = data-there packet a.header reading.data_length (accepted.data-long terms packet bytes reading text a) in
@@ -109,7 +109,7 @@ module _ (terms : Terms) (packet entry exit : List ℕ) (bytes : OnePacket terms
               p.fault.2.2.3,
             )
 
-    pub refused : (refusal : ReadRefusal) → Reads terms packet entry (NotRead refusal) exit → (answer : JudgeAnswer) → RefusesAs refusal answer
-        → Judges terms packet answer
-    refused (Packet refusal) read answer same = subst⁻¹ (Judges terms packet) same (packet-refused terms packet (length entry) refusal read.0)
-    refused (NoRoom needed) read answer same = absurd (never-short needed read.0)
+    pub refused : (refusal : ReadRefusal) → Reads terms packet entry (Err refusal) exit → (told : ExamineRefusal) → RefusesAs refusal told
+        → Refuses terms packet told
+    refused (Packet refusal) read told same = subst⁻¹ (Refuses terms packet) same (packet-refused terms packet (length entry) refusal read.0)
+    refused (NoRoom needed) read told same = absurd (never-short needed read.0)

@@ -1,8 +1,8 @@
 -- Data held against ours by way of a buffer for our data.
 -- Assumes nothing.
-use mathlib.Core.List.{List}
+use mathlib.Core.List.{List, ◌++◌}
 use mathlib.Core.Path.{◌≡◌, ap, subst, subst⁻¹, ◌∙◌}
-use Prim.Native.Nat.{ℕ, ◌-◌, ◌≤◌, ◌<◌}
+use Prim.Native.Nat.{ℕ, ◌≤◌, ◌<◌}
 use native.Mathlib.Omega.{arith}
 use lib.ListN.{length, take, drop}
 use lib.Seq.{take_at}
@@ -15,14 +15,18 @@ use Rattle.codes.specs.Steps.Measure.{countable}
 use Rattle.formats.specs.Data.{Carries, data_of}
 use Rattle.formats.proofs.Bits.{no-fewer}
 use Rattle.formats.proofs.Formats.{carries-coded, carries_kept, carries-again}
-use Rattle.sections.specs.Sections.{joined}
+use Rattle.sections.specs.Sections.{sent_length, joined}
 use Rattle.sections.proofs.Found.{joined_length}
 use Rattle.judge.specs.Steps.Judging.{MayBeJudged, Fits}
 use Rattle.judge.proofs.Makers.{none-behind}
 
 -- a row at the front of a buffer, as the code takes it
-pub front-part : {row entry exit : List ℕ} {r : ℕ} → Fronted row entry exit r → take (r - 0) exit ≡ row
-front-part {row} {entry} {exit} {r} f = ap (take (r - 0)) f.whole ∙ take_at row (drop r entry) (r - 0) (omega (arith, f.size))
+pub front-part : {row entry exit : List ℕ} {r : ℕ} → Fronted row entry exit r → take r exit ≡ row
+front-part {row} {entry} {exit} {r} f = ap (take r) f.whole ∙ take_at row (drop r entry) r (omega (arith, f.size))
+
+-- the data of sections, joined at the front of a buffer
+pub joined-front : (n : ℕ) (came buffer zeros : List ℕ) → sent_length n ≤ length came → buffer ≡ joined n came ++ drop n zeros → take n buffer ≡ joined n came
+joined-front n came buffer zeros whole joins = ap (take n) joins ∙ take_at (joined n came) (drop n zeros) n (omega (arith, joined_length n came whole))
 
 -- ---- the text of their data, and our data of it
 

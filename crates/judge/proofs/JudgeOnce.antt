@@ -4,6 +4,7 @@ use mathlib.Core.List.{List}
 use mathlib.Core.Path.{◌≡◌, refl, sym, ap, subst, subst₂, ◌∙◌}
 use Prim.Native.Nat.{ℕ, ◌≤◌}
 use native.Mathlib.Decide.{dec_le}
+use Rattle.std.specs.Prelude.{Ok, Err}
 use Rattle.header.specs.declared.Format.{Format}
 use Rattle.apart.specs.declared.Judgement.{Judgement}
 use Rattle.apart.specs.Comparison.{Against}
@@ -15,9 +16,7 @@ use Rattle.terms.specs.declared.Terms.{Terms}
 use Rattle.terms.specs.Terms.{MayMend, OnePacket, MayBeNamed}
 use Rattle.examine.specs.Examine.{Allowed, reading_of, Accepts}
 use Rattle.examine.proofs.ExamineOnce.{refuses-one, accepts-no-fault, same-header, same_format, accepts-one-text, only-too-many}
-use Rattle.judge.specs.declared.JudgeAnswer.{JudgeAnswer}
-use Rattle.judge.specs.declared.JudgeAnswer.TheVariants.{Judged, Refused}
-use Rattle.judge.specs.Judge.{HeldAgainst, Judges}
+use Rattle.judge.specs.Judge.{JudgeAnswer, HeldAgainst, Judges}
 
 -- ---- the packet is accepted with one text
 
@@ -44,16 +43,16 @@ module _ (terms : Terms) (packet : List ℕ) where
   judges-one bytes a b p q = pick (dec_le terms.mend 2)
     where
       same : MayBeNamed terms → (a b : JudgeAnswer) → Judges terms packet a → Judges terms packet b → a ≡ b
-      same named (Judged a) (Judged b) p q =
-          ap {B = JudgeAnswer} Judged
+      same named (Ok a) (Ok b) p q =
+          ap {B = JudgeAnswer} Ok
           (one-judgement (data_in q.header packet) (data_of q.format q.text) a b (held-so named a p q.format q.header q.text q.allowed) q.against)
-      same named (Judged a) (Refused s) p q = absurd (accepts-no-fault terms named packet _ p.text (allowed-accepts p.allowed) s q.fault)
-      same named (Refused r) (Judged b) p q = absurd (accepts-no-fault terms named packet _ q.text (allowed-accepts q.allowed) r p.fault)
-      same named (Refused r) (Refused s) p q = ap {B = JudgeAnswer} Refused (refuses-one terms named packet r s p q)
+      same named (Ok a) (Err s) p q = absurd (accepts-no-fault terms named packet _ p.text (allowed-accepts p.allowed) s q.fault)
+      same named (Err r) (Ok b) p q = absurd (accepts-no-fault terms named packet _ q.text (allowed-accepts q.allowed) r p.fault)
+      same named (Err r) (Err s) p q = ap {B = JudgeAnswer} Err (refuses-one terms named packet r s p q)
 
-      too_many : (MayMend terms.mend → ⊥) → (a : JudgeAnswer) → Judges terms packet a → a ≡ Refused TooManyBits
-      too_many many (Judged a) p = absurd (many p.allowed.framed.bits)
-      too_many many (Refused r) p = ap {B = JudgeAnswer} Refused (only-too-many terms packet many r p)
+      too_many : (MayMend terms.mend → ⊥) → (a : JudgeAnswer) → Judges terms packet a → a ≡ Err TooManyBits
+      too_many many (Ok a) p = absurd (many p.allowed.framed.bits)
+      too_many many (Err r) p = ap {B = JudgeAnswer} Err (only-too-many terms packet many r p)
 
       pick : Dec (terms.mend ≤ 2) → a ≡ b
       pick (yes bits) = same (record { bits = bits; bytes = bytes }) a b p q

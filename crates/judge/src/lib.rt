@@ -12,7 +12,6 @@ ghost use Rattle.judge.specs.Steps.Judging.{longest_of, MayBeJudged, Fits, Refus
 
 use apart::Judgement;
 use header::Format;
-use reader::ReadAnswer;
 use refusals::{ExamineRefusal, ReadRefusal};
 use sections::Section;
 
@@ -22,11 +21,7 @@ const TEXT: usize = 85328;
 const TEXT_1200: usize = 341328;
 
 // How the data of a packet compares with ours, or why the packet is refused.
-#[derive(Clone, Copy)]
-pub enum JudgeAnswer {
-    Judged(Judgement),
-    Refused(ExamineRefusal),
-}
+pub type JudgeAnswer = Result<Judgement, ExamineRefusal>;
 
 // Data against what our writer sends for the text that it carries, by way of a buffer for ours.
 fn judge_data(format: Format, theirs: &[u8], text: &[u8], ours: &mut [u8]) -> Judgement
@@ -34,7 +29,7 @@ fn judge_data(format: Format, theirs: &[u8], text: &[u8], ours: &mut [u8]) -> Ju
     ensures { Against theirs.now (data_of format text.now) result }
 {
     let bytes = formats::put_data(format, text, ours);
-    apart::compare(theirs, &ours[0..bytes])
+    apart::compare(theirs, &ours[..bytes])
 }
 
 // One section, where it lies.
@@ -43,7 +38,7 @@ fn judge_one(format: Format, n: usize, came: &[u8], text: &[u8]) -> Judgement
     ensures { Against (joined n came.now) (data_of format text.now) result }
 {
     let mut ours = [0u8; Section::MOST];
-    judge_data(format, &came[0..n], text, &mut ours)
+    judge_data(format, &came[..n], text, &mut ours)
 }
 
 // Several, joined.
@@ -54,7 +49,7 @@ fn judge_several(format: Format, n: usize, came: &[u8], text: &[u8]) -> Judgemen
     let mut theirs = [0u8; Section::ALL];
     let mut ours = [0u8; Section::ALL];
     sections::join(n, came, &mut theirs);
-    judge_data(format, &theirs[0..n], text, &mut ours)
+    judge_data(format, &theirs[..n], text, &mut ours)
 }
 
 // The n data bytes that came in sections, and the text that they carry.
@@ -69,12 +64,12 @@ fn judge_sections(format: Format, n: usize, came: &[u8], text: &[u8]) -> Judgeme
 }
 
 // The reader's refusal, which is one of the packet.
-fn refuse(refusal: ReadRefusal) -> JudgeAnswer
+fn of_packet(refusal: ReadRefusal) -> ExamineRefusal
     ensures { RefusesAs refusal result }
 {
     match refusal {
-        ReadRefusal::Packet(packet) => JudgeAnswer::Refused(packet),
-        ReadRefusal::NoRoom(_) => JudgeAnswer::Refused(ExamineRefusal::OtherLength), // never: there is room for every text
+        ReadRefusal::Packet(packet) => packet,
+        ReadRefusal::NoRoom(_) => ExamineRefusal::OtherLength, // never: there is room for every text
     }
 }
 
@@ -83,15 +78,14 @@ fn judge_into(mend: u32, rate_1200: bool, packet: &[u8], text: &mut [u8]) -> Jud
     requires { longest_of (most_at rate_1200) ≤ length text.old }
     ensures { Judges (naming mend rate_1200) packet.now result }
 {
-    let read = reader::read_mending(mend, rate_1200, packet, text);
-    match read {
-        ReadAnswer::Accepted(reading) => {
-            let format = reading.format;
-            let n = reading.data_length;
-            let characters = reading.text_length;
-            JudgeAnswer::Judged(judge_sections(format, n, &packet[4..], &text[0..characters]))
-        }
-        ReadAnswer::Refused(refusal) => refuse(refusal),
+    match reader::read_mending(mend, rate_1200, packet, text) {
+        Ok(reading) => Ok(judge_sections(
+            reading.format,
+            reading.data_length,
+            &packet[4..],
+            &text[..reading.text_length],
+        )),
+        Err(refusal) => Err(of_packet(refusal)),
     }
 }
 

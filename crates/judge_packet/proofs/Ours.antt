@@ -5,10 +5,10 @@ use mathlib.Core.List.{List, [], ◌∷◌}
 use mathlib.Core.Path.{◌≡◌, refl, ap, ◌∙◌}
 use Prim.Native.Nat.{ℕ}
 use native.Mathlib.Omega.{arith}
+use Rattle.std.specs.Prelude.{Ok}
 use Rattle.header.specs.declared.Format.{Format}
 use Rattle.header.specs.Formats.{format_number}
 use Rattle.terms.specs.Terms.{naming, usual}
-use Rattle.writer.specs.declared.WriteAnswer.TheVariants.{Written}
 use Rattle.writer.specs.Writer.{our_packet, Writes}
 use Rattle.demands.specs.Judging.{just_ours}
 use Rattle.demands.specs.Makers.{Flipped, arriving}
@@ -26,7 +26,7 @@ unfolding decimal_in decimal decimals spaced line_with
 told = refl
 
 pub ours : {line : List ℕ} (format : Format) (sync : Bool) (text entry exit : List ℕ) (n : ℕ)
-    → Writes (usual false) (format_number format) sync text entry (Written n) exit → (word : ℕ) → Flipped (naming 1 false) (our_packet format sync text) word
+    → Writes (usual false) (format_number format) sync text entry (Ok n) exit → (word : ℕ) → Flipped (naming 1 false) (our_packet format sync text) word
     → (after : List ℕ) → Prints (arriving word (our_packet format sync text) after) line → line ≡ printed
 ours format sync text entry exit n writes word flipped after p =
     p.is

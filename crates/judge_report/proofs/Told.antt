@@ -2,15 +2,13 @@
 -- Assumes nothing.
 use mathlib.Core.Bool.{false}
 use mathlib.Core.List.{List, [], ◌∷◌}
-use mathlib.Core.Path.{◌≡◌, refl, sym, ap, subst, subst₂}
+use mathlib.Core.Path.{◌≡◌, refl, ap, subst₂}
 use Prim.Native.Nat.{ℕ}
-use Rattle.codes.specs.Steps.Laid.{Fronted}
-use Rattle.judge.specs.declared.JudgeAnswer.{JudgeAnswer}
-use Rattle.judge.specs.Judge.{Judges}
+use Rattle.judge.specs.Judge.{JudgeAnswer, Judges}
 use Rattle.lines.specs.Line.{decimals, line}
 use Rattle.terms.specs.Terms.{most_at}
 use Rattle.judge_report.specs.Line.{line_of}
-use Rattle.judge_report.specs.Steps.Put.{PutsLine}
+use Rattle.judge_report.specs.Report.{Prints}
 
 -- the numbers are what they are to be
 pub told : (word : List ℕ) {numbers numbers' : List ℕ} → numbers ≡ numbers' → line word (decimals numbers) ≡ line word (decimals numbers')
@@ -23,16 +21,11 @@ pub two-numbers : {a b n m : ℕ} → a ≡ b → n ≡ m → a ∷ n ∷ [] ≡
 two-numbers e f = λ i. e i ∷ f i ∷ []
 
 -- a packet's line
-pub reported : {packet out out' : List ℕ} {r : ℕ} (answer : JudgeAnswer) (long mend most : ℕ) → Judges (record { mend = mend; most = most }) packet answer
-    → mend ≡ 1 → most ≡ most_at false → Fronted (line_of answer) out out' long → r ≡ long → PutsLine packet out out' r
-reported {packet} {out} {out'} {r} answer long mend most judges named at-300 fronted e =
+pub reported : {packet : List ℕ} (answer : JudgeAnswer) (mend most : ℕ) → Judges (record { mend = mend; most = most }) packet answer → mend ≡ 1
+    → most ≡ most_at false → Prints packet (line_of answer)
+reported {packet} answer mend most judges named at-300 =
     record {
-      line = line_of answer;
-      prints =
-          record {
-            answer = answer;
-            judges = subst₂ (λ (m n : ℕ). Judges (record { mend = m; most = n }) packet answer) named at-300 judges;
-            is = refl;
-          };
-      front = subst (λ (n : ℕ). Fronted (line_of answer) out out' n) (sym e) fronted;
+      answer = answer;
+      judges = subst₂ (λ (m n : ℕ). Judges (record { mend = m; most = n }) packet answer) named at-300 judges;
+      is = refl;
     }

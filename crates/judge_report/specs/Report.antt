@@ -1,8 +1,7 @@
 -- What the program for the bench prints of a packet (RULES, Judging): the line of what is answered where one header bit and 300 bps are named.
 -- Assumes nothing.
 use Rattle.std.specs.Prelude.{false, ◌≡◌, List, ℕ}
-use Rattle.judge.specs.declared.JudgeAnswer.{JudgeAnswer}
-use Rattle.judge.specs.Judge.{Judges}
+use Rattle.judge.specs.Judge.{JudgeAnswer, Judges}
 use Rattle.terms.specs.Terms.{naming}
 use Rattle.judge_report.specs.Line.{line_of}
 

@@ -179,8 +179,5 @@ module _ (word numbers entry : List ℕ) (held : length word + length (spaced (d
         whole = copied ∙ ap₂ (λ (l : List ℕ) (k : ℕ). l ++ drop k entry) (take-length word) (sym (zero-add (length word)));
       }
 
-  pub spaced-held : at + length (spaced (decimals numbers)) ≤ length mid
-  spaced-held = omega (arith, held, puts-length word-put (omega (arith, held)))
-
   pub word-numbers : (exit : List ℕ) (r : ℕ) → PutsRow (spaced (decimals numbers)) mid exit at r → PutsRow (word ++ spaced (decimals numbers)) entry exit 0 r
   word-numbers exit r p = puts-more word-put p (omega (arith, held))

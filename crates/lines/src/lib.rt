@@ -27,11 +27,9 @@ pub fn put_spaced(numbers: &[usize], out: &mut [u8], at: usize) -> usize
     ensures { PutsRow (spaced (decimals numbers.now)) out.old out.new at result }
 {
     let mut end = at;
-    let mut i: usize = 0;
-    while i < numbers.len() {
+    for number in numbers {
         out[end] = b' ';
-        end = put_decimal(numbers[i], out, end + 1);
-        i += 1;
+        end = put_decimal(*number, out, end + 1);
     }
     end
 }
@@ -53,10 +51,8 @@ fn put_hexadecimal(n: u32, out: &mut [u8], at: usize) -> usize
     ensures { PutsRow (hexadecimal n) out.old out.new at result }
 {
     let mut end = at;
-    let mut places: u32 = 8;
-    while places > 0 {
-        places -= 1;
-        out[end] = hexadecimal_digit((n >> (4 * places)) % 16);
+    for place in (0..8u32).rev() {
+        out[end] = hexadecimal_digit((n >> (4 * place)) % 16);
         end += 1;
     }
     end

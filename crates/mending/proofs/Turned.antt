@@ -21,8 +21,7 @@ use Rattle.distance.specs.Steps.Left.{left}
 use Rattle.distance.proofs.Apart.{low-apart}
 use Rattle.distance.proofs.Left.{left-sum, left-difference, valid-left}
 use Rattle.distance.proofs.Words.{low_near}
-use Rattle.repair.specs.declared.Cause.{Cause}
-use Rattle.repair.specs.declared.Cause.TheVariants.{Bits, Nothing}
+use Rattle.std.specs.Prelude.{Option, Some, None}
 use Rattle.repair.specs.Steps.Repair.{Accounts, Repairs}
 
 pub difference-lt : (h : ℕ) → difference_in h < 2 ^ 10
@@ -94,11 +93,11 @@ none_within limit received le none v n =
 
 -- ---- in the code's terms: what the answer of a repair says
 
-pub repaired : (received difference mask : ℕ) (cause : Cause) → difference ≡ difference_in received → Repairs difference cause → cause ≡ Bits mask
+pub repaired : (received difference mask : ℕ) (cause : Option ℕ) → difference ≡ difference_in received → Repairs difference cause → cause ≡ Some mask
     → Accounts (difference_in received) mask
 repaired received difference mask cause d r e = subst (λ (n : ℕ). Accounts n mask) d (subst (Repairs difference) e r)
 
-pub unrepaired : (limit received difference : ℕ) (cause : Cause) → limit ≤ 2 → difference ≡ difference_in received → Repairs difference cause → cause ≡ Nothing
+pub unrepaired : (limit received difference : ℕ) (cause : Option ℕ) → limit ≤ 2 → difference ≡ difference_in received → Repairs difference cause → cause ≡ None
     → (v : ℕ) → ValidWithin limit received v → ⊥
 unrepaired limit received difference cause le d r e =
     none_within limit received le (subst (λ (n : ℕ). (mask : ℕ) → Accounts n mask → ⊥) d (subst (Repairs difference) e r))

@@ -5,9 +5,7 @@
 ghost use Rattle.std.specs.Prelude.{◌≤◌};
 ghost use Rattle.mending.specs.Mends.{MendsWithin};
 
-use repair::Cause;
-
-#[derive(Clone, Copy)]
+#[derive(Clone, Copy, Debug, PartialEq, Eq)]
 pub enum Mending {
     // The valid header, and in how many bits the received one differs from it.
     Mended(u32, u32),
@@ -20,12 +18,12 @@ pub fn mend(received: u32, limit: u32) -> Mending
     requires { limit ≤ 2 }
     ensures { MendsWithin limit received result }
 {
-    let Cause::Bits(mask) = repair::repair(header::difference(received)) else {
+    let Some(mask) = repair::repair(header::difference(received)) else {
         return Mending::Hopeless;
     };
     let turned = received ^ mask;
     let header = header::with_parity(turned);
-    let bits = u32::count_ones(received ^ header);
+    let bits = (received ^ header).count_ones();
     if limit < bits {
         return Mending::Hopeless;
     }

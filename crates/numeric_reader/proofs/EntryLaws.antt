@@ -2,7 +2,7 @@
 -- Assumes nothing.
 use mathlib.Core.Bool.{Bool, true, false}
 use mathlib.Core.List.{List, ◌∷◌}
-use mathlib.Core.Path.{◌≡◌, sym, ap, ap₂, ◌∙◌}
+use mathlib.Core.Path.{◌≡◌, sym, ap, ap₂, subst⁻¹, ◌∙◌}
 use Prim.Native.Nat.{ℕ, ◌+◌, ◌*◌, ◌/◌, ◌%◌, ◌^◌, ◌<◌}
 use native.Mathlib.Omega.{arith}
 use lib.Bits.{bit_and, and_block, and_mask, and_comm}
@@ -116,13 +116,17 @@ module _ (b : ℕ) (byte : b < 256) where
   pub looked-entry : Entry (get_or entries b 0)
   looked-entry = entry-is (character (b / 16 % 16)) (character (b % 16)) (small (b / 16 % 16) (omega arith)) looked-up
 
+-- so too of what was looked up
+pub entry-told : (b : ℕ) → b < 256 → {entry : ℕ} → entry ≡ get_or entries b 0 → Entry entry
+entry-told b byte told = subst⁻¹ Entry told (looked-entry b byte)
+
 -- what is still to be read begins with the characters of the byte's entry
-pub spelled-entry : (s : List ℕ) (i : ℕ) → i < length s → get_or s i 0 < 256
-    → spelled (drop i s) ≡ first_of (get_or entries (get_or s i 0) 0) ∷ second_of (get_or entries (get_or s i 0) 0) ∷ spelled (drop (i + 1) s)
-spelled-entry s i h byte =
+pub spelled-entry : (s : List ℕ) (i : ℕ) → i < length s → get_or s i 0 < 256 → {entry : ℕ} → entry ≡ get_or entries (get_or s i 0) 0
+    → spelled (drop i s) ≡ first_of entry ∷ second_of entry ∷ spelled (drop (i + 1) s)
+spelled-entry s i h byte told =
     let b = get_or s i 0 in
     let first : character (b / 16 % 16) < 256 = small (b / 16 % 16) (omega arith) in
     spelled-byte s i h
     ∙ ap₂ (λ (x y : ℕ). x ∷ y ∷ spelled (drop (i + 1) s))
-    (sym (entry-character (character (b / 16 % 16)) (character (b % 16)) first (looked-up b byte)))
-    (sym (entry_other (character (b / 16 % 16)) (character (b % 16)) first (looked-up b byte)))
+    (sym (entry-character (character (b / 16 % 16)) (character (b % 16)) first (told ∙ looked-up b byte)))
+    (sym (entry_other (character (b / 16 % 16)) (character (b % 16)) first (told ∙ looked-up b byte)))

@@ -4,3 +4,4 @@ pub mod Pairs
 pub mod Passing
 pub mod Putting
 pub mod Reading
+pub mod Table

@@ -1,18 +1,18 @@
 -- The two codes of a byte passed.
 -- Assumes nothing.
 use mathlib.Core.List.{List}
-use mathlib.Core.Path.{◌≡◌, sym, ap, ap₂, subst, subst₂, ◌∙◌}
-use Prim.Native.Nat.{ℕ, ◌+◌, ◌-◌, ◌/◌, ◌%◌, ◌≤◌, ◌<◌}
+use mathlib.Core.Path.{◌≡◌, sym, ap, ap₂, subst, subst⁻¹, subst₂, ◌∙◌}
+use Prim.Native.Nat.{ℕ, ◌+◌, ◌-◌, ◌*◌, ◌/◌, ◌%◌, ◌≤◌, ◌<◌}
 use native.Mathlib.Omega.{arith}
 use lib.Bits.{bit_and, and_zero_l}
-use lib.ListN.{length, get_or, drop}
-use Rattle.numeric.specs.Steps.Text.{spelled}
+use lib.ListN.{length, get_or, drop, drop_of_length-le}
+use Rattle.numeric.specs.Steps.Text.{spelled, text_of}
 use Rattle.numeric_reader.specs.declared.Passed.{Passed}
 use Rattle.numeric_reader.specs.Steps.Reached.{Reached, Passes}
 use Rattle.numeric_reader.specs.Steps.Signs.{sign, paired, entries, first_of, second_of, Entry}
 use Rattle.numeric_reader.proofs.EntryLaws.{entry_first, entry-second, entry-held, common, apart-before, apart-within, pair-within, spelled-entry}
 use Rattle.numeric_reader.proofs.Pairs.{pairs-some}
-use Rattle.numeric_reader.proofs.Reading.{alone, pair}
+use Rattle.numeric_reader.proofs.Reading.{alone, pair, reached-none, reached-end}
 
 module _ (before : ℕ) (held : before / 8 ≡ 1) (entry : ℕ) (is : Entry entry) where
   -- no pair
@@ -61,9 +61,37 @@ module _ (before : ℕ) (held : before / 8 ≡ 1) (entry : ℕ) (is : Entry entr
           (and_zero_l (sign (second_of entry))));
     }
 
--- a byte of the data passed
-pub passed-byte : (text s : List ℕ) (i before n : ℕ) {m : ℕ} (r : Passed) → i < length s → get_or s i 0 < 256
-    → Passes before (get_or entries (get_or s i 0) 0) r → m + r.fewer ≡ n + 2 → Reached text (spelled (drop i s)) (before % 8) n
-    → Reached text (spelled (drop (i + 1) s)) (r.before % 8) m
-passed-byte text s i before n r h byte passes size reached =
-    passes.on text (spelled (drop (i + 1) s)) n _ size (subst (λ (l : List ℕ). Reached text l (before % 8) n) (spelled-entry s i h byte) reached)
+-- ---- bytes of the data passed
+
+-- those before place i, of which the text is so much shorter than two characters for each
+pub record BytesPassed (s : List ℕ) (i saved before : ℕ) : Type 0 where
+  pub few : saved ≤ i
+  pub held : before / 8 ≡ 1
+  pub reached : Reached (text_of s) (spelled (drop i s)) (before % 8) (i * 2 - saved)
+
+pub none-passed : (s : List ℕ) → BytesPassed s 0 0 8
+unfolding text_of
+none-passed s = record { few = omega arith; held = omega arith; reached = reached-none (spelled s) }
+
+-- the next one, by its entry
+pub next-passed : {s : List ℕ} {i saved before : ℕ} → BytesPassed s i saved before → i < length s → get_or s i 0 < 256
+    → {entry : ℕ} → entry ≡ get_or entries (get_or s i 0) 0 → {r : Passed} → Passes before entry r
+    → {saved' before' : ℕ} → saved' ≡ saved + r.fewer → before' ≡ r.before → BytesPassed s (i + 1) saved' before'
+next-passed {s} {i} {saved} {before} p h byte told {r} passes {saved'} x y = record {
+  few = omega (arith, p.few, passes.few);
+  held = ap (λ (n : ℕ). n / 8) y ∙ passes.held;
+  reached =
+      subst⁻¹ (λ (n : ℕ). Reached (text_of s) (spelled (drop (i + 1) s)) (n % 8) ((i + 1) * 2 - saved')) y
+      (passes.on (text_of s) (spelled (drop (i + 1) s)) (i * 2 - saved) _ (omega (arith, p.few, passes.few))
+      (subst (λ (l : List ℕ). Reached (text_of s) l (before % 8) (i * 2 - saved)) (spelled-entry s i h byte told) p.reached));
+}
+
+-- all of them
+pub all-passed : {s : List ℕ} {i saved before : ℕ} → BytesPassed s i saved before → i ≡ length s → length s * 2 - saved ≡ length (text_of s)
+unfolding spelled
+all-passed {s} {i} {saved} {before} p h =
+    omega (
+      arith,
+      reached-end
+          (subst (λ (l : List ℕ). Reached (text_of s) l (before % 8) (i * 2 - saved)) (ap spelled (drop_of_length-le s {i = i} (omega arith))) p.reached),
+    )

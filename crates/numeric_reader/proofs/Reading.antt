@@ -13,8 +13,8 @@ use lib.ListN.{length, get_or, take, drop, set, length-append, length-drop}
 use lib.Seq.{set_at, take_at, drop-append-add, drop-drop, drop-cons, append_snoc}
 use borrow.Author.Tests.{eq-eqb, ne_eqb}
 use Rattle.codes.specs.Steps.Laid.{laid, Fronted}
-use Rattle.codes.specs.declared.Measured.{Measured}
-use Rattle.codes.specs.declared.Measured.TheVariants.{Text}
+use Rattle.codes.specs.Steps.Measure.{Measured, extent}
+use Rattle.std.specs.Prelude.{Ok}
 use Rattle.numeric.specs.Steps.Text.{character, spelled, text_of}
 use Rattle.numeric.specs.Translation.{translated}
 use Rattle.numeric.proofs.Data.{length-spelled}
@@ -101,9 +101,13 @@ pub reached-end : {text : List ℕ} {before n : ℕ} → Reached text [] before 
 unfolding translated
 reached-end {text} r = omega (arith, ap length r.ahead, length-append r.kept (r.last ∷ []), r.size)
 
+abbrev pub Comes : Measured → List ℕ → Type 0
+Comes m s = m ≡ Ok (extent (length (text_of s)) (length (spelled s)))
+
 -- what the data comes to, each number with what it must be, so that a wrong one is refused where it stands
-pub measured : (s : List ℕ) (n codes : ℕ) → n ≡ length (text_of s) → codes ≡ 2 * length s → Text n codes ≡ Text (length (text_of s)) (length (spelled s))
-measured s n codes e d = ap₂ {C = Measured} Text e (d ∙ sym (length-spelled s))
+pub measured : (s : List ℕ) (n codes : ℕ) → n ≡ length (text_of s) → codes ≡ 2 * length s
+    → Comes (Ok (extent n codes)) s
+measured s n codes e d = ap₂ {C = Measured} (λ k j. Ok (extent k j)) e (d ∙ sym (length-spelled s))
 
 module _ {text rest entry out : List ℕ} {before n : ℕ} (a : ℕ) (p : Put text (a ∷ rest) entry out before n) where
   kept : List ℕ

@@ -2,24 +2,23 @@
 
 #![tactic(auto)]
 
-ghost use Rattle.std.specs.Prelude.{true, [], ◌∷◌, ◌≡◌, ◌+◌, ◌-◌, ◌*◌, ◌/◌, ◌≤◌, ◌<◌, length};
+ghost use Rattle.std.specs.Prelude.{true, [], ◌∷◌, ◌≡◌, ◌+◌, ◌-◌, ◌*◌, ◌/◌, ◌≤◌, ◌<◌, length, slice_index};
 ghost use Rattle.std.specs.Int.Bits.{bit_and};
 ghost use Rattle.codes.specs.Steps.Laid.{laid, Fronted};
-ghost use Rattle.codes.specs.Steps.Measure.{countable};
-ghost use Rattle.codes.specs.declared.Measured.TheVariants.{Text};
+ghost use Rattle.codes.specs.Steps.Measure.{countable, extent};
 ghost use Rattle.numeric.specs.Steps.Text.{spelled, text_of};
 ghost use Rattle.numeric_reader.specs.Steps.Reached.{Passes, CountsByte, Counts, Fits, Puts};
 ghost use Rattle.numeric_reader.specs.Steps.Signs.{paired, sign, meets, saves, one, entries, Entry, first_of, second_of};
 
-use codes::Measured;
+use codes::{Extent, Measured};
 
 mod entries;
 
-// The table, copied: each lookup in a constant would copy it.
-fn table() -> [u32; 256]
-    ensures { result ≡ entries }
+// What a byte says, and what is asked of its characters.
+fn entry_of(byte: u8) -> u32
+    ensures { result ≡ slice_index entries byte }
 {
-    entries::ENTRIES
+    entries::ENTRIES[byte as usize]
 }
 
 // How many characters fewer than two a pair says.
@@ -36,7 +35,7 @@ fn fewer(one: u32, other: u32) -> usize
 }
 
 // Two codes passed: how many characters fewer they say, and the sign of the last character, with an 8.
-#[derive(Clone, Copy)]
+#[derive(Clone, Copy, Debug, PartialEq, Eq)]
 struct Passed {
     pub fewer: usize,
     pub before: u32,
@@ -62,16 +61,14 @@ fn pass_pair(before: u32, entry: u32) -> Passed
 }
 
 // The length of the text, and how many codes say it: two for each byte, and a character for each, less what pairs save.
-fn measure_by(s: &[u8], table: &[u32; 256]) -> Measured
-    requires { (length s.now < countable) × (table.now ≡ entries) }
-    ensures { result ≡ Text (length (text_of s.now)) (length (spelled s.now)) }
+fn measure_each(s: &[u8]) -> Measured
+    requires { length s.now < countable }
+    ensures { result ≡ Ok (extent (length (text_of s.now)) (length (spelled s.now))) }
 {
-    let mut codes: usize = 0;
     let mut saved: usize = 0;
     let mut before: u32 = 8;
-    let mut i: usize = 0;
-    while i < s.len() {
-        let entry = table[s[i] as usize];
+    for byte in s {
+        let entry = entry_of(*byte);
         if before & entry == 0 {
             before = entry / 256 % 256;
         } else {
@@ -79,19 +76,12 @@ fn measure_by(s: &[u8], table: &[u32; 256]) -> Measured
             saved += p.fewer;
             before = p.before;
         }
-        codes += 2;
-        i += 1;
     }
-    Measured::Text(codes - saved, codes)
-}
-
-// The same, byte by byte.
-fn measure_each(s: &[u8]) -> Measured
-    requires { length s.now < countable }
-    ensures { result ≡ Text (length (text_of s.now)) (length (spelled s.now)) }
-{
-    let table = table();
-    measure_by(s, &table)
+    let codes = s.len() * 2;
+    Ok(Extent {
+        characters: codes - saved,
+        codes,
+    })
 }
 
 // Whether two codes, in one byte, are a pair that says one character.
@@ -112,12 +102,12 @@ fn is_pair(b: u8) -> bool
 fn saved_by(b: u8) -> u8
     ensures { result ≡ one (saves b) }
 {
-    if joins(b) { 1 } else { 0 }
+    u8::from(joins(b))
 }
 
 // Bytes counted: how many characters fewer than two for each they say; and whether there are no three codes in a row of which the first two would be a
 // pair and the last two as well. Of such three it depends on what comes before them which two are one.
-#[derive(Clone, Copy)]
+#[derive(Clone, Copy, Debug, PartialEq, Eq)]
 struct Counted {
     pub saved: u8,
     pub apart: bool,
@@ -141,12 +131,10 @@ fn count_block(s: &[u8], from: usize, to: usize) -> Counted
 {
     let mut saved: u8 = 0;
     let mut apart = true;
-    let mut i = from;
-    while i < to {
+    for i in from..to {
         let byte = count_byte(s[i - 1], s[i]);
         saved += byte.saved;
-        apart = apart & byte.apart;
-        i += 1;
+        apart &= byte.apart;
     }
     Counted { saved, apart }
 }
@@ -156,19 +144,19 @@ fn block_end(from: usize, length: usize) -> usize
     requires { from < length }
     ensures { (from < result) × (result ≤ length) × (result ≤ from + 112) }
 {
-    if length - from < 112 {
-        return length;
-    }
-    from + 112
+    from + (length - from).min(112)
 }
 
 // The length of the text, and how many codes say it. All data has a text.
 pub fn measure(s: &[u8]) -> Measured
     requires { length s.now < countable }
-    ensures { result ≡ Text (length (text_of s.now)) (length (spelled s.now)) }
+    ensures { result ≡ Ok (extent (length (text_of s.now)) (length (spelled s.now))) }
 {
     if s.len() == 0 {
-        return Measured::Text(0, 0);
+        return Ok(Extent {
+            characters: 0,
+            codes: 0,
+        });
     }
     let mut codes: usize = 2;
     let mut saved = saved_by(s[0]) as usize;
@@ -184,11 +172,11 @@ pub fn measure(s: &[u8]) -> Measured
         i = to;
     }
     let characters = codes - saved;
-    Measured::Text(characters, codes)
+    Ok(Extent { characters, codes })
 }
 
 // How far the text is put: the place after it, and the sign of its last character, with an 8.
-#[derive(Clone, Copy)]
+#[derive(Clone, Copy, Debug, PartialEq, Eq)]
 struct Place {
     pub n: usize,
     pub before: u32,
@@ -200,12 +188,12 @@ fn one_character(one: u32, other: u32) -> u8
     ensures { result ∷ [] ≡ paired one other }
 {
     if 2 <= one {
-        return b':';
+        b':'
+    } else if other < 4 {
+        b'E'
+    } else {
+        b'='
     }
-    if other < 4 {
-        return b'E';
-    }
-    b'='
 }
 
 // What a pair says, from place n on; the place after it.
@@ -265,27 +253,13 @@ fn put_byte(out: &mut [u8], n: usize, before: u32, entry: u32) -> Place
 }
 
 // The text of the data, at the front of the buffer; its length.
-fn put_by(s: &[u8], table: &[u32; 256], out: &mut [u8]) -> usize
-    requires { (length (text_of s.now) ≤ length out.old) × (table.now ≡ entries) }
-    ensures { Fronted (text_of s.now) out.old out.new result }
-{
-    let mut n: usize = 0;
-    let mut before: u32 = 8;
-    let mut i: usize = 0;
-    while i < s.len() {
-        let place = put_byte(out, n, before, table[s[i] as usize]);
-        n = place.n;
-        before = place.before;
-        i += 1;
-    }
-    n
-}
-
-// The text of the data, at the front of the buffer; its length.
 pub fn put_text(s: &[u8], out: &mut [u8]) -> usize
     requires { (length s.now < countable) × (length (text_of s.now) ≤ length out.old) }
     ensures { Fronted (text_of s.now) out.old out.new result }
 {
-    let table = table();
-    put_by(s, &table, out)
+    let mut place = Place { n: 0, before: 8 };
+    for byte in s {
+        place = put_byte(out, place.n, place.before, entry_of(*byte));
+    }
+    place.n
 }

@@ -1,38 +1,24 @@
--- How many base characters go for a text, character by character, and how few they can be.
+-- How many base characters go for a character.
 -- Assumes nothing.
 use mathlib.Core.Path.{◌≡◌, refl, sym, ap, ap₂, subst⁻¹, ◌∙◌}
 use mathlib.Core.Bool.{Bool, true, false, cond, not, ◌&&◌, ◌||◌}
 use mathlib.Core.List.{List, []}
-use Prim.Native.Nat.{ℕ, ◌≤◌, ◌<◌}
-use native.Mathlib.Omega.{arith}
-use lib.Dec.{T, eqb, eqb→eq, lit≤}
-use lib.ListN.{length, get_or}
+use Prim.Native.Nat.{ℕ, ◌<◌}
+use lib.Dec.{T, eqb, eqb→eq}
+use lib.ListN.{length}
 use Rattle.bits.specs.First.{first}
 use Rattle.bits.specs.Numbers.{numbers}
 use Rattle.codes.specs.Chain.{Entry, codes}
-use Rattle.codes.specs.Coded.{alone, CodedBelow}
 use Rattle.codes.specs.LineEnds.{ended}
 use Rattle.codes.specs.Lookup.{same, found, saying}
-use Rattle.codes.specs.Steps.Summed.{sum_after}
 use Rattle.bits.proofs.Said.{and_left, and_right}
 use Rattle.codes.proofs.ByteTests.{implied-below}
-use Rattle.codes.proofs.EachAfter.{each-length}
 use Rattle.codes.proofs.EveryElement.{every}
-use Rattle.codes.proofs.FoundEntries.{long}
-use Rattle.codes.proofs.LineEnds.{ended_same, least-each}
+use Rattle.codes.proofs.LineEnds.{ended_same}
 use Rattle.numeric.specs.Table.{characters}
 use Rattle.numeric.specs.Translation.{sent, itself, specials, translation}
-use Rattle.numeric.specs.Writer.{own, base_of, coded_behind, AllCoded}
+use Rattle.numeric.specs.Writer.{own}
 use Rattle.numeric_writer.specs.Steps.Sending.{stands, of_signs, codes_for}
-
--- ---- a character that has a code stands in one of the tables
-
-pub coded-stands : (before c : ℕ) → T (coded_behind before c) → T (stands c)
-unfolding coded_behind
-coded-stands before c t = and_left (stands c) _ t
-
-pub all-stand : (text : List ℕ) → AllCoded text → CodedBelow (alone stands) text (length text)
-all-stand text h i l = coded-stands _ (get_or text i 0) (h i l)
 
 -- ---- the base characters of one character
 
@@ -65,14 +51,3 @@ counts_some before c h s e o t =
     ap (λ (es : List Entry). length (codes es)) (own_same before c e)
     ∙ eqb→eq (codes_for 0 c) (cond (of_signs c || eqb c 58) 2 1) (implied-below 256 stands counted all-counted c h s)
     ∙ ap (λ (b : Bool). cond b 2 1) (ap (λ (b : Bool). b || eqb c 58) (sym o) ∙ t)
-
--- ---- those of a text
-
-pub base_sum : (text : List ℕ) → length (base_of text) ≡ sum_after codes_for 0 text
-unfolding base_of
-base_sum text = each-length own 0 text
-
--- one a character or more
-pub least-codes : (text : List ℕ) → AllCoded text → length text ≤ length (base_of text)
-unfolding translation itself specials sent characters numbers same saying codes every long own base_of first
-least-codes text h = omega (arith, least-each translation 1 tt (lit≤ tt) text (all-stand text h))

@@ -2,7 +2,7 @@
 -- Assumes nothing.
 use mathlib.Core.Path.{◌≡◌, refl, sym, ap, subst, subst⁻¹, subst₂, ◌∙◌}
 use mathlib.Core.Bool.{Bool, true, false, cond, not, ◌&&◌, ◌||◌, and-false}
-use mathlib.Core.List.{List, [], ◌++◌, append-nil}
+use mathlib.Core.List.{List, []}
 use Prim.Native.Nat.{ℕ, zero, suc, ◌+◌, ◌*◌, ◌/◌, ◌%◌, ◌^◌, ◌≤◌, ◌<◌}
 use native.Mathlib.Omega.{arith}
 use lib.Dec.{T, leb, ltb, eqb, leb→le, le→leb, ltb→lt, lit≤, lit<}
@@ -15,21 +15,20 @@ use Rattle.codes.specs.Chain.{Entry, codes}
 use Rattle.codes.specs.Consecutive.{code_for, consecutive}
 use Rattle.codes.specs.LineEnds.{each_after, ended}
 use Rattle.codes.specs.Lookup.{same, found, saying}
-use Rattle.codes.specs.Pack.{low, written}
-use Rattle.codes.specs.Steps.Sending.{Sends, PutSoFar}
+use Rattle.codes.specs.Pack.{low, gap}
+use Rattle.codes.specs.Steps.Sending.{Sends, SendsBits}
 use Rattle.codes.specs.declared.Held.{Held}
 use Rattle.bits.proofs.Said.{and_left, and_right, and_both}
 use Rattle.codes.proofs.ByteTests.{implied-below}
 use Rattle.codes.proofs.EveryElement.{every}
 use Rattle.codes.proofs.Lookup.{same-is}
 use Rattle.codes.proofs.LastBytes.{gap-none}
-use Rattle.codes.proofs.LowBits.{length-low}
-use Rattle.codes.proofs.PutSoFar.{sends-bits, put_whole, put-room, put-sent}
+use Rattle.codes.proofs.PutSoFar.{sends-bits}
 use Rattle.numeric.specs.Table.{characters, table}
 use Rattle.numeric.specs.Translation.{sent, itself, specials, translation}
 use Rattle.numeric.specs.Writer.{own, base_of, ours}
 use Rattle.numeric.specs.Steps.InFour.{in_four, bits_for, bits_from}
-use Rattle.numeric.proofs.InFour.{ours-binary, ours-length, pad-length, pad-odd, pad-even, bits-end}
+use Rattle.numeric.proofs.InFour.{ours-length, pad-length, pad-odd, pad-even, bits-end}
 use Rattle.numeric_writer.specs.Steps.Sending.{stands, OwnOf, Packed}
 use Rattle.numeric_writer.proofs.Counting.{own-nothing, own_same}
 use Rattle.numeric_writer.proofs.Tests.{colon_codes}
@@ -150,38 +149,28 @@ even have zero w l h = refl
 even have (suc zero) w l h = absurd (h (let four : have % 8 ≡ 4 = omega arith in four))
 even have (suc (suc m)) w l h = absurd (let no' : ⊥ = omega arith in no')
 
-module _ (t entry out : List ℕ) (b : Held) (i : ℕ) (held : length (written (ours t)) ≤ length entry) (end : length t ≤ i)
-    (p : PutSoFar (ours t) entry out b (bits_from t i)) where
+-- with what is held and the fill it makes whole bytes, and there is no fill
+module _ (t : List ℕ) (have : ℕ) (whole : (have + length (bits_from t (length t)) + gap (length (codes (ours t)))) % 8 ≡ 0) where
   abbrev size : ℕ
   size = length (base_of t)
 
-  -- with what is held it makes whole bytes
-  whole : (b.have + 4 * (size % 2)) % 8 ≡ 0
-  whole =
+  pub end-length : length (bits_from t (length t)) ≡ 4 * (size % 2)
+  end-length = ap length (bits-end t (length t) (omega arith)) ∙ pad-length size
+
+  halves : (have + 4 * (size % 2)) % 8 ≡ 0
+  halves =
       let bytes : length (codes (ours t)) ≡ 8 * ((size + 1) / 2) = omega (arith, ours-length t) in
-      omega (
-        arith,
-        put_whole (ours t) entry (ours-binary t) held out b (bits_from t i) p,
-        ap length (bits-end t i end),
-        pad-length size,
-        gap-none (length (codes (ours t))) ((size + 1) / 2) bytes,
-      )
+      omega (arith, whole, end-length, gap-none (length (codes (ours t))) ((size + 1) / 2) bytes)
 
-  pad-space : b.have % 8 ≡ 4 → PutSoFar (ours t) entry out b (low 4 10 ++ [])
-  pad-space h =
-      subst (PutSoFar (ours t) entry out b)
-      (bits-end t i end ∙ pad-odd size (odd b.have (size % 2) whole (omega arith) h) ∙ sym (append-nil (low 4 10))) p
+  pub end-space : have % 8 ≡ 4 → bits_from t (length t) ≡ low 4 10
+  end-space h = bits-end t (length t) (omega arith) ∙ pad-odd size (odd have (size % 2) halves (omega arith) h)
 
-  pub pad-nothing : (b.have % 8 ≡ 4 → ⊥) → PutSoFar (ours t) entry out b []
-  pad-nothing h = subst (PutSoFar (ours t) entry out b) (bits-end t i end ∙ pad-even size (even b.have (size % 2) whole (omega arith) h)) p
+  pub end-nothing : (have % 8 ≡ 4 → ⊥) → bits_from t (length t) ≡ []
+  end-nothing h = bits-end t (length t) (omega arith) ∙ pad-even size (even have (size % 2) halves (omega arith) h)
 
-  -- and once it is sent, nothing is still to come
-  pub space-room : b.have % 8 ≡ 4 → b.n + (b.have + 4) / 8 ≤ length out
-  space-room h =
-      omega (arith, put-room (ours t) entry (ours-binary t) held out b (low 4 10) [] (pad-space h), length-low 4 10)
-
-  pub space-sent : b.have % 8 ≡ 4 → (exit : List ℕ) {width number : ℕ} (r : Held) → Sends out exit b width number r → width ≡ 4 → number ≡ 10
-      → PutSoFar (ours t) entry exit r []
-  space-sent h exit {width} {number} r s x y =
-      put-sent (ours t) entry (ours-binary t) held out b (low 4 10) [] (pad-space h) exit r
-      (sends-bits out exit b 4 10 r p.few (lit≤ tt) (subst₂ (λ (w n : ℕ). Sends out exit b w n r) x y s))
+-- the space sent
+pub space-sent : (out exit : List ℕ) (b r : Held) {row : List ℕ} {width number : ℕ} → b.have < 32 → row ≡ low 4 10 → Sends out exit b width number r → width ≡ 4
+    → number ≡ 10 → SendsBits out exit b row r
+space-sent out exit b r h e s x y =
+    subst (λ (l : List ℕ). SendsBits out exit b l r) (sym e)
+    (sends-bits out exit b 4 10 r h (lit≤ tt) (subst₂ (λ (w n : ℕ). Sends out exit b w n r) x y s))

@@ -3,17 +3,19 @@
 
 #![tactic(auto)]
 
-ghost use Rattle.std.specs.Prelude.{◌≡◌, ◌+◌, ◌-◌, ◌*◌, ◌^◌, ◌<◌, ◌≤◌, T, length, take, get_or};
+ghost use Rattle.std.specs.Prelude.{◌≡◌, ◌+◌, ◌<◌, ◌≤◌, T, length, take, get_or};
 ghost use Rattle.codes.specs.Chain.{codes};
 ghost use Rattle.codes.specs.Coded.{last_of};
 ghost use Rattle.codes.specs.Pack.{written};
 ghost use Rattle.codes.specs.Steps.Laid.{Fronted};
 ghost use Rattle.codes.specs.Steps.Size.{Needs};
-ghost use Rattle.codes.specs.Steps.Summed.{SumUpTo};
-ghost use Rattle.numeric.specs.Writer.{own, base_of, clashes, coded_behind, coded, AllCoded, ours};
+ghost use Rattle.numeric.specs.Steps.InFour.{bits_from};
+ghost use Rattle.numeric.specs.Writer.{own, clashes, coded_behind, coded, AllCoded, ours};
 ghost use Rattle.numeric_writer.specs.Steps.Sending.{stands, of_signs, codes_for, OwnOf, Packed, FirstCodesOf};
+ghost use Rattle.numeric_writer.specs.Steps.Writing.{write-laws};
 
 use codes::{Held, Needed, Sent};
+use text_sender::Writes;
 
 // Whether two signs go for a character: no branch here, nor in the three that follow, so that a loop over a text is done for many characters at once.
 fn of_signs(c: u8) -> bool
@@ -65,55 +67,6 @@ fn codes_for(before: u8, c: u8) -> u16
         return 2;
     }
     1
-}
-
-// How many base characters go for the characters from one place up to another.
-fn block_codes(text: &[u8], from: usize, to: usize) -> u16
-    requires { AllCoded text.now × (1 ≤ from) × (from ≤ to) × (to ≤ length text.now) × (to ≤ from + 7000) }
-    ensures { (result ≤ 2 * (to - from)) × SumUpTo codes_for text.now from to result }
-{
-    let mut n: u16 = 0;
-    let mut i = from;
-    while i < to {
-        n += codes_for(text[i - 1], text[i]);
-        i += 1;
-    }
-    n
-}
-
-// How many base characters go for the text. No character comes before the first: 0 stands for it.
-fn base_length(text: &[u8]) -> u32
-    requires { AllCoded text.now × (2 * length text.now < 2 ^ 32) }
-    ensures { result ≡ length (base_of text.now) }
-{
-    if text.len() == 0 {
-        return 0;
-    }
-    let mut n = codes_for(0, text[0]) as u32;
-    let mut i: usize = 1;
-    while i < text.len() {
-        let to = bit_sender::block_end(i, text.len());
-        n += block_codes(text, i, to) as u32;
-        i = to;
-    }
-    n
-}
-
-// How many bytes our data of the text has, or that they are more than the most that may be. A text has a code a character or more, since two go for a
-// line end of two: one that is certainly too long is not looked at.
-pub fn coded_length(text: &[u8], most: u16) -> Needed
-    requires { AllCoded text.now }
-    ensures { Needs most coded text.now (written (ours text.now)) result }
-{
-    let room = most as usize * 2;
-    if room < text.len() {
-        return Needed::TooMany;
-    }
-    let n = base_length(text) as usize;
-    if room < n {
-        return Needed::TooMany;
-    }
-    Needed::Bytes((n + 1) / 2)
 }
 
 // What goes for a character that is no line end, by Table 4 and Table 5: how many bits, and in the lowest eight the codes. The base characters but the space
@@ -178,16 +131,59 @@ fn four_codes(text: &[u8], i: usize, before: u8) -> Sent
     bit_sender::four_joined(first, second, third, fourth)
 }
 
-// What goes for the next character from i on, or for the next four.
-fn next_codes(text: &[u8], i: usize) -> Sent
-    requires { AllCoded text.now × (i < length text.now) }
-    ensures { FirstCodesOf text.now i 32 result }
-{
-    let before = bit_sender::before_at(text, i);
-    if 4 <= text.len() - i {
-        return four_codes(text, i, before);
+// Compact Numeric, as the loops of text_sender ask of it.
+pub struct Numeric;
+
+impl Writes for Numeric {
+    ghost coded = { coded };
+
+    ghost ours = { ours };
+
+    ghost bits_from = { bits_from };
+
+    ghost units_for = { codes_for };
+
+    ghost UNIT = { 4 };
+
+    ghost FEWEST = { 8 };
+
+    ghost laws = { write-laws };
+
+    // a base character a character or more, since two go for a line end of two
+    const FEWEST: usize = 8;
+
+    // a base character has four bits
+    const UNIT: usize = 4;
+
+    // The base characters that go for it.
+    fn units_for(before: u8, c: u8) -> u16 {
+        codes_for(before, c)
     }
-    own_codes(before, text[i])
+
+    // What goes for the next character from i on, or for the next four.
+    fn next_codes(text: &[u8], i: usize) -> Sent {
+        let before = bit_sender::before_at(text, i);
+        if 4 <= text.len() - i {
+            return four_codes(text, i, before);
+        }
+        own_codes(before, text[i])
+    }
+
+    // A space where half a byte is left.
+    fn send_end(_text: &[u8], out: &mut [u8], b: Held) -> Held {
+        if b.have % 8 == 4 {
+            return bit_sender::send(out, b, 10, 4);
+        }
+        b
+    }
+}
+
+// How many bytes our data of the text has, or that they are more than the most that may be.
+pub fn coded_length(text: &[u8], most: u16) -> Needed
+    requires { AllCoded text.now }
+    ensures { Needs most coded text.now (written (ours text.now)) result }
+{
+    text_sender::coded_length::<Numeric>(text, most)
 }
 
 // What our writer builds of the text, at the front of the buffer; how many bytes it is. Where half a byte is left at the end a space fills it.
@@ -195,20 +191,5 @@ pub fn put_data(text: &[u8], out: &mut [u8]) -> usize
     requires { AllCoded text.now × (length (written (ours text.now)) ≤ length out.old) }
     ensures { Fronted (written (ours text.now)) out.old out.new result }
 {
-    let mut b = Held {
-        n: 0,
-        held: 0,
-        have: 0,
-    };
-    let mut i: usize = 0;
-    while i < text.len() {
-        let next = next_codes(text, i);
-        b = bit_sender::send(out, b, next.bits, next.width);
-        i += next.count;
-    }
-    if b.have % 8 == 4 {
-        let even = bit_sender::send(out, b, 10, 4);
-        return bit_sender::flush(out, even.n, even.held, even.have);
-    }
-    bit_sender::flush(out, b.n, b.held, b.have)
+    text_sender::put_data::<Numeric>(text, out)
 }

@@ -16,13 +16,14 @@ use Rattle.codes.proofs.BitBuffer.{window-begins, begins-window}
 use Rattle.codes.proofs.LowBits.{low-mod, low-add, low_value}
 use Rattle.codes.proofs.OneReading.{Halts}
 use Rattle.pseudo_binary.specs.Table.{SPACE, SLASH, Kind, values, spaces, slashes, indicator, most, scheme}
-use Rattle.pseudo_binary_reader.specs.Steps.Taken.{Nine, FirstIndicator}
+use Rattle.pseudo_binary_reader.specs.Steps.Taken.{Nine, FirstIndicator, width_of}
 use Rattle.pseudo_binary_reader.specs.declared.Indicator.{Indicator}
+use Rattle.pseudo_binary_reader.specs.declared.Indicator.TheVariants.{Values, Repeat}
 use Rattle.pseudo_binary.proofs.Entries.{indicator-in}
 use Rattle.pseudo_binary.proofs.Table.{laws}
 
 pub takes-values : (w : ℕ) → w < 512 → 256 ≤ w
-    → FirstIndicator w (record { width = 8; values = w / 2 % 128 + 1; count = 0; character = 0 })
+    → FirstIndicator w (Values (w / 2 % 128 + 1))
 unfolding indicator most low bit
 takes-values w h k = record {
   entry = indicator values (w / 2 % 128);
@@ -35,11 +36,10 @@ takes-values w h k = record {
   width = refl;
   announces = add-one (w / 2 % 128);
   says = refl;
-  silent = λ e. refl;
-  announcing = λ h. (refl, refl);
   short = lit≤ tt;
   long = lit≤ tt;
-  few = lit≤ tt;
+  some = omega arith;
+  few = omega arith;
   many = omega arith;
 }
 
@@ -53,7 +53,7 @@ six-bits w a b x y =
 
 takes-repeat : (k : Kind) (character w a b : ℕ) → w / 8 / 32 % 2 ≡ a → w / 8 / 16 % 2 ≡ b → most k ≡ 16
     → ((c : ℕ) → indicator k c ≡ record { code = a ∷ b ∷ low 4 c; says = replicate (suc c) character; announces = 0 })
-    → {n : ℕ} → n ≡ w / 8 % 16 + 1 → FirstIndicator w (record { width = 6; values = 0; count = n; character = character })
+    → {n : ℕ} → n ≡ w / 8 % 16 + 1 → FirstIndicator w (Repeat n character)
 unfolding low
 takes-repeat k character w a b x y m e {n} count = record {
   entry = indicator k (w / 8 % 16);
@@ -62,20 +62,19 @@ takes-repeat k character w a b x y m e {n} count = record {
   width = ap (λ (d : Entry). length d.code) (sym (e (w / 8 % 16)));
   announces = ap (λ (d : Entry). d.announces) (sym (e (w / 8 % 16)));
   says = ap (λ (j : ℕ). replicate j character) (count ∙ add-one (w / 8 % 16)) ∙ ap (λ (d : Entry). d.says) (sym (e (w / 8 % 16)));
-  silent = λ none. absurd (let no' : ⊥ = omega arith in no');
-  announcing = λ h. absurd (let no' : ⊥ = omega arith in no');
   short = lit≤ tt;
   long = lit≤ tt;
+  some = omega arith;
   few = omega arith;
   many = lit≤ tt;
 }
 
-pub takes-spaces : (w : ℕ) {n : ℕ} → w < 128 → n ≡ w / 8 % 16 + 1 → FirstIndicator w (record { width = 6; values = 0; count = n; character = SPACE })
+pub takes-spaces : (w : ℕ) {n : ℕ} → w < 128 → n ≡ w / 8 % 16 + 1 → FirstIndicator w (Repeat n SPACE)
 unfolding indicator most
 takes-spaces w h count = takes-repeat spaces SPACE w 0 0 (omega arith) (omega arith) refl (λ c. refl) count
 
 pub takes-slashes : (w : ℕ) {n : ℕ} → 128 ≤ w → w < 256 → n ≡ w / 8 % 16 + 1
-    → FirstIndicator w (record { width = 6; values = 0; count = n; character = SLASH })
+    → FirstIndicator w (Repeat n SLASH)
 unfolding indicator most
 takes-slashes w h k count = takes-repeat slashes SLASH w 0 1 (omega arith) (omega arith) refl (λ c. refl) count
 
@@ -94,7 +93,7 @@ module _ (bs : List ℕ) (binary : Binary bs) (w : ℕ) (v : Nine bs w) where
 
   module _ (r : Indicator) (k : FirstIndicator w r) where
     -- the indicator of the nine bits is the next to be read, if its bits are there
-    pub next-indicator : r.width ≤ length bs → bs ≡ k.entry.code ++ drop r.width bs
+    pub next-indicator : width_of r ≤ length bs → bs ≡ k.entry.code ++ drop (width_of r) bs
     next-indicator there =
         let code : List ℕ = k.entry.code in
         let rest : List ℕ = low (length bs - length code) held in
@@ -102,10 +101,10 @@ module _ (bs : List ℕ) (binary : Binary bs) (w : ℕ) (v : Nine bs w) where
         sym same ∙ window-begins held (length bs) w code window k.begins (subst (λ (n : ℕ). n ≤ length bs) k.width there) in
         split
         ∙ ap (λ (l : List ℕ). code ++ l)
-        (sym (drop_at code rest r.width (sym k.width)) ∙ ap (drop r.width) (sym split))
+        (sym (drop_at code rest (width_of r) (sym k.width)) ∙ ap (drop (width_of r)) (sym split))
 
     -- if they are not there, none begins what there is
-    pub no-indicator : length bs < r.width → Halts scheme 0 bs
+    pub no-indicator : length bs < width_of r → Halts scheme 0 bs
     no-indicator short e j p =
         let size : length e.code ≤ length bs = omega (arith, ap length p.1, length-append e.code p.0) in
         let same-entry : e ≡ k.entry =

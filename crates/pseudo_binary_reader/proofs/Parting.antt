@@ -119,20 +119,3 @@ module _ (v : ℕ) (h : v < 281474976710656) where
   eighths-spread is k l =
       ap (λ (n : ℕ). (eighths + (0x4040404040404040 - bit_and (eighths + n) 0x4040404040404040)) / 2 ^ (56 - 8 * k) % 256) is
       ∙ ap (λ (n : ℕ). characters n / 2 ^ (56 - 8 * k) % 256) eighths-joined ∙ characters-bytes nth nth-small k l
-
-  -- it takes two bits less than eight bytes
-  pub eighths-small : eighths < 4611686018427387904
-  unfolding eight_of
-  eighths-small =
-      omega (
-        arith,
-        eighths-joined,
-        nth-small 0,
-        nth-small 1,
-        nth-small 2,
-        nth-small 3,
-        nth-small 4,
-        nth-small 5,
-        nth-small 6,
-        nth-small 7,
-      )

@@ -1,11 +1,11 @@
 -- Values as they are taken out of the bits, one or eight at a time, and laid as characters.
 -- Assumes nothing.
 use mathlib.Core.Path.{◌≡◌, refl, sym, ap, ap₂, subst⁻¹, ◌∙◌}
-use mathlib.Core.List.{List, [], ◌∷◌, ◌++◌, append-nil, append_assoc}
+use mathlib.Core.List.{List, [], ◌∷◌, ◌++◌, append_assoc}
 use Prim.Native.Nat.{ℕ, zero, suc, ◌+◌, ◌-◌, ◌*◌, ◌/◌, ◌%◌, ◌^◌, ◌≤◌, ◌<◌}
 use native.Mathlib.Nat.{zero-add, suc-add}
 use native.Mathlib.Omega.{arith}
-use lib.ListN.{length, take, drop, get_or, set, replicate, length-append, length-set, length-replicate}
+use lib.ListN.{length, take, drop, get_or, set, length-append, length-set}
 use lib.Pow.{field, mod-mod-pow, shr-shr}
 use lib.Seq.{length-take-le, take_at, drop-drop, drop-append-add}
 use Rattle.bits.specs.Row.{bits}
@@ -59,25 +59,6 @@ module _ (bs entry out : List ℕ) (n k : ℕ) (so_far : out ≡ laid entry n (c
 pub taken_none : (bs entry : List ℕ) (n : ℕ) → entry ≡ laid entry n (characters_in 0 bs)
 unfolding characters_in
 taken_none bs entry n = sym (laid_nil entry n)
-
--- a character, so many times, and after it values
-pub run-laid : (entry mid exit bs : List ℕ) (n count character values : ℕ) → n + count ≤ length entry
-    → mid ≡ laid entry n (replicate count character) → exit ≡ laid mid (n + count) (characters_in values bs)
-    → exit ≡ laid entry n (replicate count character ++ characters_in values bs)
-run-laid entry mid exit bs n count character values room e d =
-    d
-    ∙ ap (λ (l : List ℕ). laid l (n + count) (characters_in values bs)) e
-    ∙ laid-laid entry n (n + count) (replicate count character) (characters_in values bs) (omega (arith, length-replicate count character))
-    (ap (λ (k : ℕ). n + k) (sym (length-replicate count character)))
-
--- or none
-pub run-plain : (entry exit bs : List ℕ) (n count character values : ℕ) → values ≡ 0 → exit ≡ laid entry n (replicate count character)
-    → exit ≡ laid entry n (replicate count character ++ characters_in values bs)
-unfolding characters_in
-run-plain entry exit bs n count character values none e =
-    e
-    ∙ ap (laid entry n) (sym (append-nil (replicate count character)))
-    ∙ ap (λ (k : ℕ). laid entry n (replicate count character ++ characters_in k bs)) (sym none)
 
 -- k bytes of a number, stored in a row, are the characters of k values
 pub spilled-characters : (k : ℕ) (bs out : List ℕ) (n c have : ℕ) → n + k ≤ length out

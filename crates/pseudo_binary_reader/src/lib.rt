@@ -10,18 +10,16 @@ ghost use Rattle.codes.specs.Steps.Measure.{countable, Measures};
 ghost use Rattle.codes.specs.Pack.{value};
 ghost use Rattle.codes.specs.Steps.Passed.{CountedSoFar, LaidSoFar};
 ghost use Rattle.pseudo_binary.specs.Table.{scheme};
-ghost use Rattle.pseudo_binary_reader.specs.Steps.Taken.{Eight, Nine, Spread, Starts, FirstIndicator, Top, characters_in, saying};
+ghost use Rattle.pseudo_binary_reader.specs.Steps.Taken.{Eight, Nine, Spread, Starts, FirstIndicator, Top, characters_in, width_of, values_of, count_of, saying};
 
 use bit_buffer::Buffer;
-use codes::Measured;
+use codes::{Extent, MalformedAt, Measured};
 
-// An indicator: how many bits it has, how many values it announces, and how often it says which character.
+// An indicator: it announces so many values, or says a character so often.
 #[derive(Clone, Copy)]
-struct Indicator {
-    pub width: usize,
-    pub values: usize,
-    pub count: usize,
-    pub character: u8,
+enum Indicator {
+    Values(usize),
+    Repeat(usize, u8),
 }
 
 impl Indicator {
@@ -29,6 +27,40 @@ impl Indicator {
     pub const MOST_VALUES: u64 = 128;
     // The most spaces or slashes that one says.
     pub const MOST_REPEATED: u64 = 16;
+    // How many bits one has that announces values.
+    pub const VALUES_WIDTH: usize = 8;
+    // And one that says spaces or slashes.
+    pub const REPEAT_WIDTH: usize = 6;
+
+    // How many bits it has.
+    fn width(self) -> usize
+        ensures { result ≡ width_of self }
+    {
+        match self {
+            Indicator::Values(_) => Indicator::VALUES_WIDTH,
+            Indicator::Repeat(_, _) => Indicator::REPEAT_WIDTH,
+        }
+    }
+
+    // How many values it announces.
+    fn values(self) -> usize
+        ensures { result ≡ values_of self }
+    {
+        match self {
+            Indicator::Values(count) => count,
+            Indicator::Repeat(_, _) => 0,
+        }
+    }
+
+    // How many characters it says, with those of its values.
+    fn characters(self) -> usize
+        ensures { result ≡ count_of self }
+    {
+        match self {
+            Indicator::Values(count) => count,
+            Indicator::Repeat(count, _) => count,
+        }
+    }
 }
 
 // The indicator that begins nine bits: any nine bits begin one.
@@ -37,28 +69,13 @@ fn first_indicator(w: u64) -> Indicator
     ensures { FirstIndicator w result }
 {
     if 256 <= w {
-        return Indicator {
-            width: 8,
-            values: (w / 2 % Indicator::MOST_VALUES + 1) as usize,
-            count: 0,
-            character: 0,
-        };
+        return Indicator::Values((w / 2 % Indicator::MOST_VALUES + 1) as usize);
     }
     let count = (w / 8 % Indicator::MOST_REPEATED + 1) as usize;
     if w < 128 {
-        return Indicator {
-            width: 6,
-            values: 0,
-            count,
-            character: b' ',
-        };
+        return Indicator::Repeat(count, b' ');
     }
-    Indicator {
-        width: 6,
-        values: 0,
-        count,
-        character: b'/',
-    }
+    Indicator::Repeat(count, b'/')
 }
 
 // Two bytes in a row as one number.
@@ -66,7 +83,7 @@ fn pair(s: &[u8], at: usize) -> u64
     requires { at + 1 < length s.now }
     ensures { (ahead s.now result 16 (at + 2) ≡ bits (drop at s.now)) × (result < 65536) }
 {
-    s[at] as u64 * 256 + s[at + 1] as u64
+    u16::from_be_bytes([s[at], s[at + 1]]) as u64
 }
 
 // A buffer that starts at a bit of the data, wherever in a byte that is: what is left of the byte, and the next one if there is one.
@@ -147,19 +164,21 @@ fn measure_most(s: &[u8]) -> Counted
     let mut codes: usize = 0;
     let mut n: usize = 0;
     while at < limit {
-        let indicator = first_indicator(top_at(s, at) >> 55);
-        if indicator.values == 0 {
-            at += indicator.width;
-            codes += 1;
-            n += indicator.count;
-        } else {
-            let next = at + (indicator.width + indicator.values * 6);
-            if end < next {
-                return Counted { at, codes, n };
+        match first_indicator(top_at(s, at) >> 55) {
+            Indicator::Repeat(count, _) => {
+                at += Indicator::REPEAT_WIDTH;
+                codes += 1;
+                n += count;
             }
-            at = next;
-            codes += 1 + indicator.values;
-            n += indicator.count + indicator.values;
+            Indicator::Values(count) => {
+                let next = at + (Indicator::VALUES_WIDTH + count * 6);
+                if end < next {
+                    return Counted { at, codes, n };
+                }
+                at = next;
+                codes += 1 + count;
+                n += count;
+            }
         }
     }
     Counted { at, codes, n }
@@ -178,19 +197,27 @@ pub fn measure(s: &[u8]) -> Measured
     loop {
         let b = buffer_at(s, at);
         if bit_buffer::at_end(b.held, b.have) {
-            return Measured::Text(n, codes);
+            return Ok(Extent {
+                characters: n,
+                codes,
+            });
         }
         let indicator = first_indicator(bit_buffer::window(b.held, b.have));
-        if end - at < indicator.width {
-            return Measured::Malformed(at, codes);
+        let width = indicator.width();
+        let values = indicator.values();
+        if end - at < width {
+            return Err(MalformedAt { bit: at, codes });
         }
-        let left = end - at - indicator.width;
-        if left < indicator.values * 6 {
-            return Measured::Malformed(end - left % 6, codes + (1 + left / 6));
+        let left = end - at - width;
+        if left < values * 6 {
+            return Err(MalformedAt {
+                bit: end - left % 6,
+                codes: codes + (1 + left / 6),
+            });
         }
-        at += indicator.width + indicator.values * 6;
-        codes += 1 + indicator.values;
-        n += indicator.count + indicator.values;
+        at += width + values * 6;
+        codes += 1 + values;
+        n += indicator.characters();
     }
 }
 
@@ -230,11 +257,9 @@ fn put_few(out: &mut [u8], n: usize, count: usize, word: u64)
     ensures { (bs : List ℕ) → Eight bs word → out.new ≡ laid out.old n (characters_in count bs) }
 {
     let mut left = word;
-    let mut done: usize = 0;
-    while done < count {
+    for done in 0..count {
         out[n + done] = (left >> 56) as u8;
         left = left << 8;
-        done += 1;
     }
 }
 
@@ -255,10 +280,8 @@ fn read_last(s: &[u8], at: usize, count: usize, out: &mut [u8], n: usize)
     requires { (length s.now < countable) × (at + 6 * count ≤ length s.now * 8) × (n + count ≤ length out.old) }
     ensures { out.new ≡ laid out.old n (characters_in count (drop at (bits s.now))) }
 {
-    let mut done: usize = 0;
-    while done < count {
+    for done in 0..count {
         out[n + done] = 63 + (value_at(s, at + 6 * done) + 1) % 64;
-        done += 1;
     }
 }
 
@@ -332,24 +355,19 @@ fn repeat(out: &mut [u8], n: usize, count: usize, character: u8)
         repeat_few(out, n, count, character);
         return;
     }
-    let mut done: usize = 0;
-    while done < count {
-        out[n + done] = character;
-        done += 1;
-    }
+    out[n..n + count].fill(character);
 }
 
 // What an indicator says, and the values that it announces, which start at bit `at`, from place n on.
 fn read_run(s: &[u8], at: usize, run: Indicator, out: &mut [u8], n: usize)
-    requires s_len_bound { (length s.now < countable) × (at + 6 * run.values ≤ length s.now * 8) }
-    requires values_in_bounds { n + (run.count + run.values) ≤ length out.old }
+    requires s_len_bound { (length s.now < countable) × (at + 6 * values_of run ≤ length s.now * 8) }
+    requires count_in_bounds { n + count_of run ≤ length out.old }
     ensures { out.new ≡ laid out.old n (saying run (drop at (bits s.now))) }
 {
-    repeat(out, n, run.count, run.character);
-    if run.values == 0 {
-        return;
+    match run {
+        Indicator::Values(count) => read_last(s, at, count, out, n),
+        Indicator::Repeat(count, character) => repeat(out, n, count, character),
     }
-    read_last(s, at, run.values, out, n + run.count);
 }
 
 // The indicators that start in the eighth byte from the end of the data or before it, and what they and their values say at the front of the
@@ -367,15 +385,17 @@ fn read_front(s: &[u8], out: &mut [u8]) -> Place
     let mut n: usize = 0;
     while at < limit {
         let top = top_at(s, at);
-        let run = first_indicator(top >> 55);
-        if run.values == 0 {
-            repeat(out, n, run.count, run.character);
-            at += run.width;
-            n += run.count;
-        } else {
-            read_values(s, at, run.values, top, out, n);
-            at += 8 + run.values * 6;
-            n += run.values;
+        match first_indicator(top >> 55) {
+            Indicator::Repeat(count, character) => {
+                repeat(out, n, count, character);
+                at += Indicator::REPEAT_WIDTH;
+                n += count;
+            }
+            Indicator::Values(count) => {
+                read_values(s, at, count, top, out, n);
+                at += Indicator::VALUES_WIDTH + count * 6;
+                n += count;
+            }
         }
     }
     Place { at, n }
@@ -392,9 +412,10 @@ fn read_most(s: &[u8], out: &mut [u8]) -> Place
     let mut n = front.n;
     while at / 8 + 1 < s.len() {
         let run = first_indicator(nine_at(s, at));
-        read_run(s, at + run.width, run, out, n);
-        n += run.count + run.values;
-        at += run.width + run.values * 6;
+        let width = run.width();
+        read_run(s, at + width, run, out, n);
+        n += run.characters();
+        at += width + run.values() * 6;
     }
     Place { at, n }
 }
@@ -412,9 +433,13 @@ pub fn put_text(s: &[u8], out: &mut [u8]) -> usize
         if bit_buffer::at_end(b.held, b.have) {
             return n;
         }
-        let run = first_indicator(bit_buffer::window(b.held, b.have));
-        repeat(out, n, run.count, run.character);
-        n += run.count;
-        at += run.width;
+        let Indicator::Repeat(count, character) = first_indicator(bit_buffer::window(
+            b.held, b.have,
+        )) else {
+            unreachable!()
+        };
+        repeat(out, n, count, character);
+        n += count;
+        at += Indicator::REPEAT_WIDTH;
     }
 }

@@ -2,8 +2,10 @@
 -- Assumes nothing.
 use mathlib.Core.Path.{◌≡◌, refl, sym, ap, ◌∙◌}
 use mathlib.Core.Bool.{Bool, true, false, cond}
+use mathlib.Core.Logic.{by_cases}
 use mathlib.Core.List.{List, [], ◌∷◌}
-use Prim.Native.Nat.{ℕ, zero, suc, ◌+◌, ◌-◌, ◌≤◌, ◌<◌}
+use Prim.Native.Nat.{ℕ, zero, suc, ◌+◌, ◌-◌, ◌≤◌, ◌<◌, min}
+use native.Mathlib.Decide.{dec_le}
 use native.Mathlib.Nat.{zero-add}
 use native.Mathlib.Numerals.{add-one}
 use native.Mathlib.Omega.{arith}
@@ -89,3 +91,8 @@ run-alike k (suc n) (c ∷ t) = pick (is_of k c) refl (run-alike k n t)
     pick : (b : Bool) → is_of k c ≡ b → Alike k (take (run k n t) t) → Alike k (take (cond b (suc (run k n t)) 0) (c ∷ t))
     pick true e h = (e, h)
     pick false e h = tt
+
+-- where as many as are counted are passed, or the whole text, nothing is left of a run
+pub run-whole : (k : Kind) (most n end : ℕ) (t : List ℕ) (i : ℕ) → end ≡ min most (length t - i) → end ≤ n → i ≤ length t → run k (most - n) (drop (i + n) t) ≡ 0
+run-whole k most n end t i e h inside =
+    by_cases (dec_le most n) (λ l. run-full k most n (drop (i + n) t) l) (λ l. run_end k (most - n) t (i + n) (omega arith))

@@ -6,3 +6,4 @@ pub mod Gathering
 pub mod Opening
 pub mod Ranges
 pub mod Sends
+pub mod Turn

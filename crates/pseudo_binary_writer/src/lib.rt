@@ -2,7 +2,7 @@
 
 #![tactic(auto)]
 
-ghost use Rattle.std.specs.Prelude.{◌≡◌, ◌⊎◌, ◌+◌, ◌*◌, ◌/◌, ◌≤◌, ◌<◌, ◌^◌, length, take, drop};
+ghost use Rattle.std.specs.Prelude.{◌≡◌, ◌+◌, ◌*◌, ◌/◌, ◌≤◌, ◌<◌, ◌^◌, length, take, drop};
 ghost use Rattle.std.specs.Int.Count.{count_leading_zeros};
 ghost use Rattle.codes.specs.Coded.{alone};
 ghost use Rattle.codes.specs.Pack.{written};
@@ -12,7 +12,7 @@ ghost use Rattle.pseudo_binary_writer.specs.Steps.Sending.{Between, FirstIndicat
 ghost use Rattle.pseudo_binary.specs.Table.{Kind, coded, AllCoded, values};
 ghost use Rattle.pseudo_binary.specs.Writer.{run, ours, Alike};
 
-use codes::{Held, Needed};
+use codes::{Held, Needed, Unfit};
 
 // Whether a character has a code.
 pub fn is_coded(c: u8) -> bool
@@ -48,27 +48,13 @@ fn values_from(text: &[u8], i: usize, most: usize, known: usize) -> usize
     requires known_le_most { (known ≤ most) × (i + known ≤ length text.now) × Alike values (take known (drop i text.now)) }
     ensures { result ≡ run values most (drop i text.now) }
 {
-    let mut n = known;
-    while n < most {
-        if i + n == text.len() {
-            return n;
-        }
+    let end = most.min(text.len() - i);
+    for n in known..end {
         if text[i + n] < b'?' {
             return n;
         }
-        n += 1;
     }
-    n
-}
-
-// The lesser of two numbers.
-fn lesser(a: usize, b: usize) -> usize
-    ensures { (result ≤ a) × (result ≤ b) × ((result ≡ a) ⊎ (result ≡ b)) }
-{
-    if a < b {
-        return a;
-    }
-    b
+    end
 }
 
 // How often a character that is a kind by itself stands in a row at place i, counted up to `most`.
@@ -76,15 +62,13 @@ fn run_of(text: &[u8], i: usize, character: u8, most: usize) -> usize
     requires { (i ≤ length text.now) × ((k : Kind) × Between k character character) }
     ensures { (k : Kind) → Between k character character → result ≡ run k most (drop i text.now) }
 {
-    let end = lesser(most, text.len() - i);
-    let mut n: usize = 0;
-    while n < end {
+    let end = most.min(text.len() - i);
+    for n in 0..end {
         if text[i + n] != character {
             return n;
         }
-        n += 1;
     }
-    n
+    end
 }
 
 // The top bit of each of the eight characters at place i that is no value: 190 less the character has it unless the character is 63 or more. As many of
@@ -108,7 +92,7 @@ fn values_by_eight(text: &[u8], i: usize, most: usize) -> usize
         }
         let others = others_at(text, i + n);
         if others != 0 {
-            return n + (u64::leading_zeros(others) / 8) as usize;
+            return n + (others.leading_zeros() / 8) as usize;
         }
         n += 8;
     }
@@ -198,11 +182,11 @@ pub fn coded_length(text: &[u8], most: u16) -> Needed
         let extent = next_extent(text, i);
         n += extent.bits;
         if limit < n {
-            return Needed::TooMany;
+            return Err(Unfit::TooMany);
         }
         i += extent.count;
     }
-    Needed::Bytes((n + 7) / 8)
+    Ok((n + 7) / 8)
 }
 
 // The values of two characters in a row, from place i on, as one number.

@@ -7,6 +7,7 @@ use Prim.Native.Nat.{ℕ, ◌≤◌}
 use native.Mathlib.Omega.{arith}
 use lib.Bits.{bit_xor}
 use lib.Count.{ones_in}
+use Rattle.std.specs.Prelude.{Ok}
 use Rattle.bits.specs.Word.{differences}
 use Rattle.header.specs.declared.Format.TheVariants.{Open}
 use Rattle.header.specs.Check.{generator, remainder, check_of}
@@ -16,7 +17,6 @@ use Rattle.distance.specs.Distance.{distance}
 use Rattle.checksum.specs.Checksum.{checksum_bytes}
 use Rattle.sections.specs.Sections.{in_turn, section, sent_section, in_sections}
 use Rattle.packet.specs.Packet.{received, packet_of, header_for}
-use Rattle.reader.specs.declared.ReadAnswer.TheVariants.{Accepted}
 use Rattle.reader.specs.Reader.{Reads}
 use Rattle.terms.specs.Terms.{naming}
 use Rattle.demands.specs.Makers.{Made, Flipped, arriving, reading_with}
@@ -57,9 +57,9 @@ flipped byte =
 
 -- the line of a reading with these bits mended
 read-so : (mended mask : ℕ) → mended ≡ 2 → mask ≡ 0x81000000
-    → line_of (Accepted (reading_with Open false mended mask 0 1 1)) ≡ printed
+    → line_of (Ok (reading_with Open false mended mask 0 1 1)) ≡ printed
 unfolding decimal_in decimal hexadecimal_digit hexadecimal_in hexadecimal spaced line_with
-read-so mended mask m k = ap₂ (λ (x y : ℕ). line_of (Accepted (reading_with Open false x y 0 1 1))) m k
+read-so mended mask m k = ap₂ (λ (x y : ℕ). line_of (Ok (reading_with Open false x y 0 1 1))) m k
 
 pub five : {line : List ℕ} (byte : ℕ) (after : List ℕ) → Prints (0xC1 ∷ 0x00 ∷ 0x04 ∷ 0xDD ∷ byte ∷ (checksum_bytes (byte ∷ []) ++ after)) line
     → line ≡ printed

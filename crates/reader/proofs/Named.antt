@@ -7,8 +7,7 @@ use Prim.Native.Nat.{ℕ}
 use Rattle.terms.specs.declared.Terms.{Terms}
 use Rattle.terms.specs.Terms.{naming}
 use Rattle.terms.proofs.Usual.{naming-so}
-use Rattle.reader.specs.declared.ReadAnswer.{ReadAnswer}
-use Rattle.reader.specs.Reader.{Reads}
+use Rattle.reader.specs.Reader.{ReadAnswer, Reads}
 
 module _ (terms : Terms) (given mend : ℕ) (named-1200 rate-1200 : Bool) (is : terms ≡ naming given named-1200) (same : given ≡ mend)
     (rate : named-1200 ≡ rate-1200) (packet : List ℕ) where

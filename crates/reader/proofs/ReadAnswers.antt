@@ -5,6 +5,7 @@ use mathlib.Core.Path.{◌≡◌, refl, sym, ap, ap₂, ◌∙◌}
 use Prim.Native.Nat.{ℕ, ◌≤◌, ◌<◌}
 use native.Mathlib.Omega.{arith}
 use lib.ListN.{length, drop}
+use Rattle.std.specs.Prelude.{Ok, Err}
 use Rattle.formats.specs.Data.{Carries}
 use Rattle.formats.specs.Steps.Text.{HasRoom, PutsText}
 use Rattle.formats.proofs.Formats.{carries-one}
@@ -14,7 +15,6 @@ use Rattle.refusals.specs.Match.{reader_turn}
 use Rattle.refusals.specs.Refusals.{number_in, read_told}
 use Rattle.terms.specs.declared.Terms.{Terms}
 use Rattle.examine.specs.declared.Reading.{Reading}
-use Rattle.reader.specs.declared.ReadAnswer.TheVariants.{Accepted, Refused}
 use Rattle.examine.specs.Examine.{Accepts}
 use Rattle.reader.specs.Reader.{ReadFault, Reads}
 use Rattle.terms.specs.Terms.{MayBeNamed}
@@ -34,7 +34,7 @@ module _ (terms : Terms) (packet : List ℕ) where
 
     -- there is no room for it
     pub no_room : (entry : List ℕ) (reading : Reading) (text : List ℕ) → Accepts terms packet reading text → (needed : ℕ) → needed ≡ reading.text_length
-        → length entry < needed → Reads terms packet entry (Refused (NoRoom needed)) entry
+        → length entry < needed → Reads terms packet entry (Err (NoRoom needed)) entry
     no_room entry reading text a needed e short = (
       record {
         fault = (a.header, a.allowed.framed.near, (a.format, a.allowed.framed.typed, (text, a.allowed.carries, sym (e ∙ long reading text a), short)));
@@ -45,7 +45,7 @@ module _ (terms : Terms) (packet : List ℕ) where
 
   -- there is
   pub read-into : (entry : List ℕ) (reading : Reading) (text : List ℕ) → Accepts terms packet reading text → reading.text_length ≤ length entry
-      → Reads terms packet entry (Accepted reading) (text ++ drop (length text) entry)
+      → Reads terms packet entry (Ok reading) (text ++ drop (length text) entry)
   read-into entry reading text a held = (text, a, omega (arith, long reading text a), refl)
 
   -- ---- the data, as the code takes it
@@ -62,7 +62,7 @@ module _ (terms : Terms) (packet : List ℕ) where
       room = record { text = text; carries = carried; fits = omega (arith, long reading text a) }
 
       -- what was put into the buffer is the text
-      pub put_in : (exit : List ℕ) (r : ℕ) → PutsText reading.format data-in entry exit r → Reads terms packet entry (Accepted reading) exit
+      pub put_in : (exit : List ℕ) (r : ℕ) → PutsText reading.format data-in entry exit r → Reads terms packet entry (Ok reading) exit
       put_in exit r p =
           let same = carries-one reading.format p.text text data-in p.carries carried in (
             text,

@@ -1,11 +1,12 @@
 -- The reader's promise leaves one answer and one content of the text buffer.
 -- Assumes nothing.
 use mathlib.Core.List.{List, ◌++◌}
-use mathlib.Core.Path.{◌≡◌, sym, ap, ◌∙◌, subst}
+use mathlib.Core.Path.{◌≡◌, refl, sym, ap, ◌∙◌, subst, subst⁻¹}
 use Prim.Native.Nat.{ℕ, ◌≤◌, ◌<◌}
 use native.Mathlib.Decide.{dec_le}
 use native.Mathlib.Omega.{arith}
 use lib.ListN.{length, drop}
+use Rattle.std.specs.Prelude.{Ok, Err, IsErrAnd}
 use Rattle.header.specs.declared.Format.{Format}
 use Rattle.header.specs.Fields.{fields_in}
 use Rattle.header.specs.Formats.{HasFormat}
@@ -22,11 +23,9 @@ use Rattle.refusals.specs.Refusals.{number_in, examine_told, read_told}
 use Rattle.refusals.proofs.Known.{before-room}
 use Rattle.terms.specs.declared.Terms.{Terms}
 use Rattle.examine.specs.declared.Reading.{Reading}
-use Rattle.reader.specs.declared.ReadAnswer.{ReadAnswer}
-use Rattle.reader.specs.declared.ReadAnswer.TheVariants.{Accepted, Refused}
 use Rattle.examine.specs.Examine.{Refuses, Accepts}
 use Rattle.packet.specs.Packet.{received, data_in}
-use Rattle.reader.specs.Reader.{ReadFault, ReadRefuses, Reads}
+use Rattle.reader.specs.Reader.{ReadAnswer, ReadFault, ReadRefuses, Reads}
 use Rattle.terms.specs.Terms.{MayMend, OnePacket, MayBeNamed}
 use Rattle.examine.proofs.ExamineOnce.{refuses-one, accepts-no-fault, accepts-one-text, accepts-one-reading, only-too-many, never-accepted}
 use Rattle.examine.proofs.Headers.{under}
@@ -76,13 +75,20 @@ module _ (terms : Terms) (packet : List ℕ) (room : ℕ) where
         let long = carried-long a.header a.allowed.framed.near a.format a.allowed.framed.typed text a.allowed.carries n f in
         omega (arith, long.0, long.1)
 
+-- as `?` answers it
+pub refused-on : (terms : Terms) (packet entry : List ℕ) (r : ExamineRefusal) → Refuses terms packet r → (answer : ReadAnswer)
+    → IsErrAnd answer (λ (s : ReadRefusal). s ≡ Packet r) → Reads terms packet entry answer entry
+refused-on terms packet entry r p (Ok reading) none = absurd none
+refused-on terms packet entry r p (Err s) same =
+    (subst⁻¹ (ReadRefuses terms packet (length entry)) same (refused-packet terms packet (length entry) r p), refl)
+
 -- where more bits are named than may be, the packet is refused for that, and nothing is read
 pub read-too-many : (terms : Terms) (packet entry : List ℕ) → (MayMend terms.mend → ⊥) → (answer : ReadAnswer) (exit : List ℕ)
-    → Reads terms packet entry answer exit → (answer ≡ Refused (Packet TooManyBits)) × (exit ≡ entry)
-read-too-many terms packet entry many (Accepted reading) exit (text, a, held, same) = absurd (never-accepted terms packet many reading text a)
-read-too-many terms packet entry many (Refused (Packet r)) exit (p, same) =
-    (ap (λ (s : ExamineRefusal). Refused (Packet s)) (only-too-many terms packet many r (packet-refused terms packet (length entry) r p)), same)
-read-too-many terms packet entry many (Refused (NoRoom n)) exit (p, same) = absurd (p.first (Packet TooManyBits) (before-room TooManyBits) many)
+    → Reads terms packet entry answer exit → (answer ≡ Err (Packet TooManyBits)) × (exit ≡ entry)
+read-too-many terms packet entry many (Ok reading) exit (text, a, held, same) = absurd (never-accepted terms packet many reading text a)
+read-too-many terms packet entry many (Err (Packet r)) exit (p, same) =
+    (ap (λ (s : ExamineRefusal). Err (Packet s)) (only-too-many terms packet many r (packet-refused terms packet (length entry) r p)), same)
+read-too-many terms packet entry many (Err (NoRoom n)) exit (p, same) = absurd (p.first (Packet TooManyBits) (before-room TooManyBits) many)
 
 -- one answer and one content, whatever number is named
 pub reads-one : (terms : Terms) → OnePacket terms.most → (packet entry : List ℕ) (a b : ReadAnswer) (x y : List ℕ)
@@ -90,14 +96,14 @@ pub reads-one : (terms : Terms) → OnePacket terms.most → (packet entry : Lis
 reads-one terms bytes packet entry a b x y p q = pick (dec_le terms.mend 2)
   where
     same : MayBeNamed terms → (a b : ReadAnswer) (x y : List ℕ) → Reads terms packet entry a x → Reads terms packet entry b y → (a ≡ b) × (x ≡ y)
-    same named (Accepted a) (Accepted b) x y (t, p, h, e) (u, q, k, f) = (
-      ap {B = ReadAnswer} Accepted (accepts-one-reading terms named packet a b t u p q),
+    same named (Ok a) (Ok b) x y (t, p, h, e) (u, q, k, f) = (
+      ap {B = ReadAnswer} Ok (accepts-one-reading terms named packet a b t u p q),
       e ∙ ap (λ (l : List ℕ). l ++ drop (length l) entry) (accepts-one-text terms named packet a b t u p q) ∙ sym f,
     )
-    same named (Accepted a) (Refused s) x y (t, p, h, e) (q, f) = absurd (reads-no-fault terms packet (length entry) named a t p h s q.fault)
-    same named (Refused r) (Accepted b) x y (p, e) (u, q, k, f) = absurd (reads-no-fault terms packet (length entry) named b u q k r p.fault)
-    same named (Refused r) (Refused s) x y (p, e) (q, f) =
-        (ap {B = ReadAnswer} Refused (read-refuses-one terms packet (length entry) named r s p q), e ∙ sym f)
+    same named (Ok a) (Err s) x y (t, p, h, e) (q, f) = absurd (reads-no-fault terms packet (length entry) named a t p h s q.fault)
+    same named (Err r) (Ok b) x y (p, e) (u, q, k, f) = absurd (reads-no-fault terms packet (length entry) named b u q k r p.fault)
+    same named (Err r) (Err s) x y (p, e) (q, f) =
+        (ap {B = ReadAnswer} Err (read-refuses-one terms packet (length entry) named r s p q), e ∙ sym f)
 
     pick : Dec (terms.mend ≤ 2) → (a ≡ b) × (x ≡ y)
     pick (yes bits) = same (record { bits = bits; bytes = bytes }) a b x y p q

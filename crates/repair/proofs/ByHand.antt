@@ -47,4 +47,4 @@ difference-by-hand h = sym (low-leave 31 h) ∙ left-difference h
 pub number-named : (place difference : ℕ) → place < 31 → difference < 2 ^ 10 → get_or entries difference 0 ≡ entry_for (place ∷ []) → number_of place ≡ difference
 unfolding number_of entry_for nothing
 number-named place difference below low e =
-    ((bits-told entries difference refl low (λ none. omega (arith, e, none))).account (2 ^ place) (sym (ap bits_named e ∙ one-named place below))).leaves
+    ((bits-told difference low (get_or entries difference 0) refl (λ none. omega (arith, e, none))).account (2 ^ place) (sym (ap bits_named e ∙ one-named place below))).leaves

@@ -1,4 +1,5 @@
 pub mod ByHand
 pub mod Entries
+pub mod Rule
 pub mod Told
 pub mod Unique

@@ -3,7 +3,7 @@
 use mathlib.Core.List.Memᴰ
 use mathlib.Core.List.{List, [], ◌∷◌, Memᴰ}
 use mathlib.Core.Logic.{◌⊎◌, inl, inr}
-use mathlib.Core.Path.{◌≡◌, refl, sym, ap, ap₂, ◌∙◌, subst}
+use mathlib.Core.Path.{◌≡◌, refl, sym, ap, ap₂, ◌∙◌, subst, subst⁻¹}
 use Prim.Native.Nat.{ℕ, ◌+◌, ◌*◌, ◌/◌, ◌%◌, ◌^◌, ◌≤◌, ◌<◌}
 use native.Mathlib.Nat.{mod-eq_of_lt, zero-add, add-zero}
 use native.Mathlib.Omega.{arith}
@@ -121,21 +121,16 @@ entry-says difference low =
 
 -- ---- in the code's terms
 
-module _ (table : List ℕ) (difference : ℕ) (rule : table ≡ entries) (low : difference < 2 ^ 10) where
-  entry : ℕ
-  entry = get_or table difference 0
-
+module _ (difference : ℕ) (low : difference < 2 ^ 10) (entry : ℕ) (is : entry ≡ get_or entries difference 0) where
   says : EntrySays difference entry
-  unfolding entry
-  says = subst (λ (t : List ℕ). EntrySays difference (get_or t difference 0)) (sym rule) (entry-says difference low)
+  says = subst⁻¹ (EntrySays difference) is (entry-says difference low)
 
   -- an entry that names bits is not the one that says there are none
   apart : (places : List ℕ) → Names entry places → entry ≡ nothing → ⊥
   unfolding nothing
   apart places n e = omega (arith, n.higher, e)
 
-  pub none_told : get_or table difference 0 ≡ nothing → (mask : ℕ) → Accounts difference mask → ⊥
-  unfolding entry
+  pub none_told : entry ≡ nothing → (mask : ℕ) → Accounts difference mask → ⊥
   none_told e = pick says
     where
       pick : EntrySays difference entry → (mask : ℕ) → Accounts difference mask → ⊥
@@ -143,12 +138,11 @@ module _ (table : List ℕ) (difference : ℕ) (rule : table ≡ entries) (low :
       pick (inr some) = absurd (apart some.0 some.1 e)
 
   pub record BitsTold : Type 0 where
-    pub higher : get_or table difference 0 / 100 < 32
-    pub lower : get_or table difference 0 % 100 < 32
-    pub account : (mask : ℕ) → mask ≡ bits_named (get_or table difference 0) → Accounts difference mask
+    pub higher : entry / 100 < 32
+    pub lower : entry % 100 < 32
+    pub account : (mask : ℕ) → mask ≡ bits_named entry → Accounts difference mask
 
-  pub bits-told : (get_or table difference 0 ≡ nothing → ⊥) → BitsTold
-  unfolding entry
+  pub bits-told : (entry ≡ nothing → ⊥) → BitsTold
   bits-told other = pick says
     where
       pick : EntrySays difference entry → BitsTold

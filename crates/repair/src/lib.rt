@@ -2,30 +2,14 @@
 
 #![tactic(auto)]
 
-ghost use Rattle.std.specs.Prelude.{◌≡◌, ◌+◌, ◌/◌, ◌%◌, ◌^◌, ◌≤◌, ◌<◌};
+ghost use Rattle.std.specs.Prelude.{◌≡◌, ◌+◌, ◌/◌, ◌%◌, ◌^◌, ◌≤◌, ◌<◌, slice_index};
 ghost use Rattle.repair.specs.Steps.Repair.{Repairs};
-ghost use Rattle.repair.specs.Table.{entries, HasRule};
+ghost use Rattle.repair.specs.Table.{entries};
 
 mod differences;
 
-// What accounts for a difference between the check bits worked out and those received.
-#[derive(Clone, Copy)]
-pub enum Cause {
-    // The bits to turn over, each a 1 at its place.
-    Bits(u32),
-    // No two bits, nor fewer.
-    Nothing,
-}
-
 // The entry of a difference for which there are no bits to be had.
 const NOTHING: u16 = 99_99;
-
-// The table, copied: each lookup in a constant would copy it.
-fn table() -> [u16; 1024]
-    ensures { HasRule result }
-{
-    differences::ENTRIES
-}
 
 // A word with a 1 at a place, or none where the place is the parity's.
 fn bit_at(place: u32) -> u32
@@ -35,27 +19,27 @@ fn bit_at(place: u32) -> u32
     (1u32 << place) % 0x8000_0000
 }
 
-// What the entry of a difference says.
-fn look_up(table: &[u16; 1024], difference: u32) -> Cause
-    requires { (table.now ≡ entries) × (difference < 2 ^ 10) }
-    ensures { Repairs difference result }
+// What the rule's entry of a difference is.
+fn entry_of(difference: u32) -> u16
+    requires { difference < 2 ^ 10 }
+    ensures { result ≡ slice_index entries difference }
 {
-    let entry = table[difference as usize];
-    if entry == NOTHING {
-        return Cause::Nothing;
-    }
-    let places = entry as u32;
-    Cause::Bits(bit_at(places / 100) + bit_at(places % 100))
+    differences::ENTRIES[difference as usize]
 }
 
-// The at most two bits that leave a difference. A header without one does not pay for the table.
-pub fn repair(difference: u32) -> Cause
+// The at most two bits that leave a difference, each a 1 at its place, as its entry says; none where no two bits leave it, nor fewer. A header without a
+// difference does not pay for the table.
+pub fn repair(difference: u32) -> Option<u32>
     requires { difference < 2 ^ 10 }
     ensures { Repairs difference result }
 {
     if difference == 0 {
-        return Cause::Bits(0);
+        return Some(0);
     }
-    let table = table();
-    look_up(&table, difference)
+    let entry = entry_of(difference);
+    if entry == NOTHING {
+        return None;
+    }
+    let places = entry as u32;
+    Some(bit_at(places / 100) + bit_at(places % 100))
 }

@@ -7,14 +7,13 @@ use mathlib.Core.Path.{◌≡◌, refl, sym, ap, subst, ◌∙◌}
 use Prim.Native.Nat.{ℕ, ◌≤◌}
 use native.Mathlib.Omega.{arith}
 use lib.ListN.{length, drop}
+use Rattle.std.specs.Prelude.{Ok, Err}
 use Rattle.codes.specs.Steps.Laid.{Fronted}
 use Rattle.codes.proofs.OneAnswer.{one-front}
-use Rattle.reader.specs.declared.ReadAnswer.{ReadAnswer}
-use Rattle.reader.specs.declared.ReadAnswer.TheVariants.{Accepted, Refused}
 use Rattle.refusals.specs.declared.ReadRefusal.{ReadRefusal}
 use Rattle.refusals.specs.declared.ReadRefusal.TheVariants.{Packet}
 use Rattle.refusals.specs.declared.ExamineRefusal.TheVariants.{NoHeader}
-use Rattle.reader.specs.Reader.{ReadRefuses, Reads}
+use Rattle.reader.specs.Reader.{ReadAnswer, ReadRefuses, Reads}
 use Rattle.terms.specs.Terms.{naming}
 use Rattle.reader.proofs.ReadOnce.{reads-one}
 use Rattle.lines.specs.Line.{decimal_in, decimal, spaced, line}
@@ -25,9 +24,9 @@ use Rattle.report.specs.Steps.Put.{PutsLine}
 -- another buffer of that length is answered alike
 alike : (packet entry entry' : List ℕ) (answer : ReadAnswer) (exit : List ℕ) → length entry ≡ length entry' → Reads (naming 2 false) packet entry answer exit
     → (exit' : List ℕ) × Reads (naming 2 false) packet entry' answer exit'
-alike packet entry entry' (Accepted reading) exit e (text, accepts, held, is) =
+alike packet entry entry' (Ok reading) exit e (text, accepts, held, is) =
     (text ++ drop (length text) entry', (text, accepts, subst (λ (n : ℕ). length text ≤ n) e held, refl))
-alike packet entry entry' (Refused refusal) exit e (refuses, is) =
+alike packet entry entry' (Err refusal) exit e (refuses, is) =
     (entry', (subst (λ (n : ℕ). ReadRefuses (naming 2 false) packet n refusal) e refuses, refl))
 
 pub one_line : {packet a b : List ℕ} → Prints packet a → Prints packet b → a ≡ b
@@ -44,20 +43,20 @@ puts_one {packet} {out} {out'} {out''} {r} {s} p q =
 
 -- for every text buffer
 pub prints-refused : {packet printed : List ℕ} (refusal : ReadRefusal) → ((room : ℕ) → ReadRefuses (naming 2 false) packet room refusal) → Prints packet printed
-    → printed ≡ line_of (Refused refusal)
+    → printed ≡ line_of (Err refusal)
 prints-refused {packet} refusal refuses p =
     one_line p
     (record {
       entry = p.entry;
       exit = p.entry;
-      answer = Refused refusal;
+      answer = Err refusal;
       lent = p.lent;
       reads = (refuses (length p.entry), refl);
       is = refl;
     })
 
 -- `refused 2` and a newline: the line of P6
-pub refused-two : line_of (Refused (Packet NoHeader))
+pub refused-two : line_of (Err (Packet NoHeader))
     ≡ 114 ∷ 101 ∷ 102 ∷ 117 ∷ 115 ∷ 101 ∷ 100 ∷ 32 ∷ 50 ∷ 10 ∷ []
 unfolding decimal_in decimal spaced line
 refused-two = refl

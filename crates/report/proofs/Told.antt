@@ -6,15 +6,13 @@ use mathlib.Core.Path.{◌≡◌, refl, sym, ap, ap₂, ◌∙◌, subst, subst�
 use Prim.Native.Nat.{ℕ, ◌+◌, ◌≤◌}
 use native.Mathlib.Omega.{arith}
 use lib.ListN.{length, length-append}
+use Rattle.std.specs.Prelude.{Ok, Err}
 use Rattle.header.specs.Fields.{one_if}
 use Rattle.header.specs.Formats.{format_number}
-use Rattle.codes.specs.Steps.Laid.{Fronted}
 use Rattle.examine.specs.declared.Reading.{Reading}
 use Rattle.refusals.specs.declared.ReadRefusal.{ReadRefusal}
-use Rattle.reader.specs.declared.ReadAnswer.{ReadAnswer}
-use Rattle.reader.specs.declared.ReadAnswer.TheVariants.{Accepted, Refused}
 use Rattle.refusals.specs.Refusals.{number_in, read_told}
-use Rattle.reader.specs.Reader.{Reads}
+use Rattle.reader.specs.Reader.{ReadAnswer, Reads}
 use Rattle.terms.specs.Terms.{most_at}
 use Rattle.lines.specs.Line.{refused, decimal, decimals, hexadecimal, spaced, line}
 use Rattle.lines.specs.Steps.Put.{room, PutsRow}
@@ -22,7 +20,7 @@ use Rattle.lines.proofs.Decimal.{spaced-within, hexadecimal-length}
 use Rattle.lines.proofs.Putting.{Still, still-all, piece-held, still-next}
 use Rattle.lines.proofs.Told.{spaced-append}
 use Rattle.report.specs.Line.{ok, line_of}
-use Rattle.report.specs.Steps.Put.{PutsLine}
+use Rattle.report.specs.Report.{Prints}
 
 -- a piece in front of others
 fore : {n m : List ℕ} {rest rest' : List (List ℕ)} → n ≡ m → rest ≡ rest' → n ∷ rest ≡ m ∷ rest'
@@ -41,7 +39,7 @@ module _ (format sync mended mask long count : ℕ) where
   whole = line ok (decimal format ∷ decimal sync ∷ decimal mended ∷ hexadecimal mask ∷ decimal long ∷ decimal count ∷ [])
 
   pub told-accepted : (reading : Reading) → format ≡ format_number reading.format → sync ≡ one_if reading.sync → mended ≡ reading.mended
-      → mask ≡ reading.mask → long ≡ reading.data_length → count ≡ reading.text_length → whole ≡ line_of (Accepted reading)
+      → mask ≡ reading.mask → long ≡ reading.data_length → count ≡ reading.text_length → whole ≡ line_of (Ok reading)
   told-accepted reading f s m k l c =
       ap (line ok)
       (fore (ap decimal f) (fore (ap decimal s) (fore (ap decimal m) (fore (ap hexadecimal k) (fore (ap decimal l) (fore (ap decimal c) refl))))))
@@ -95,25 +93,19 @@ module _ (format sync mended mask long count : ℕ) where
           pub behind-lengths : Still whole entry 0 (10 ∷ []) last end
           behind-lengths = still-next (spaced (decimals lengths)) (10 ∷ []) behind-mask w
 
-pub told-refused : (refusal : ReadRefusal) (number : ℕ) → number ≡ number_in (read_told refusal) → line refused (decimal number ∷ []) ≡ line_of (Refused refusal)
+pub told-refused : (refusal : ReadRefusal) (number : ℕ) → number ≡ number_in (read_told refusal) → line refused (decimal number ∷ []) ≡ line_of (Err refusal)
 told-refused refusal number e = ap (λ (n : ℕ). line refused (decimal n ∷ [])) e
 
 -- ---- a packet's line
 
-pub reported : {packet out out' : List ℕ} {r : ℕ} (entry exit : List ℕ) (answer : ReadAnswer) (long mend most : ℕ)
-    → Reads (record { mend = mend; most = most }) packet entry answer exit → mend ≡ 2 → most ≡ most_at false
-    → Fronted (line_of answer) out out' long → length entry ≡ 65536 → r ≡ long → PutsLine packet out out' r
-reported {packet} {out} {out'} {r} entry exit answer long mend most reads named at-300 fronted lent e =
+pub reported : {packet : List ℕ} (entry exit : List ℕ) (answer : ReadAnswer) (mend most : ℕ) → Reads (record { mend = mend; most = most }) packet entry answer exit
+    → mend ≡ 2 → most ≡ most_at false → length entry ≡ 65536 → Prints packet (line_of answer)
+reported {packet} entry exit answer mend most reads named at-300 lent =
     record {
-      line = line_of answer;
-      prints =
-          record {
-            entry = entry;
-            exit = exit;
-            answer = answer;
-            lent = lent;
-            reads = subst₂ (λ (m n : ℕ). Reads (record { mend = m; most = n }) packet entry answer exit) named at-300 reads;
-            is = refl;
-          };
-      front = subst (λ (n : ℕ). Fronted (line_of answer) out out' n) (sym e) fronted;
+      entry = entry;
+      exit = exit;
+      answer = answer;
+      lent = lent;
+      reads = subst₂ (λ (m n : ℕ). Reads (record { mend = m; most = n }) packet entry answer exit) named at-300 reads;
+      is = refl;
     }

@@ -2,8 +2,7 @@
 -- text buffer of 65,536 bytes, whatever these bytes are.
 -- Assumes nothing.
 use Rattle.std.specs.Prelude.{false, ◌≡◌, List, ℕ, length}
-use Rattle.reader.specs.declared.ReadAnswer.{ReadAnswer}
-use Rattle.reader.specs.Reader.{Reads}
+use Rattle.reader.specs.Reader.{ReadAnswer, Reads}
 use Rattle.terms.specs.Terms.{naming}
 use Rattle.report.specs.Line.{line_of}
 

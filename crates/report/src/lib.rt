@@ -2,16 +2,17 @@
 
 #![tactic(auto)]
 
-ghost use Rattle.std.specs.Prelude.{◌≤◌, length};
-ghost use Rattle.reader.specs.declared.ReadAnswer.TheVariants.{Accepted};
+ghost use Rattle.std.specs.Prelude.{◌≤◌, length, Ok, Some};
 ghost use Rattle.codes.specs.Steps.Laid.{Fronted};
 ghost use Rattle.lines.specs.Steps.Put.{room};
 ghost use Rattle.report.specs.Line.{line_of};
+ghost use Rattle.report.specs.Report.{Prints};
 ghost use Rattle.report.specs.Steps.Put.{PutsLine};
 
 use examine::Reading;
 use header::Header;
 use reader::ReadAnswer;
+use std::fmt;
 
 // The header bits to mend at most, the rate, which is 300 bps, and the room for the text (RULES, Reading program).
 const MEND: u32 = 2;
@@ -20,10 +21,53 @@ const RATE_1200: bool = false;
 
 const TEXT: usize = 65536;
 
+// An answer of the reader, which is printed as its line, with the line's end.
+#[derive(Clone, Copy)]
+pub struct Report(pub ReadAnswer);
+
+impl fmt::Display for Report {
+    ghost output = { λ report. Some (line_of report.0) };
+
+    fn fmt<W: fmt::Write>(&self, f: &mut fmt::Formatter<W>) -> fmt::Result {
+        let Report(answer) = *self;
+        match answer {
+            Ok(reading) => {
+                let Reading {
+                    format,
+                    sync,
+                    mended,
+                    mask,
+                    data_length,
+                    text_length,
+                    ..
+                } = reading;
+                let format = Header::number(format);
+                let sync = u32::from(sync);
+                writeln!(
+                    f,
+                    "ok {format} {sync} {mended} {mask:08X} {data_length} {text_length}"
+                )
+            }
+            Err(refusal) => {
+                let number = refusal.number();
+                writeln!(f, "refused {number}")
+            }
+        }
+    }
+}
+
+// What the reading program reports of the packet at the front of a slice.
+pub fn of_packet(packet: &[u8]) -> Report
+    ensures { Prints packet.now (line_of result.0) }
+{
+    let mut text = [0u8; TEXT];
+    Report(reader::read_mending(MEND, RATE_1200, packet, &mut text))
+}
+
 // The line of a packet that was read, at the front of `out`.
 fn put_reading(reading: Reading, out: &mut [u8]) -> usize
     requires { room ≤ length out.old }
-    ensures { Fronted (line_of (Accepted reading)) out.old out.new result }
+    ensures { Fronted (line_of (Ok reading)) out.old out.new result }
 {
     let format = reading.format;
     let counts = [
@@ -43,8 +87,8 @@ pub fn line(answer: ReadAnswer, out: &mut [u8]) -> usize
     ensures { Fronted (line_of answer) out.old out.new result }
 {
     match answer {
-        ReadAnswer::Accepted(reading) => put_reading(reading, out),
-        ReadAnswer::Refused(refusal) => lines::put_refused(refusal.number() as usize, out),
+        Ok(reading) => put_reading(reading, out),
+        Err(refusal) => lines::put_refused(refusal.number() as usize, out),
     }
 }
 
@@ -53,9 +97,6 @@ pub fn packet_line(packet: &[u8], out: &mut [u8]) -> usize
     requires { room ≤ length out.old }
     ensures { PutsLine packet.now out.old out.new result }
 {
-    let mut text = [0u8; TEXT];
-    line(
-        reader::read_mending(MEND, RATE_1200, packet, &mut text),
-        out,
-    )
+    let Report(answer) = of_packet(packet);
+    line(answer, out)
 }

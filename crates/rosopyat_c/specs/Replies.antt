@@ -1,24 +1,18 @@
 -- The answers of reading and judging as plain structs: `refusal` is its number (RULES, Refusals), 0 where the call is accepted; `number` and `codes` come with it; and
 -- every member that a refusal does not name is 0.
 -- Assumes nothing.
-use Rattle.std.specs.Prelude.{List, ◌≡◌, ℕ}
+use Rattle.std.specs.Prelude.{List, ◌≡◌, ℕ, Ok, Err, Option, Some, None}
 use Rattle.header.specs.Fields.{one_if}
 use Rattle.header.specs.Formats.{format_number}
-use Rattle.apart.specs.declared.Comparison.{Comparison}
-use Rattle.apart.specs.declared.Comparison.TheVariants.{AsOurs, Departs}
-use Rattle.judge.specs.declared.JudgeAnswer.{JudgeAnswer}
-use Rattle.judge.specs.declared.JudgeAnswer.TheVariants.{Judged, Refused as NotJudged}
-use Rattle.judge.specs.Judge.{Judges}
-use Rattle.reader.specs.declared.ReadAnswer.{ReadAnswer}
-use Rattle.reader.specs.declared.ReadAnswer.TheVariants.{Accepted, Refused}
+use Rattle.judge.specs.Judge.{JudgeAnswer, Judges}
 use Rattle.refusals.specs.Refusals.{number_in, value_in, codes_told, examine_told, read_told}
-use Rattle.reader.specs.Reader.{Reads}
+use Rattle.reader.specs.Reader.{ReadAnswer, Reads}
 use Rattle.terms.specs.declared.Terms.{Terms}
 use Rattle.rosopyat_c.specs.declared.JudgeReply.{JudgeReply}
 use Rattle.rosopyat_c.specs.declared.ReadReply.{ReadReply}
 
 abbrev pub read_reply : ReadAnswer → ReadReply
-read_reply (Accepted reading) =
+read_reply (Ok reading) =
     record {
       refusal = 0;
       number = 0;
@@ -31,7 +25,7 @@ read_reply (Accepted reading) =
       text_length = reading.text_length;
       used = reading.used;
     }
-read_reply (Refused refusal) =
+read_reply (Err refusal) =
     record {
       refusal = number_in (read_told refusal);
       number = value_in (read_told refusal);
@@ -52,25 +46,25 @@ pub record RepliesToRead (terms : Terms) (packet entry : List ℕ) (reply : Read
   pub is : reply ≡ read_reply answer
 
 -- as ours: 1 or 0; and the bit at which the data departs from ours, 0 where it does not
-abbrev pub as_ours : Comparison → ℕ
-as_ours AsOurs = 1
-as_ours (Departs bit) = 0
+abbrev pub as_ours : Option ℕ → ℕ
+as_ours None = 1
+as_ours (Some bit) = 0
 
-abbrev pub departs_at : Comparison → ℕ
-departs_at AsOurs = 0
-departs_at (Departs bit) = bit
+abbrev pub departs_at : Option ℕ → ℕ
+departs_at None = 0
+departs_at (Some bit) = bit
 
 abbrev pub judge_reply : JudgeAnswer → JudgeReply
-judge_reply (Judged judgement) =
+judge_reply (Ok judgement) =
     record {
       refusal = 0;
       number = 0;
       codes = 0;
-      as_ours = as_ours judgement.comparison;
-      departs_at = departs_at judgement.comparison;
+      as_ours = as_ours judgement.departs_at;
+      departs_at = departs_at judgement.departs_at;
       more = judgement.more;
     }
-judge_reply (NotJudged refusal) =
+judge_reply (Err refusal) =
     record {
       refusal = number_in (examine_told refusal);
       number = value_in (examine_told refusal);

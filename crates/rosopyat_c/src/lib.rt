@@ -5,10 +5,8 @@
 ghost use Rattle.std.specs.Prelude.{◌≡◌};
 ghost use Rattle.terms.specs.Terms.{naming, usual};
 ghost use Rattle.writer_for_c.specs.Replies.{RepliesToWrite};
-ghost use Rattle.judge.specs.declared.JudgeAnswer.TheVariants.{Judged};
 ghost use Rattle.rosopyat_c.specs.Replies.{read_reply, judge_reply, RepliesToRead, RepliesToJudge};
 
-use apart::{Comparison, Judgement};
 use header::Header;
 use judge::JudgeAnswer;
 use reader::ReadAnswer;
@@ -30,17 +28,15 @@ pub struct ReadReply {
     pub used: usize,
 }
 
-// The reader's answer as a plain struct.
-fn reply(answer: ReadAnswer) -> ReadReply
-    ensures { result ≡ read_reply answer }
-{
-    match answer {
-        ReadAnswer::Accepted(reading) => {
-            let format = reading.format;
-            ReadReply {
+impl From<ReadAnswer> for ReadReply {
+    ghost from_gives = { λ answer reply. reply ≡ read_reply answer };
+
+    fn from(answer: ReadAnswer) -> Self {
+        match answer {
+            Ok(reading) => ReadReply {
                 refusal: 0,
                 number: 0,
-                format: Header::number(format),
+                format: Header::number(reading.format),
                 sync: header::one_if(reading.sync),
                 mended: reading.mended,
                 mask: reading.mask,
@@ -48,20 +44,20 @@ fn reply(answer: ReadAnswer) -> ReadReply
                 data_length: reading.data_length,
                 text_length: reading.text_length,
                 used: reading.used,
-            }
+            },
+            Err(refusal) => ReadReply {
+                refusal: refusal.number(),
+                number: refusal.value(),
+                format: 0,
+                sync: 0,
+                mended: 0,
+                mask: 0,
+                codes: refusal.codes(),
+                data_length: 0,
+                text_length: 0,
+                used: 0,
+            },
         }
-        ReadAnswer::Refused(refusal) => ReadReply {
-            refusal: refusal.number(),
-            number: refusal.value(),
-            format: 0,
-            sync: 0,
-            mended: 0,
-            mask: 0,
-            codes: refusal.codes(),
-            data_length: 0,
-            text_length: 0,
-            used: 0,
-        },
     }
 }
 
@@ -77,45 +73,28 @@ pub struct JudgeReply {
     pub more: usize,
 }
 
-// A judgement as a plain struct.
-fn judgement_reply(judgement: Judgement) -> JudgeReply
-    ensures { result ≡ judge_reply (Judged judgement) }
-{
-    let comparison = judgement.comparison;
-    match comparison {
-        Comparison::AsOurs => JudgeReply {
-            refusal: 0,
-            number: 0,
-            codes: 0,
-            as_ours: 1,
-            departs_at: 0,
-            more: judgement.more,
-        },
-        Comparison::Departs(bit) => JudgeReply {
-            refusal: 0,
-            number: 0,
-            codes: 0,
-            as_ours: 0,
-            departs_at: bit,
-            more: judgement.more,
-        },
-    }
-}
+impl From<JudgeAnswer> for JudgeReply {
+    ghost from_gives = { λ answer reply. reply ≡ judge_reply answer };
 
-// The answer of judging as a plain struct.
-fn judge_reply(answer: JudgeAnswer) -> JudgeReply
-    ensures { result ≡ judge_reply answer }
-{
-    match answer {
-        JudgeAnswer::Judged(judgement) => judgement_reply(judgement),
-        JudgeAnswer::Refused(refusal) => JudgeReply {
-            refusal: refusal.number(),
-            number: refusal.value(),
-            codes: refusal.codes(),
-            as_ours: 0,
-            departs_at: 0,
-            more: 0,
-        },
+    fn from(answer: JudgeAnswer) -> Self {
+        match answer {
+            Ok(judgement) => JudgeReply {
+                refusal: 0,
+                number: 0,
+                codes: 0,
+                as_ours: header::one_if(judgement.departs_at.is_none()),
+                departs_at: judgement.departs_at.unwrap_or(0),
+                more: judgement.more,
+            },
+            Err(refusal) => JudgeReply {
+                refusal: refusal.number(),
+                number: refusal.value(),
+                codes: refusal.codes(),
+                as_ours: 0,
+                departs_at: 0,
+                more: 0,
+            },
+        }
     }
 }
 
@@ -128,14 +107,14 @@ pub extern "C" fn rosopyat_read_mending(
 ) -> ReadReply
     ensures { RepliesToRead (naming mend rate_1200) packet.now text.old result text.new }
 {
-    reply(reader::read_mending(mend, rate_1200, packet, text))
+    reader::read_mending(mend, rate_1200, packet, text).into()
 }
 
 #[unsafe(no_mangle)]
 pub extern "C" fn rosopyat_read(rate_1200: bool, packet: &[u8], text: &mut [u8]) -> ReadReply
     ensures { RepliesToRead (usual rate_1200) packet.now text.old result text.new }
 {
-    reply(reader::read(rate_1200, packet, text))
+    reader::read(rate_1200, packet, text).into()
 }
 
 // As for loggers.
@@ -156,5 +135,5 @@ pub extern "C" fn rosopyat_write(
 pub extern "C" fn rosopyat_judge(mend: u32, rate_1200: bool, packet: &[u8]) -> JudgeReply
     ensures { RepliesToJudge (naming mend rate_1200) packet.now result }
 {
-    judge_reply(judge::judge(mend, rate_1200, packet))
+    judge::judge(mend, rate_1200, packet).into()
 }

@@ -10,10 +10,8 @@ pub fn copy(row: &[u8], out: &mut [u8]) -> usize
     ensures value { result ≡ length row.now }
     ensures after { out.new ≡ take (length row.now) row.now ++ drop (length row.now) out.old }
 {
-    let mut i: usize = 0;
-    while i < row.len() {
-        out[i] = row[i];
-        i += 1;
+    for (i, byte) in row.iter().enumerate() {
+        out[i] = *byte;
     }
-    i
+    row.len()
 }

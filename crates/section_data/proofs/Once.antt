@@ -5,8 +5,7 @@ use mathlib.Core.Path.{◌≡◌, sym, subst}
 use Prim.Native.Nat.{ℕ, ◌≤◌}
 use lib.ListN.{length}
 use Rattle.header.specs.declared.Format.{Format}
-use Rattle.codes.specs.Steps.Measure.{TakesApart}
-use Rattle.codes.specs.declared.Outcome.{Outcome}
+use Rattle.codes.specs.Steps.Measure.{Outcome, TakesApart}
 use Rattle.formats.specs.Data.{CarriesIn, UnreadableAfter}
 use Rattle.formats.specs.Steps.Text.{PutsText}
 use Rattle.formats.proofs.Once as once

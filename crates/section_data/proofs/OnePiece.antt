@@ -2,15 +2,14 @@
 -- Assumes nothing.
 use mathlib.Core.List.{List, ◌++◌}
 use mathlib.Core.Path.{◌≡◌, refl, sym, ap, ap₂, subst, subst₂, ◌∙◌}
-use Prim.Native.Nat.{ℕ, zero, suc, ◌-◌, ◌≤◌, ◌<◌}
+use Prim.Native.Nat.{ℕ, zero, suc, ◌≤◌, ◌<◌}
 use native.Mathlib.Omega.{arith}
 use lib.ListN.{length, take, drop}
-use lib.Seq.{take_at, take-length}
+use lib.Seq.{take-length}
 use Rattle.header.specs.declared.Format.{Format}
 use Rattle.header.specs.declared.Format.TheVariants.{Open}
-use Rattle.codes.specs.Steps.Measure.{countable, TakesApart}
-use Rattle.codes.specs.declared.Outcome.{Outcome}
-use Rattle.codes.specs.declared.Outcome.TheVariants.{Text}
+use Rattle.codes.specs.Steps.Measure.{Outcome, extent, countable, TakesApart}
+use Rattle.std.specs.Prelude.{Ok}
 use Rattle.formats.specs.Data.{CarriesIn, UnreadableAfter}
 use Rattle.formats.specs.Steps.Text.{HasRoom, PutsText}
 use Rattle.formats.proofs.OpenData.{open-measures, open-room, open-text}
@@ -35,33 +34,24 @@ module _ (n : ℕ) (came piece : List ℕ) (is : piece ≡ joined n came) where
 -- ---- the pieces
 
 -- the only section, as a part of what came
-pub part-is : (n : ℕ) (came : List ℕ) → n ≤ 4000 → take (n - 0) came ≡ joined n came
+pub part-is : (n : ℕ) (came : List ℕ) → n ≤ 4000 → take n came ≡ joined n came
 unfolding joined in_turn
 part-is zero came few = refl
-part-is (suc n) came few =
-    ap (λ (m : ℕ). take m came) (let same : suc n - 0 ≡ suc n = omega arith in same) ∙ sym (one-joined (suc n) came (omega arith) few)
+part-is (suc n) came few = sym (one-joined (suc n) came (omega arith) few)
 
-pub part-long : (n : ℕ) (came : List ℕ) → sent_length n ≤ length came → n ≤ 4000 → length (take (n - 0) came) ≡ n
+pub part-long : (n : ℕ) (came : List ℕ) → sent_length n ≤ length came → n ≤ 4000 → length (take n came) ≡ n
 part-long n came whole few = ap length (part-is n came few) ∙ joined_length n came whole
 
 -- and copied to the front of a buffer
 pub part-copied : (n : ℕ) (came : List ℕ) → sent_length n ≤ length came → n ≤ 4000 → (entry exit : List ℕ) (r : ℕ)
-    → (let part = take (n - 0) came in r ≡ length part × (exit ≡ take (length part) part ++ drop (length part) entry))
+    → (let part = take n came in r ≡ length part × (exit ≡ take (length part) part ++ drop (length part) entry))
     → (r ≡ n) × (exit ≡ joined n came ++ drop n entry)
 part-copied n came whole few entry exit r (size, put) =
     let long = part-long n came whole few in (
       size ∙ long,
       put
-          ∙ ap₂ (λ (l : List ℕ) (m : ℕ). l ++ drop m entry) (take-length (take (n - 0) came) ∙ part-is n came few) long,
+          ∙ ap₂ (λ (l : List ℕ) (m : ℕ). l ++ drop m entry) (take-length (take n came) ∙ part-is n came few) long,
     )
-
--- all sections, joined at the front of a buffer
-module _ (n : ℕ) (came : List ℕ) (whole : sent_length n ≤ length came) (zeros buffer : List ℕ) (joins : buffer ≡ joined n came ++ drop n zeros) where
-  pub front-is : take (n - 0) buffer ≡ joined n came
-  front-is = ap (take (n - 0)) joins ∙ take_at (joined n came) (drop n zeros) (n - 0) (omega (arith, joined_length n came whole))
-
-  pub front_long : length (take (n - 0) buffer) ≡ n
-  front_long = ap length front-is ∙ joined_length n came whole
 
 -- ---- open data, which is the text: no piece is asked for. Each number of the answer stands with what it must be, so that a wrong one is refused where it stands
 
@@ -70,7 +60,7 @@ module _ (format : Format) (told : format ≡ Open) (n : ℕ) (came : List ℕ) 
   long = joined_length n came whole
 
   pub open-apart : n < countable → (text codes : ℕ) → text ≡ n → codes ≡ 0
-      → TakesApart (CarriesIn format (joined n came)) (UnreadableAfter format (joined n came)) n (Text text codes)
+      → TakesApart (CarriesIn format (joined n came)) (UnreadableAfter format (joined n came)) n (Ok (extent text codes))
   open-apart counted text codes e d = (counted, open-measures format told (joined n came) text codes (e ∙ sym long) d)
 
   pub open-fits : (r : ℕ) → HasRoom format (joined n came) r → n ≤ r

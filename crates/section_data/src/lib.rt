@@ -9,8 +9,8 @@ ghost use Rattle.formats.specs.Data.{CarriesIn, UnreadableAfter};
 ghost use Rattle.formats.specs.Steps.Text.{HasRoom, PutsText};
 ghost use Rattle.sections.specs.Sections.{sent_length, joined};
 
-use codes::Outcome;
-use header::{Format, Header};
+use codes::{Extent, Outcome};
+use header::Format;
 use sections::Section;
 
 // Several sections taken apart.
@@ -20,7 +20,7 @@ fn take_apart_joined(format: Format, n: usize, came: &[u8]) -> Outcome
 {
     let mut data = [0u8; Section::ALL];
     sections::join(n, came, &mut data);
-    formats::take_apart(format, &data[0..n])
+    formats::take_apart(format, &data[..n])
 }
 
 // The n data bytes that came in sections taken apart.
@@ -28,13 +28,16 @@ pub fn take_apart(format: Format, n: usize, came: &[u8]) -> Outcome
     requires { (n ≤ 16000) × (sent_length n ≤ length came.now) }
     ensures { TakesApart (CarriesIn format (joined n came.now)) (UnreadableAfter format (joined n came.now)) n result }
 {
-    if Header::number(format) == Header::OPEN {
-        return Outcome::Text(n, 0);
+    if format == Format::Open {
+        return Ok(Extent {
+            characters: n,
+            codes: 0,
+        });
     }
     if Section::MOST < n {
         return take_apart_joined(format, n, came);
     }
-    formats::take_apart(format, &came[0..n])
+    formats::take_apart(format, &came[..n])
 }
 
 // Open data, which is the text, at the front of the buffer; its length.
@@ -46,7 +49,7 @@ fn put_open(n: usize, came: &[u8], out: &mut [u8]) -> usize
         sections::join(n, came, out);
         return n;
     }
-    rows::copy(&came[0..n], out)
+    rows::copy(&came[..n], out)
 }
 
 // The text of several sections, at the front of the buffer; its length.
@@ -56,7 +59,7 @@ fn put_text_joined(format: Format, n: usize, came: &[u8], out: &mut [u8]) -> usi
 {
     let mut data = [0u8; Section::ALL];
     sections::join(n, came, &mut data);
-    formats::put_text(format, &data[0..n], out)
+    formats::put_text(format, &data[..n], out)
 }
 
 // The text of the n data bytes that came in sections, at the front of the buffer; its length.
@@ -64,11 +67,11 @@ pub fn put_text(format: Format, n: usize, came: &[u8], out: &mut [u8]) -> usize
     requires { (n ≤ 16000) × (sent_length n ≤ length came.now) × HasRoom format (joined n came.now) (length out.old) }
     ensures { PutsText format (joined n came.now) out.old out.new result }
 {
-    if Header::number(format) == Header::OPEN {
+    if format == Format::Open {
         return put_open(n, came, out);
     }
     if Section::MOST < n {
         return put_text_joined(format, n, came, out);
     }
-    formats::put_text(format, &came[0..n], out)
+    formats::put_text(format, &came[..n], out)
 }

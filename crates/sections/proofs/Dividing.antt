@@ -4,7 +4,7 @@ use mathlib.Core.List.{List, ◌++◌, append_assoc}
 use mathlib.Core.Path.{◌≡◌, refl, sym, ap, ap₂, ◌∙◌}
 use Prim.Native.Nat.{ℕ, suc, ◌+◌, ◌-◌, ◌*◌, ◌<◌, ◌≤◌, min}
 use native.Mathlib.Omega.{arith}
-use lib.ListN.{length, take, drop, length-append, length-drop, take-append-drop}
+use lib.ListN.{length, take, drop, length-append, length-drop}
 use lib.Seq.{take_at, take_all, take-append-le, take-take, take-add, drop_at, drop-drop, drop-append-le, length-take-le}
 use Rattle.checksum.specs.Checksum.{checksum_bytes}
 use Rattle.checksum.proofs.Row.{checksum-bytes-length}
@@ -12,15 +12,6 @@ use Rattle.sections.specs.Sections.{section_count, sent_length, in_turn, section
 use Rattle.sections.proofs.Found.{section-length}
 use Rattle.sections.proofs.Moving.{within}
 use Rattle.sections.proofs.Turns.{no-turns, turns-alike, turns-from}
-
--- the first section stands where it is sent
-pub first-stays : (n k : ℕ) (s : List ℕ) → k ≡ 0 → s ≡ take (k * 4002) s ++ (take (size_of n k) (drop (k * 4000) s) ++ drop (k * 4002 + size_of n k) s)
-first-stays n k s none =
-    sym
-    (ap₂ (λ (a b : ℕ). take a s ++ (take (size_of n k) (drop b s) ++ drop (a + size_of n k) s)) (let z : k * 4002 ≡ 0 = omega arith in z)
-    (let z : k * 4000 ≡ 0 = omega arith in z)
-    ∙ ap (λ (m : ℕ). take (size_of n k) s ++ drop m s) (let z : 0 + size_of n k ≡ size_of n k = omega arith in z)
-    ∙ take-append-drop (size_of n k) s)
 
 -- nothing gets longer by moving a section
 pub as_long : (n k : ℕ) (body one : List ℕ) → k < section_count n → sent_length n ≤ length body

@@ -5,7 +5,7 @@ use mathlib.Core.Path.{◌≡◌, refl, sym, ap, ap₂, ◌∙◌}
 use Prim.Native.Nat.{ℕ, zero, suc, ◌+◌, ◌<◌, ◌≤◌}
 use native.Mathlib.Numerals.{add-one}
 use native.Mathlib.Omega.{arith}
-use lib.ListN.{length, take, drop, get_or, set, length-append, length-drop, take-append-drop, drop_of_length-le}
+use lib.ListN.{length, take, drop, get_or, set, length-append, length-drop, take-append-drop}
 use lib.Seq.{take-append-le, take-take, drop_at, drop-cons, drop-drop, drop-append-le, get_or-drop, set_split, sets-eq, length-take-le}
 use Rattle.sections.specs.Steps.Moved.{moved_up}
 
@@ -74,11 +74,6 @@ module _ (s : List ℕ) (from to count : ℕ) (up : from ≤ to) (room : to + co
 
   row-length : length (take count (drop from s)) ≡ count
   row-length = length-take-le count (drop from s) (omega (arith, length-drop from s))
-
-  pub none-moved : s ≡ moved count
-  none-moved =
-      sym (take-append-drop (to + count) s)
-      ∙ ap (λ (l : List ℕ). take (to + count) s ++ (l ++ drop (to + count) s)) (sym (drop_of_length-le (take count (drop from s)) {i = count} (omega (arith, row-length))))
 
   pub moved-next : (left next few : ℕ) → left ≡ next + few → left ≤ count → (body after : List ℕ) → body ≡ moved left
       → after ≡ take (to + next) body ++ (take few (drop (from + next) body) ++ drop (to + next + few) body) → after ≡ moved next

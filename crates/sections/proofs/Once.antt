@@ -5,8 +5,7 @@ use mathlib.Core.Path.{◌≡◌, refl, ap}
 use Prim.Native.Nat.{ℕ, ◌<◌}
 use native.Mathlib.Decide.{dec_lt}
 use native.Mathlib.Omega.{arith}
-use Rattle.sections.specs.declared.Sums.{Sums}
-use Rattle.sections.specs.declared.Sums.TheVariants.{Right, Wrong}
+use Rattle.std.specs.Prelude.{Option, Some, None}
 use Rattle.sections.specs.Sections.{RightSums, FirstWrong}
 use Rattle.sections.specs.Steps.Sums.{Judges}
 
@@ -22,8 +21,8 @@ module _ (n : ℕ) (came : List ℕ) where
       pick (no ge) (yes lt) = absurd (g.wrong (f.before k lt))
       pick (no ge) (no le) = omega arith
 
-  pub judges-one : (a b : Sums) → Judges n came a → Judges n came b → a ≡ b
-  judges-one Right Right p q = refl
-  judges-one Right (Wrong k) p q = absurd (never_both k p q)
-  judges-one (Wrong j) Right p q = absurd (never_both j q p)
-  judges-one (Wrong j) (Wrong k) p q = ap {B = Sums} Wrong (one-wrong j k p q)
+  pub judges-one : (a b : Option ℕ) → Judges n came a → Judges n came b → a ≡ b
+  judges-one None None p q = refl
+  judges-one None (Some k) p q = absurd (never_both k p q)
+  judges-one (Some j) None p q = absurd (never_both j q p)
+  judges-one (Some j) (Some k) p q = ap {B = Option ℕ} Some (one-wrong j k p q)

@@ -9,15 +9,8 @@ ghost use Rattle.sections.specs.Sections.{section_count, sent_length, size_of, i
 ghost use Rattle.sections.specs.Steps.Moved.{moved_up};
 ghost use Rattle.sections.specs.Steps.Sums.{Judges};
 
-// The checksums of all sections: right, or the first section whose is not.
-#[derive(Clone, Copy)]
-pub enum Sums {
-    Right,
-    Wrong(usize),
-}
-
 // How many bytes sections have.
-#[derive(Clone, Copy)]
+#[derive(Clone, Copy, Debug, PartialEq, Eq)]
 pub struct Section;
 
 impl Section {
@@ -36,7 +29,7 @@ pub fn count(n: usize) -> usize
     requires { n < 2 ^ 14 }
     ensures { result ≡ section_count n }
 {
-    (n + (Section::MOST - 1)) / Section::MOST
+    n.div_ceil(Section::MOST)
 }
 
 // How many data bytes section k has.
@@ -44,28 +37,22 @@ fn size(n: usize, k: usize) -> usize
     requires { (n < 2 ^ 14) × (k < section_count n) }
     ensures { result ≡ size_of n k }
 {
-    let left = n - k * Section::MOST;
-    if Section::MOST < left {
-        return Section::MOST;
-    }
-    left
+    (n - k * Section::MOST).min(Section::MOST)
 }
 
-// Whether the checksum of each section is right, and else of which it is not, the first.
-pub fn judge(n: usize, came: &[u8]) -> Sums
+// The first section whose checksum is wrong; none where that of each is right.
+pub fn judge(n: usize, came: &[u8]) -> Option<usize>
     requires { (n < 2 ^ 14) × (sent_length n ≤ length came.now) }
     ensures { Judges n came.now result }
 {
-    let mut k: usize = 0;
-    while k * Section::MOST < n {
+    for k in 0..count(n) {
         let start = k * Section::STEP;
         let end = start + size(n, k);
         if !checksum::agrees(&came[start..end], came[end], came[end + 1]) {
-            return Sums::Wrong(k);
+            return Some(k);
         }
-        k += 1;
     }
-    Sums::Right
+    None
 }
 
 // The sections in one piece, without their checksums, at the front of the buffer.
@@ -73,13 +60,11 @@ pub fn join(n: usize, came: &[u8], out: &mut [u8])
     requires { (n < 2 ^ 14) × (sent_length n ≤ length came.now) × (n ≤ length out.old) }
     ensures { out.new ≡ joined n came.now ++ drop n out.old }
 {
-    let mut k: usize = 0;
-    while k * Section::MOST < n {
+    for k in 0..count(n) {
         let start = k * Section::STEP;
         let end = start + size(n, k);
         let place = k * Section::MOST;
         rows::copy(&came[start..end], &mut out[place..]);
-        k += 1;
     }
 }
 
@@ -164,9 +149,7 @@ pub fn divide(n: usize, body: &mut [u8])
     requires { (n < 2 ^ 14) × (sent_length n ≤ length body.old) }
     ensures { body.new ≡ in_sections (take n body.old) ++ drop (sent_length n) body.old }
 {
-    let mut k = count(n);
-    while 0 < k {
-        k -= 1;
+    for k in (0..count(n)).rev() {
         move_section(n, k, body);
         let start = k * Section::STEP;
         let end = start + size(n, k);

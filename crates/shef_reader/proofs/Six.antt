@@ -1,16 +1,16 @@
 -- Six bits that are not all ones begin a code; six ones begin none.
 -- Assumes nothing.
-use Rattle.std.proofs.Common.{◌≡◌, ℕ, ◌+◌, ◌-◌, ◌*◌, ◌/◌, ◌%◌, ◌^◌, ◌<◌, ◌≤◌, Bool, true, false, cond, ◌&&◌, T, eqb, List, [], ◌∷◌, ◌++◌, length, get_or, take, set, replicate, sym, refl, ap, ◌∙◌, subst, ap₂, append_assoc, append-nil, zero-le, add-zero, mod-lt, mod-eq_of_lt, arith, lit≤, eqb→eq, length-append, pow_pos}
+use Rattle.std.proofs.Common.{◌≡◌, ℕ, ◌+◌, ◌-◌, ◌*◌, ◌/◌, ◌%◌, ◌^◌, ◌<◌, ◌≤◌, Bool, true, false, cond, ◌&&◌, T, eqb, List, [], ◌∷◌, ◌++◌, length, get_or, take, drop, replicate, sym, refl, ap, ◌∙◌, subst, ap₂, append_assoc, append-nil, zero-le, add-zero, mod-lt, mod-eq_of_lt, arith, lit≤, eqb→eq, length-append, pow_pos}
 use mathlib.Core.Path.{subst⁻¹}
 use mathlib.Core.Logic.{by_cases}
 use mathlib.Core.Option.{Option, none, some}
-use native.Mathlib.Decide.{ℕ_discrete, dec_le, dec_lt}
+use native.Mathlib.Decide.{ℕ_discrete, dec_lt}
 use lib.Bits.{bit_and, and_zero_r, and_mask}
 use Rattle.bits.specs.Numbers.{numbers}
 use Rattle.bits.specs.Word.{bit}
 use Rattle.bits.proofs.Numbers.{numbers-in}
 use Rattle.bits.proofs.Said.{and_left, and_right}
-use Rattle.codes.specs.Chain.{Entry, Fill, Begins}
+use Rattle.codes.specs.Chain.{Entry, Begins}
 use Rattle.codes.specs.Consecutive.{code_for, consecutive}
 use Rattle.codes.specs.Pack.{low}
 use Rattle.codes.specs.Steps.BitBuffer.{Window}
@@ -18,7 +18,7 @@ use Rattle.codes.specs.Steps.Laid.{Readable}
 use Rattle.codes.specs.Steps.Taken.{FirstCode, characters_of}
 use Rattle.codes.specs.declared.Code.{Code}
 use Rattle.codes.proofs.Beginning.{begun, begun-begins}
-use Rattle.codes.proofs.BitBuffer.{window-whole, window-top, window-begins, begins-window}
+use Rattle.codes.proofs.BitBuffer.{window-whole, window-top}
 use Rattle.codes.proofs.EightBytes.{shifted-on, top-bits, top-on}
 use Rattle.codes.proofs.EveryElement.{every, every-at}
 use Rattle.codes.proofs.LowBits.{length-low, low-add}
@@ -28,7 +28,11 @@ use Rattle.codes.proofs.TableSearch.{find, Found, found}
 use Rattle.numeric.specs.Table.{characters}
 use Rattle.shef.specs.Table.{table, scheme}
 use Rattle.shef.proofs.Table.{laws}
-use Rattle.shef_reader.specs.Steps.Taken.{Says, behind, characters_in, Counts, Characters}
+use Rattle.shef_reader.specs.Steps.Taken.{Says, behind, characters_in, Characters}
+use Rattle.shef_reader.specs.declared.TheConstants.{CHARACTERS, COUNTS}
+use Rattle.compact.specs.Table.{NoneBegins}
+use Rattle.codes.proofs.PassedWords.{longer}
+use lib.ListN.{take-append-drop}
 
 -- the entry that was found has the bits that the first of six tells, and says the text
 unfoldable pub tells : ℕ → List ℕ → Option Entry → Bool
@@ -119,25 +123,17 @@ six-code six w r s h e wide counts feed =
     says-code w r s h e wide (ap₂ (λ (k d : ℕ). take k (r.first ∷ d ∷ [])) counts feed ∙ some-characters b r.first) (n.0 ∙ sym counts)
     (subst⁻¹ (λ (k : ℕ). 1 ≤ k) counts n.1) (subst⁻¹ (λ (k : ℕ). k ≤ 2) counts n.2)
 
--- the row of first characters that the table gives: those of five bits twice, whatever the sixth is
-unfoldable pub twice : List ℕ → List ℕ
-twice [] = []
-twice (c ∷ cs) = c ∷ c ∷ twice cs
-
-unfoldable pub firsts : List ℕ
-firsts = twice characters ++ (numbers 65 26 ++ (13 ∷ 35 ∷ 61 ∷ 58 ∷ 59 ∷ []))
-
-pub firsts-right : Characters firsts
-unfolding firsts twice right tells find table consecutive code_for characters numbers low bit begun every
-firsts-right = every-right firsts tt
+pub characters-right : Characters CHARACTERS
+unfolding right tells find table consecutive code_for characters numbers low bit begun every
+characters-right = every-right CHARACTERS tt
 
 -- a code by its width and the number of its characters
 abbrev pub code_of : ℕ → ℕ → ℕ → Code
-code_of six width count = record { width = width; count = count; first = get_or firsts six 0; second = 10 }
+code_of six width count = record { width = width; count = count; first = get_or CHARACTERS six 0; second = 10 }
 
 pub any_code : {six width count : ℕ} (w : ℕ) → w / 8 ≡ six → six < 63 → width ≡ 5 + six / 32 → count ≡ characters_in six
     → FirstCode table w (code_of six width count)
-any_code {six} {width} {count} w e h wide counts = six-code six w (code_of six width count) (firsts-right six h) h e wide counts refl
+any_code {six} {width} {count} w e h wide counts = six-code six w (code_of six width count) (characters-right six h) h e wide counts refl
 
 -- six ones, as if they were a code
 ones : Entry
@@ -150,28 +146,19 @@ no_ones = tt
 ones-halt : (bs : List ℕ) → Begins ones.code bs → Halts scheme 0 bs
 ones-halt bs b e h d = parted-never ones e (every-at (parted ones) table no_ones e h) bs b d
 
-module _ (held have w : ℕ) (v : Window held have w) (six : w / 8 ≡ 63) where
-  begin-nine : Begins ones.code (low 9 w)
-  unfolding ones code_for
-  begin-nine = (low 3 w, low-add 6 3 w ∙ ap (λ (n : ℕ). low 6 n ++ low 3 w) six)
-
-  begin-bits : 6 ≤ have → Begins ones.code (low have held)
-  unfolding ones code_for
-  begin-bits h =
-      (low (have - length ones.code) held, window-begins held have w ones.code v begin-nine (omega (arith, length-low 6 63)))
-
-  -- where they come next, no code does, whatever follows
-  pub ones-stuck : 6 ≤ have → (more : List ℕ) → Halts scheme 0 (low have held ++ more)
-  ones-stuck h more =
-      let b = begin-bits h in
-      ones-halt (low have held ++ more) (b.0 ++ more, ap (λ (l : List ℕ). l ++ more) b.1 ∙ append_assoc ones.code b.0 more)
-
-  pub ones-last : Halts scheme 0 (low have held)
-  ones-last =
-      by_cases (dec_le 6 have) (λ h. ones-halt (low have held) (begin-bits h))
-      (λ h e j d.
-      ones-halt (low 9 w) begin-nine e j
-      (begins-window held have w e.code v d (omega (arith, length-low have held, ap length d.1, length-append e.code d.0))))
+-- where they come next, no code does
+pub none-begins : (nine : ℕ) → nine / 8 ≡ 63 → NoneBegins table nine
+unfolding ones code_for
+none-begins nine six row e entry h d =
+    let fill : List ℕ = replicate 9 1 in
+    let begins : Begins ones.code (row ++ fill) = (
+      low 3 nine ++ drop 9 (row ++ fill),
+      sym (take-append-drop 9 (row ++ fill))
+          ∙ ap (λ (l : List ℕ). l ++ drop 9 (row ++ fill)) (sym e ∙ low-add 6 3 nine ∙ ap (λ (n : ℕ). low 6 n ++ low 3 nine) six)
+          ∙ append_assoc ones.code (low 3 nine) (drop 9 (row ++ fill)),
+    ) in
+    ones-halt (row ++ fill) begins entry h
+    (d.0 ++ fill, ap (λ (l : List ℕ). l ++ fill) d.1 ∙ append_assoc entry.code d.0 fill)
 
 -- so they do not come next in what can be read
 module _ (held have w : ℕ) (v : Window held have w) where
@@ -179,13 +166,8 @@ module _ (held have w : ℕ) (v : Window held have w) where
   readable-word more h f =
       by_cases (dec_lt (w / 8) 63) (λ l. l)
       (λ l. absurd (never_both laws f.reads
-      (stuck-here (ones-stuck held have w v (omega (arith, v.small)) (omega arith) more)
+      (stuck-here (none-begins w (omega (arith, v.small)) (low have held ++ more) (longer held have more w v h))
       (λ e fill. let no' : ⊥ = omega (arith, fill.few, length-append (low have held) more, length-low have held) in no'))))
-
-  pub readable-last : {room : ℕ} → Readable scheme (low have held) room → (Fill 7 (low have held) → ⊥) → w / 8 < 63
-  readable-last f no-fill =
-      by_cases (dec_lt (w / 8) 63) (λ l. l)
-      (λ l. absurd (never_both laws f.reads (stuck-here (ones-last held have w v (omega (arith, v.small))) (λ e. no-fill))))
 
 -- the six bits at the top of a word to which the lowest `left` bits of a number are shifted are the first of the window
 module _ (held left top : ℕ) (h : 9 ≤ left) (k : left ≤ 64) (e : top ≡ held * 2 ^ (64 - left) % 2 ^ 64) where
@@ -223,30 +205,18 @@ pub six-on : {next : ℕ} (held left top six width : ℕ) → next ≡ top * 2 ^
 six-on held left top six width shifted wide h k e =
     shifted ∙ ap (λ (n : ℕ). top * 2 ^ n % 2 ^ 64) (sym wide) ∙ top-on held left top width h k e
 
--- what a row of counts has for six bits
-module _ {row : List ℕ} (c : Counts row) (six : ℕ) where
-  pub counts-small : six < 64 → get_or row six 0 ≤ 19
-  counts-small h =
-      by_cases (dec_lt six 63) (λ l. omega (arith, c.codes six l, characters-few six))
-      (λ l. subst⁻¹ (λ (n : ℕ). get_or row n 0 ≤ 19) (let e : six ≡ 63 = omega arith in e) (omega (arith, c.ones)))
+-- how many characters the constants say
+counted : T (every (λ (k : ℕ). eqb (get_or COUNTS k 0) (characters_in k)) (numbers 0 63))
+unfolding numbers every
+counted = tt
 
-  pub counts-few : six < 64 → get_or row six 0 ≤ 18 → six < 63
-  counts-few h few =
-      by_cases (dec_lt six 63) (λ l. l)
-      (λ l. absurd (let no' : ⊥ = omega (arith, few, ap (λ (n : ℕ). get_or row n 0) (let e : six ≡ 63 = omega arith in e), c.ones) in no'))
+pub counts-right : (six : ℕ) → six < 63 → get_or COUNTS six 0 ≡ characters_in six
+counts-right six h =
+    eqb→eq (get_or COUNTS six 0) (characters_in six)
+    (every-at (λ (k : ℕ). eqb (get_or COUNTS k 0) (characters_in k)) (numbers 0 63) counted six (numbers-in 0 63 six zero-le (omega arith)))
 
--- the row of counts that measuring makes
-unfoldable pub made : List ℕ
-made = set (set (replicate 64 1) 58 2) 63 19
-
-made-right : T (every (λ (k : ℕ). eqb (get_or made k 0) (characters_in k)) (numbers 0 63))
-unfolding made numbers every
-made-right = tt
-
-pub made-counts : Counts made
-unfolding made
-made-counts = record {
-  codes = λ six h. eqb→eq (get_or made six 0) (characters_in six)
-      (every-at (λ (k : ℕ). eqb (get_or made k 0) (characters_in k)) (numbers 0 63) made-right six (numbers-in 0 63 six zero-le (omega arith)));
-  ones = refl;
-}
+-- what a count tells of six bits
+pub count-tells : {six count : ℕ} → six < 64 → (six < 63 → count ≡ characters_in six) → (six ≡ 63 → count ≡ 19) → (count ≤ 19) × (count ≤ 18 → six < 63)
+count-tells {six} {count} h code ones =
+    by_cases (dec_lt six 63) (λ l. (omega (arith, code l, characters-few six), λ few. l))
+    (λ l. let many : count ≡ 19 = ones (omega arith) in (omega arith, λ few. absurd (let no' : ⊥ = omega arith in no')))

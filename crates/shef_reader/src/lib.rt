@@ -8,13 +8,26 @@ ghost use Rattle.codes.specs.Pack.{low};
 ghost use Rattle.codes.specs.Steps.Laid.{Readable, Placed};
 ghost use Rattle.codes.specs.Steps.Measure.{Measures, countable};
 ghost use Rattle.codes.specs.Steps.Taken.{FirstCode};
-ghost use Rattle.codes.specs.Steps.Words.{SkimsInto, Begun, CountedTo, LaidTo};
+ghost use Rattle.codes.specs.Steps.Words.{SkimsInto, Begun};
+ghost use Rattle.compact.specs.Table.{Skims};
 ghost use Rattle.shef.specs.Table.{table, scheme};
-ghost use Rattle.shef_reader.specs.Steps.Taken.{Fives, characters_in, Counts, Characters, Skims};
+ghost use Rattle.shef_reader.specs.Steps.Taken.{Fives, characters_in};
+ghost use Rattle.shef_reader.specs.Steps.Reading.{table_laws};
 
-use codes::{Code, Counted, Laid, Measured, Place, Skimmed};
+use codes::{Code, Laid, Measured, Skimmed};
+use compact::{ByWords, Table};
 
 const LF: u8 = 10;
+
+// The first character of each code, by the six bits that it begins.
+const CHARACTERS: [u8; 63] = *b"00112233445566778899  ++,,--..//ABCDEFGHIJKLMNOPQRSTUVWXYZ\r#=:;";
+
+// How many characters each code says, by the six bits that it begins; of six ones, that begin none, more than nine codes do.
+const COUNTS: [u8; 64] = [
+    1, 1, 1, 1, 1, 1, 1, 1, 1, 1, 1, 1, 1, 1, 1, 1, 1, 1, 1, 1, 1, 1, 1, 1, 1, 1, 1, 1, 1, 1, 1, 1,
+    1, 1, 1, 1, 1, 1, 1, 1, 1, 1, 1, 1, 1, 1, 1, 1, 1, 1, 1, 1, 1, 1, 1, 1, 1, 1, 2, 1, 1, 1, 1,
+    19,
+];
 
 // The code of CR with LF after it.
 const LINE_END: u64 = 58;
@@ -35,7 +48,7 @@ fn shifted(top: u64, six: u64) -> u64
     ensures { result ≡ top * 2 ^ (5 + six / 32) % 2 ^ 64 }
 {
     let five = top << 5;
-    std::num::wrapping_add_u64(five, five & (six / 32 * 0xffff_ffff_ffff_ffff))
+    five.wrapping_add(five & (six / 32 * 0xffff_ffff_ffff_ffff))
 }
 
 // How many characters the code says that begins six bits.
@@ -48,37 +61,43 @@ fn count_of(six: u64) -> usize
     1
 }
 
+// The same, and for six ones more than nine codes say.
+fn count_at(six: u64) -> usize
+    requires { six < 64 }
+    ensures code { six < 63 → result ≡ characters_in six }
+    ensures ones { six ≡ 63 → result ≡ 19 }
+{
+    COUNTS[six as usize] as usize
+}
+
 // The code that begins six bits: any that are not all ones begin one.
-fn first_code(six: u64, characters: &[u8; 63]) -> Code
-    requires { (six < 63) × Characters characters.now }
+fn code_of(six: u64) -> Code
+    requires { six < 63 }
     ensures { (result.width ≡ 5 + six / 32) × ((w : ℕ) → w / 8 ≡ six → FirstCode table w result) }
 {
     Code {
         width: width_of(six),
         count: count_of(six),
-        first: characters[six as usize],
+        first: CHARACTERS[six as usize],
         second: LF,
     }
 }
 
-// Codes passed one by one, up to six ones, or as long as there are nine bits.
-fn skim_each(held: u64, have: u64) -> Skimmed
-    requires { have ≤ 64 }
-    ensures { Skims held have result }
-{
-    let mut left = have;
-    let mut codes: usize = 0;
-    let mut count: usize = 0;
-    while 9 <= left {
-        let six = bit_buffer::window(held, left) / 8;
+// The format's table, read.
+struct Shef;
+
+impl Table for Shef {
+    ghost table = { table };
+
+    ghost laws = { table_laws };
+
+    fn first_code(nine: u64) -> Option<Code> {
+        let six = nine / 8;
         if six == SIX_ONES {
-            return Skimmed { left, codes, count };
+            return None;
         }
-        left -= width_of(six);
-        codes += 1;
-        count += count_of(six);
+        Some(code_of(six))
     }
-    Skimmed { left, codes, count }
 }
 
 // Whether each of ten codes from the top of a word on has five bits, as those of digits have: none of their first bits is 1.
@@ -89,77 +108,84 @@ fn ten_fives(top: u64) -> bool
 }
 
 // Nine codes passed; where six ones are among them, the codes up to these.
-fn skim_nine(held: u64, have: u64, counts: &[u8; 64]) -> Skimmed
-    requires { (57 ≤ have) × (have ≤ 64) × Counts counts.now }
-    ensures { Skims held have result }
+fn skim_nine(held: u64, have: u64) -> Skimmed
+    requires { (57 ≤ have) × (have ≤ 64) }
+    ensures { Skims table held have result }
 {
     let mut top = held << (64 - have);
     let mut left = have;
-    let mut codes: usize = 0;
     let mut count: usize = 0;
-    while codes < 9 {
+    for _ in 0..9u64 {
         let six = top >> 58;
         top = shifted(top, six);
         left -= width_of(six);
-        codes += 1;
-        count += counts[six as usize] as usize;
+        count += count_at(six);
     }
     if count <= 18 {
-        return Skimmed { left, codes, count };
-    }
-    skim_each(held, have)
-}
-
-// Ten codes of five bits passed, or nine.
-fn skim(held: u64, have: u64, counts: &[u8; 64]) -> Skimmed
-    requires { (57 ≤ have) × (have ≤ 64) × Counts counts.now }
-    ensures { Skims held have result }
-{
-    if ten_fives(held << (64 - have)) {
         return Skimmed {
-            left: have - 50,
-            codes: 10,
-            count: 10,
+            left,
+            codes: 9,
+            count,
         };
     }
-    skim_nine(held, have, counts)
+    compact::skim_each::<Shef>(held, have)
 }
 
-// What the last bits come to, `have` of them.
-fn measure_last(held: u64, have: u64) -> Measured
-    requires { have ≤ 64 }
-    ensures { Measures scheme (low have held) result }
+// The characters of ten codes of five bits, from place n on.
+fn put_fives(held: u64, have: u64, out: &mut [u8], n: usize) -> Laid
+    requires { (57 ≤ have) × (have ≤ 64) × (n ≤ length out.old) × Begun scheme held have (length out.old - n) × Fives (held * 2 ^ (64 - have) % 2 ^ 64) }
+    ensures { SkimsInto scheme held have out.old out.new n result }
 {
-    let mut left = have;
-    let mut codes: usize = 0;
-    let mut n: usize = 0;
-    loop {
-        if bit_buffer::at_end(held, left) {
-            return Measured::Text(n, codes);
-        }
-        let six = bit_buffer::window(held, left) / 8;
-        if six == SIX_ONES {
-            return Measured::Malformed((have - left) as usize, codes);
-        }
-        let width = width_of(six);
-        if left < width {
-            return Measured::Malformed((have - left) as usize, codes);
-        }
-        left -= width;
-        codes += 1;
-        n += count_of(six);
+    let mut top = held << (64 - have);
+    for k in 0..10 {
+        out[n + k] = CHARACTERS[(top >> 58) as usize];
+        top <<= 5;
+    }
+    Laid {
+        left: have - 50,
+        count: 10,
     }
 }
 
-// What the whole comes to, where the codes up to the place are passed.
-fn measure_rest(s: &[u8], counted: Counted) -> Measured
-    requires { (length s.now < countable) × CountedTo scheme s.now counted }
-    ensures { Measures scheme (bits s.now) result }
+// The characters of nine codes, from place n on.
+fn put_nine(held: u64, have: u64, out: &mut [u8], n: usize) -> Laid
+    requires { (57 ≤ have) × (have ≤ 64) × (n ≤ length out.old) × Begun scheme held have (length out.old - n) }
+    ensures { SkimsInto scheme held have out.old out.new n result }
 {
-    let place = counted.place;
-    let b = bit_buffer::last_bits(s, place);
-    let last = measure_last(b.held, b.have);
-    bit_buffer::with_front(last, place.n, counted.codes, s.len() * 8 - b.have as usize)
+    let mut top = held << (64 - have);
+    let mut left = have;
+    let mut count: usize = 0;
+    for _ in 0..9u64 {
+        let six = top >> 58;
+        let c = code_of(six);
+        bit_buffer::put(out, n + count, c);
+        top = shifted(top, six);
+        left -= c.width;
+        count += c.count;
+    }
+    Laid { left, count }
+}
+
+impl ByWords for Shef {
+    // Ten codes of five bits, or nine.
+    fn skim(held: u64, have: u64) -> Skimmed {
+        if ten_fives(held << (64 - have)) {
+            return Skimmed {
+                left: have - 50,
+                codes: 10,
+                count: 10,
+            };
+        }
+        skim_nine(held, have)
+    }
+
+    // Ten codes of five bits, or nine.
+    fn lay(held: u64, have: u64, out: &mut [u8], n: usize) -> Laid {
+        if ten_fives(held << (64 - have)) {
+            return put_fives(held, have, out, n);
+        }
+        put_nine(held, have, out, n)
+    }
 }
 
 // The length of the text, or where the data is malformed.
@@ -167,113 +193,7 @@ pub fn measure(s: &[u8]) -> Measured
     requires { length s.now < countable }
     ensures { Measures scheme (bits s.now) result }
 {
-    // how many characters each code says, by the six bits that it begins; of six ones, more than nine codes do
-    let mut counts: [u8; 64] = [1; 64];
-    counts[58] = 2;
-    counts[63] = 19;
-    let mut next: usize = 0;
-    let mut skip: u64 = 0;
-    let mut codes: usize = 0;
-    let mut n: usize = 0;
-    while 8 <= s.len() - next {
-        let w = skim(bit_buffer::eight(s, next), 64 - skip, &counts);
-        let passed = 64 - w.left;
-        if 24 < w.left {
-            return Measured::Malformed(next * 8 + passed as usize, codes + w.codes);
-        }
-        next += (passed / 8) as usize;
-        skip = passed % 8;
-        codes += w.codes;
-        n += w.count;
-    }
-    let place = Place { next, skip, n };
-    measure_rest(s, Counted { place, codes })
-}
-
-// The characters of ten codes of five bits, from place n on.
-fn put_fives(held: u64, have: u64, out: &mut [u8], n: usize, characters: &[u8; 63]) -> Laid
-    requires { (57 ≤ have) × (have ≤ 64) × (n ≤ length out.old) × Begun scheme held have (length out.old - n) × Characters characters.now × Fives (held * 2 ^ (64 - have) % 2 ^ 64) }
-    ensures { SkimsInto scheme held have out.old out.new n result }
-{
-    let mut top = held << (64 - have);
-    let mut count: usize = 0;
-    while count < 10 {
-        out[n + count] = characters[(top >> 58) as usize];
-        top = top << 5;
-        count += 1;
-    }
-    Laid {
-        left: have - 50,
-        count,
-    }
-}
-
-// The characters of nine codes, from place n on.
-fn put_nine(held: u64, have: u64, out: &mut [u8], n: usize, characters: &[u8; 63]) -> Laid
-    requires { (57 ≤ have) × (have ≤ 64) × (n ≤ length out.old) × Begun scheme held have (length out.old - n) × Characters characters.now }
-    ensures { SkimsInto scheme held have out.old out.new n result }
-{
-    let mut top = held << (64 - have);
-    let mut left = have;
-    let mut count: usize = 0;
-    let mut turn: u64 = 0;
-    while turn < 9 {
-        let six = top >> 58;
-        let c = first_code(six, characters);
-        bit_buffer::put(out, n + count, c);
-        top = shifted(top, six);
-        left -= c.width;
-        count += c.count;
-        turn += 1;
-    }
-    Laid { left, count }
-}
-
-// The characters of ten codes of five bits, or of nine codes, from place n on.
-fn put_word(held: u64, have: u64, out: &mut [u8], n: usize, characters: &[u8; 63]) -> Laid
-    requires { (57 ≤ have) × (have ≤ 64) × (n ≤ length out.old) × Begun scheme held have (length out.old - n) × Characters characters.now }
-    ensures { SkimsInto scheme held have out.old out.new n result }
-{
-    if ten_fives(held << (64 - have)) {
-        return put_fives(held, have, out, n, characters);
-    }
-    put_nine(held, have, out, n, characters)
-}
-
-// The text of the codes up to fewer than eight bytes before the end.
-fn read_words(s: &[u8], out: &mut [u8], characters: &[u8; 63]) -> Place
-    requires { Readable scheme (bits s.now) (length out.old) × Characters characters.now }
-    ensures { LaidTo scheme s.now out.old out.new result }
-{
-    let mut next: usize = 0;
-    let mut skip: u64 = 0;
-    let mut n: usize = 0;
-    while 8 <= s.len() - next {
-        let w = put_word(bit_buffer::eight(s, next), 64 - skip, out, n, characters);
-        let passed = 64 - w.left;
-        next += (passed / 8) as usize;
-        skip = passed % 8;
-        n += w.count;
-    }
-    Place { next, skip, n }
-}
-
-// The text of the last bits, `have` of them, from place n on; the place after it.
-fn read_last(held: u64, have: u64, out: &mut [u8], n: usize, characters: &[u8; 63]) -> usize
-    requires { (have ≤ 64) × (n ≤ length out.old) × Readable scheme (low have held) (length out.old - n) × Characters characters.now }
-    ensures { Placed scheme (low have held) out.old out.new n result }
-{
-    let mut left = have;
-    let mut at = n;
-    loop {
-        if bit_buffer::at_end(held, left) {
-            return at;
-        }
-        let c = first_code(bit_buffer::window(held, left) / 8, characters);
-        bit_buffer::put(out, at, c);
-        left -= c.width;
-        at += c.count;
-    }
+    compact::measure::<Shef>(s)
 }
 
 // The text of the data, at the front of the buffer; its length.
@@ -281,9 +201,5 @@ pub fn put_text(s: &[u8], out: &mut [u8]) -> usize
     requires { (length s.now < countable) × Readable scheme (bits s.now) (length out.old) }
     ensures { Placed scheme (bits s.now) out.old out.new 0 result }
 {
-    // the first character of each code, by the six bits that it begins
-    let characters = b"00112233445566778899  ++,,--..//ABCDEFGHIJKLMNOPQRSTUVWXYZ\r#=:;";
-    let place = read_words(s, out, characters);
-    let b = bit_buffer::last_bits(s, place);
-    read_last(b.held, b.have, out, place.n, characters)
+    compact::put_text::<Shef>(s, out)
 }

@@ -13,13 +13,13 @@ use lib.ListN.{length, take, get_or}
 use Rattle.codes.specs.Chain.{codes}
 use Rattle.codes.specs.Coded.{last_of}
 use Rattle.codes.specs.Pack.{low, value}
-use Rattle.codes.specs.Steps.Sending.{Joinable, FourJoined}
+use Rattle.codes.specs.Steps.Sending.{OneOf, FirstOf, Joinable, FourJoined}
 use Rattle.codes.specs.declared.Sent.{Sent}
 use Rattle.codes.proofs.EachAfter.{each_next}
-use Rattle.codes.proofs.FirstOfText.{four-own}
+use Rattle.codes.proofs.FirstOfText.{one-wider, four-own}
 use Rattle.codes.proofs.LowBits.{low_value, value-lt}
-use Rattle.shef.specs.Writer.{coded, AllCoded, own, ours}
-use Rattle.shef_writer.specs.Steps.Sending.{CodeOf, OwnOf, codes_from, FirstCodesOf, entry_of}
+use Rattle.shef.specs.Writer.{coded, AllCoded, own}
+use Rattle.shef_writer.specs.Steps.Sending.{CodeOf, OwnOf, codes_from, entry_of}
 use Rattle.shef_writer.proofs.Telling.{own-none, own_same, width-told, bits-few, own-binary, entry-number, entry-own}
 
 -- the code of a character
@@ -53,21 +53,17 @@ sends-entry : (before c entry : ℕ) (r : Sent) → c < 256 → T (coded c) → 
 sends-entry before c entry r h t e k o =
     sends-own before c entry r h t (entry-own c h t before (subst (λ (n : ℕ). 64 ≤ n) e k)) (ap (λ (n : ℕ). n % 64) e ∙ entry-number c h t) o
 
-pub codes-whole : (t : List ℕ) → codes (ours t) ≡ codes_from t 0
-unfolding ours last_of
-codes-whole t = refl
-
 -- the first four, by their entries
 module _ (t : List ℕ) (i : ℕ) (all : AllCoded t) (bytes : (k : ℕ) → get_or t k 0 < 256) where
   pub four-entries : (a b c d : ℕ) (p q s u r : Sent) → i + 4 ≤ length t → a ≡ entry_of (get_or t i 0) → b ≡ entry_of (get_or t (i + 1) 0)
       → c ≡ entry_of (get_or t (i + 2) 0) → d ≡ entry_of (get_or t (i + 3) 0) → 64 ≤ bit_and a (bit_and b (bit_and c d)) → CodeOf a p → CodeOf b q → CodeOf c s
-      → CodeOf d u → FourJoined p q s u r → FirstCodesOf t i 24 r
+      → CodeOf d u → FourJoined p q s u r → FirstOf (codes_from t) (length t) i 32 r
   four-entries a b c d p q s u r there ea eb ec ed plain op oq os ou =
       let three : ℕ = bit_and b (bit_and c d) in
       let two : ℕ = bit_and c d in
-      let own_at : (before k e : ℕ) (x : Sent) → k < length t → e ≡ entry_of (get_or t k 0) → 64 ≤ e → CodeOf e x → OwnOf before (get_or t k 0) x =
-      λ before k e x h. sends-entry before (get_or t k 0) e x (bytes k) (all k h) in
-      four-own t (λ (x y : ℕ). codes (own x y)) (codes_from t) (each_next own t) 6 i (last_of (take i t)) p q s u r there refl
+      let own_at : (before k e : ℕ) (x : Sent) → k < length t → e ≡ entry_of (get_or t k 0) → 64 ≤ e → CodeOf e x → OneOf (codes (own before (get_or t k 0))) 8 x =
+      λ before k e x h f n o. one-wider (lit≤ tt) (sends-entry before (get_or t k 0) e x (bytes k) (all k h) f n o) in
+      four-own t (λ (x y : ℕ). codes (own x y)) (codes_from t) (each_next own t) 8 i (last_of (take i t)) p q s u r there refl
       (own_at (last_of (take i t)) i a p (omega arith) ea (omega (arith, and_le_l a three)) op)
       (own_at (get_or t i 0) (i + 1) b q (omega arith) eb (omega (arith, and_le_r a three, and_le_l b two)) oq)
       (own_at (get_or t (i + 1) 0) (i + 2) c s (omega arith) ec (omega (arith, and_le_r a three, and_le_r b two, and_le_l c d)) os)

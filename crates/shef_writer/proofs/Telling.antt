@@ -4,7 +4,7 @@ use mathlib.Core.Path.{◌≡◌, refl, ap, subst⁻¹, ◌∙◌}
 use mathlib.Core.Bool.{Bool, true, false, cond, not, ◌&&◌, ◌||◌}
 use mathlib.Core.List.{[]}
 use Prim.Native.Nat.{ℕ, ◌+◌, ◌/◌, ◌%◌, ◌≤◌, ◌<◌}
-use lib.Dec.{T, leb, eqb, eqb→eq, ltb, ltb→lt, le→leb, lit≤}
+use lib.Dec.{T, leb, eqb, eqb→eq, le→leb, lit≤}
 use Rattle.bits.specs.First.{first}
 use Rattle.bits.specs.Numbers.{numbers}
 use Rattle.bits.specs.Word.{bit}
@@ -84,10 +84,6 @@ module _ (c : ℕ) (small : c < 256) (t : T (coded c)) where
   bits-few = subst⁻¹ (λ (n : ℕ). n ≤ 6) bits-told (either (six_test c))
 
 -- ---- what it has
-
-pub coded-low : (c : ℕ) → c < 256 → T (coded c) → c < 91
-unfolding table consecutive code_for characters numbers ended saying same found coded every first
-coded-low c h t = ltb→lt c 91 (implied-below 256 coded (λ (x : ℕ). ltb x 91) tt c h t)
 
 abbrev entry_test : ℕ → Bool
 entry_test c = eqb (entry_of c % 64) (number c) && not (leb 64 (entry_of c) && eqb c 10)

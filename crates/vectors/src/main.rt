@@ -8,252 +8,236 @@
 
 #![tactic(auto)]
 
-ghost use Rattle.std.specs.Prelude.{◌≡◌, length};
-
-use apart::{Comparison, Judgement};
-use examine::ExamineAnswer;
+use apart::Judgement;
+use examine::{ExamineAnswer, Reading};
 use header::Header;
 use judge::JudgeAnswer;
 use reader::ReadAnswer;
 use refusals::ExamineRefusal;
-use standard_input::Input;
-use std::io;
+use report::Report;
 use std::io::{Read, Write};
+use std::{fmt, io};
 use writer::WriteAnswer;
 
 // The longest text of a packet has 341,328 characters.
 const LARGEST: usize = 341504;
 
-fn buffer() -> [u8; LARGEST]
-    ensures { 341504 ≡ length result }
-{
-    [0; LARGEST]
+// What is run in a case: the reader with its judging, the reader without a number, or the writer.
+#[derive(Clone, Copy, Debug, PartialEq, Eq)]
+enum Kind {
+    Reader,
+    UsualReader,
+    Writer,
+}
+
+impl From<u8> for Kind {
+    fn from(letter: u8) -> Self {
+        match letter {
+            b'r' => Kind::Reader,
+            b'd' => Kind::UsualReader,
+            _ => Kind::Writer,
+        }
+    }
+}
+
+// A case without its packet or text.
+#[derive(Clone, Copy, Debug, PartialEq, Eq)]
+struct Case {
+    kind: Kind,
+    rate_1200: bool,
+    sync: bool,
+    // the header bits to mend, or the number of the format
+    named: u32,
+    // the length of the lent buffer
+    room: usize,
+    // the length of the packet or text
+    length: usize,
 }
 
 // The lent buffer before each case: no two neighbours alike.
 fn fill(buffer: &mut [u8]) {
-    let mut i: usize = 0;
-    while i < buffer.len() {
-        buffer[i] = (i % 251 + 5) as u8;
-        i += 1;
+    for (i, byte) in buffer.iter_mut().enumerate() {
+        *byte = (i % 251 + 5) as u8;
     }
 }
 
-fn adler32(s: &[u8]) -> u32 {
+fn adler32(bytes: &[u8]) -> u32 {
     let mut low: u32 = 1;
     let mut high: u32 = 0;
-    let mut i: usize = 0;
-    while i < s.len() {
-        low = (low + s[i] as u32) % 65521;
+    for byte in bytes {
+        low = (low + u32::from(*byte)) % 65521;
         high = (high + low) % 65521;
-        i += 1;
     }
     high * 65536 + low
 }
 
-fn print_front<W: Write>(out: &mut W, s: &[u8]) -> io::Result<()> {
-    let mut i: usize = 0;
-    while i < 512 {
-        if i < s.len() {
-            let byte = s[i];
-            write!(out, "{byte:02x}")?;
+// The first 512 bytes, in hexadecimal.
+#[derive(Clone, Copy)]
+struct Front<'a>(&'a [u8]);
+
+impl fmt::Display for Front<'_> {
+    fn fmt<W: fmt::Write>(&self, f: &mut fmt::Formatter<W>) -> fmt::Result {
+        for byte in self.0.iter().take(512) {
+            write!(f, "{byte:02x}")?;
         }
-        i += 1;
+        Ok(())
     }
-    Ok(())
 }
 
 fn print_buffer<W: Write>(out: &mut W, with: usize, buffer: &[u8]) -> io::Result<()> {
     let sum = adler32(buffer);
-    write!(out, "{with} {sum:08x} ")?;
-    print_front(out, buffer)?;
-    out.write_all(b"\n")
-}
-
-// A word and numbers, each number after a single space.
-fn print_line<W: Write>(out: &mut W, word: &[u8], numbers: &[usize]) -> io::Result<()> {
-    out.write_all(word)?;
-    let mut i: usize = 0;
-    while i < numbers.len() {
-        let number = numbers[i];
-        write!(out, " {number}")?;
-        i += 1;
-    }
-    out.write_all(b"\n")
+    let front = Front(buffer);
+    writeln!(out, "{with} {sum:08x} {front}")
 }
 
 fn print_refused<W: Write>(out: &mut W, refusal: ExamineRefusal) -> io::Result<()> {
-    let numbers = [refusal.number() as usize, refusal.value(), refusal.codes()];
-    print_line(out, b"refused", &numbers)
+    let number = refusal.number();
+    let value = refusal.value();
+    let codes = refusal.codes();
+    writeln!(out, "refused {number} {value} {codes}")
 }
 
 fn print_examined<W: Write>(out: &mut W, answer: ExamineAnswer) -> io::Result<()> {
     match answer {
-        ExamineAnswer::Readable(reading) => {
-            let format = reading.format;
-            let numbers = [
-                Header::number(format) as usize,
-                header::one_if(reading.sync) as usize,
-                reading.mended as usize,
-                reading.mask as usize,
-                reading.codes,
-                reading.data_length,
-                reading.text_length,
-                reading.used,
-            ];
-            print_line(out, b"readable", &numbers)
+        Ok(reading) => {
+            let Reading {
+                format,
+                sync,
+                mended,
+                mask,
+                codes,
+                data_length,
+                text_length,
+                used,
+            } = reading;
+            let format = Header::number(format);
+            let sync = u32::from(sync);
+            writeln!(
+                out,
+                "readable {format} {sync} {mended} {mask} {codes} {data_length} {text_length} {used}"
+            )
         }
-        ExamineAnswer::Refused(refusal) => print_refused(out, refusal),
+        Err(refusal) => print_refused(out, refusal),
     }
 }
 
 fn print_judgement<W: Write>(out: &mut W, judgement: Judgement) -> io::Result<()> {
-    let comparison = judgement.comparison;
-    match comparison {
-        Comparison::AsOurs => print_line(out, b"ours", &[judgement.more]),
-        Comparison::Departs(bit) => print_line(out, b"departs", &[bit, judgement.more]),
+    let more = judgement.more;
+    match judgement.departs_at {
+        None => writeln!(out, "ours {more}"),
+        Some(bit) => writeln!(out, "departs {bit} {more}"),
     }
 }
 
 fn print_judged<W: Write>(out: &mut W, answer: JudgeAnswer) -> io::Result<()> {
     match answer {
-        JudgeAnswer::Judged(judgement) => print_judgement(out, judgement),
-        JudgeAnswer::Refused(refusal) => print_refused(out, refusal),
+        Ok(judgement) => print_judgement(out, judgement),
+        Err(refusal) => print_refused(out, refusal),
     }
 }
 
-// The bytes used, or the number that comes with the refusal.
-fn read_with(answer: ReadAnswer) -> usize {
+// The codes that were read; and the bytes used, or the number that comes with the refusal.
+fn counts(answer: ReadAnswer) -> (usize, usize) {
     match answer {
-        ReadAnswer::Accepted(reading) => reading.used,
-        ReadAnswer::Refused(refusal) => refusal.value(),
-    }
-}
-
-// The codes that were read.
-fn read_codes(answer: ReadAnswer) -> usize {
-    match answer {
-        ReadAnswer::Accepted(reading) => reading.codes,
-        ReadAnswer::Refused(refusal) => refusal.codes(),
+        Ok(reading) => (reading.codes, reading.used),
+        Err(refusal) => (refusal.codes(), refusal.value()),
     }
 }
 
 fn print_read<W: Write>(out: &mut W, answer: ReadAnswer, text: &[u8]) -> io::Result<()> {
-    let mut line = [0u8; 128];
-    let n = report::line(answer, &mut line);
-    out.write_all(&line[..n])?;
-    print_line(out, b"codes", &[read_codes(answer)])?;
-    print_buffer(out, read_with(answer), text)
+    let report = Report(answer);
+    let (codes, with) = counts(answer);
+    writeln!(out, "{report}codes {codes}")?;
+    print_buffer(out, with, text)
 }
 
-fn run_reader<W: Write>(
-    out: &mut W,
-    mend: u32,
-    rate_1200: bool,
-    packet: &[u8],
-    text: &mut [u8],
-) -> io::Result<()> {
-    print_examined(out, examine::examine_mending(mend, rate_1200, packet))?;
-    print_judged(out, judge::judge(mend, rate_1200, packet))?;
-    let answer = reader::read_mending(mend, rate_1200, packet, text);
+fn run_reader<W: Write>(out: &mut W, case: Case, packet: &[u8], text: &mut [u8]) -> io::Result<()> {
+    let Case {
+        named,
+        rate_1200,
+        ..
+    } = case;
+    print_examined(out, examine::examine_mending(named, rate_1200, packet))?;
+    print_judged(out, judge::judge(named, rate_1200, packet))?;
+    let answer = reader::read_mending(named, rate_1200, packet, text);
     print_read(out, answer, text)
 }
 
 fn run_usual_reader<W: Write>(
     out: &mut W,
-    rate_1200: bool,
+    case: Case,
     packet: &[u8],
     text: &mut [u8],
 ) -> io::Result<()> {
-    print_examined(out, examine::examine(rate_1200, packet))?;
-    let answer = reader::read(rate_1200, packet, text);
+    print_examined(out, examine::examine(case.rate_1200, packet))?;
+    let answer = reader::read(case.rate_1200, packet, text);
     print_read(out, answer, text)
 }
 
-fn run_writer<W: Write>(
-    out: &mut W,
-    rate_1200: bool,
-    format: u32,
-    sync: bool,
-    text: &[u8],
-    packet: &mut [u8],
-) -> io::Result<()> {
-    let answer = writer::write(rate_1200, format, sync, text, packet);
+fn run_writer<W: Write>(out: &mut W, case: Case, text: &[u8], packet: &mut [u8]) -> io::Result<()> {
+    let answer = writer::write(case.rate_1200, case.named, case.sync, text, packet);
     match answer {
-        WriteAnswer::Written(length) => {
-            print_line(out, b"written", &[length])?;
+        Ok(length) => {
+            writeln!(out, "written {length}")?;
             print_buffer(out, length, packet)
         }
-        WriteAnswer::Refused(refusal) => {
-            print_line(out, b"refused", &[refusal.number() as usize])?;
+        Err(refusal) => {
+            let number = refusal.number();
+            writeln!(out, "refused {number}")?;
             print_buffer(out, refusal.value(), packet)
         }
     }
 }
 
-fn number(high: u8, middle: u8, low: u8) -> u32 {
-    (high as u32) * 65536 + (middle as u32) * 256 + (low as u32)
+fn run_case<W: Write>(out: &mut W, case: Case, given: &[u8], lent: &mut [u8]) -> io::Result<()> {
+    match case.kind {
+        Kind::Reader => run_reader(out, case, given, lent),
+        Kind::UsualReader => run_usual_reader(out, case, given, lent),
+        Kind::Writer => run_writer(out, case, given, lent),
+    }
 }
 
-// The packet or text of a case, and the calls.
-fn run_case<R: Read, W: Write>(
-    reader: &mut R,
-    out: &mut W,
-    kind: u8,
-    rate_1200: bool,
-    named: u32,
-    sync: bool,
-    given: &mut [u8],
-    lent: &mut [u8],
-) -> io::Result<()> {
-    standard_input::read_input(reader, given);
-    fill(lent);
-    if kind == b'r' {
-        return run_reader(out, named, rate_1200, given, lent);
-    }
-    if kind == b'd' {
-        return run_usual_reader(out, rate_1200, given, lent);
-    }
-    run_writer(out, rate_1200, named, sync, given, lent)
+// Three bytes as a number, high byte first.
+fn number(bytes: [u8; 3]) -> u32 {
+    let [high, middle, low] = bytes;
+    u32::from_be_bytes([0, high, middle, low])
 }
 
-// Runs the next case; whether there was one.
-fn run_next<R: Read, W: Write>(reader: &mut R, out: &mut W) -> io::Result<bool> {
+// The next case; none at the end, where it is cut, and where more is asked for than a packet or text can have.
+fn next_case<R: Read>(reader: &mut R) -> Option<Case> {
     let mut head = [0u8; 11];
-    match standard_input::read_input(reader, &mut head) {
-        Input::Whole(11) => (),
-        _ => return Ok(false),
+    let Ok(11) = standard_input::read_input(reader, &mut head) else {
+        return None;
+    };
+    let [letter, bits, n, o, p, r, s, t, u, v, w] = head;
+    let room = number([r, s, t]) as usize;
+    let length = number([u, v, w]) as usize;
+    if room > LARGEST || length > LARGEST {
+        return None;
     }
-    let named = number(head[2], head[3], head[4]);
-    let room = number(head[5], head[6], head[7]) as usize;
-    let length = number(head[8], head[9], head[10]) as usize;
-    if LARGEST < room {
-        return Ok(false);
-    }
-    if LARGEST < length {
-        return Ok(false);
-    }
-    let mut given = buffer();
-    let mut lent = buffer();
-    run_case(
-        reader,
-        out,
-        head[0],
-        head[1] / 2 == 1,
-        named,
-        head[1] % 2 == 1,
-        &mut given[..length],
-        &mut lent[..room],
-    )?;
-    Ok(true)
+    Some(Case {
+        kind: Kind::from(letter),
+        rate_1200: bits / 2 == 1,
+        sync: bits % 2 == 1,
+        named: number([n, o, p]),
+        room,
+        length,
+    })
 }
 
 fn main(rt: HostRuntime) -> io::Result<()> {
     let mut reader = rt.stdin();
     let mut out = rt.stdout();
-    let mut turns = u32::MAX;
-    while turns > 0 && run_next(&mut reader, &mut out)? {
-        turns -= 1;
+    for _ in 0..u32::MAX {
+        let Some(case) = next_case(&mut reader) else {
+            break;
+        };
+        let mut given = vec![in rt.alloc(); 0u8; case.length]?;
+        let mut lent = vec![in rt.alloc(); 0u8; case.room]?;
+        // what does not come is 0
+        let _ = standard_input::read_input(&mut reader, &mut given);
+        fill(&mut lent);
+        run_case(&mut out, case, &given, &mut lent)?;
     }
     Ok(())
 }

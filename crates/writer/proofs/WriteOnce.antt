@@ -6,6 +6,7 @@ use mathlib.Core.Path.{◌≡◌, refl, sym, ap, ap₂, ◌∙◌}
 use Prim.Native.Nat.{ℕ, ◌<◌}
 use native.Mathlib.Omega.{arith}
 use lib.ListN.{length, drop}
+use Rattle.std.specs.Prelude.{Ok, Err}
 use Rattle.header.specs.declared.Format.{Format}
 use Rattle.header.proofs.Formats.{one_number}
 use Rattle.codes.proofs.OneAnswer.{first_one}
@@ -18,9 +19,7 @@ use Rattle.refusals.specs.Refusals.{number_in, write_told}
 use Rattle.refusals.proofs.Known.{write_from, write_known, write-one-number}
 use Rattle.refusals.proofs.Refused.{match-one}
 use Rattle.terms.specs.declared.Terms.{Terms}
-use Rattle.writer.specs.declared.WriteAnswer.{WriteAnswer}
-use Rattle.writer.specs.declared.WriteAnswer.TheVariants.{Written, Refused}
-use Rattle.writer.specs.Writer.{WriteFault, WriteRefuses, WriteAccepts, Writes, our_packet}
+use Rattle.writer.specs.Writer.{WriteAnswer, WriteFault, WriteRefuses, WriteAccepts, Writes, our_packet}
 use Rattle.writer.proofs.WriteStages.{in-format}
 
 module _ (terms : Terms) (number : ℕ) (text : List ℕ) (room : ℕ) where
@@ -55,13 +54,13 @@ module _ (terms : Terms) (number : ℕ) (text : List ℕ) (room : ℕ) where
 -- one answer and one content
 pub writes_one : (terms : Terms) (number : ℕ) (sync : Bool) (text entry : List ℕ) (a b : WriteAnswer) (x y : List ℕ)
     → Writes terms number sync text entry a x → Writes terms number sync text entry b y → (a ≡ b) × (x ≡ y)
-writes_one terms number sync text entry (Written m) (Written n) x y (k, p, e) (l, q, f) =
+writes_one terms number sync text entry (Ok m) (Ok n) x y (k, p, e) (l, q, f) =
     let same : k ≡ l = one_number k l (p.named ∙ sym q.named) in
     let long : m ≡ n = p.fits ∙ ap (λ (format : Format). whole_length (length (data_of format text))) same ∙ sym q.fits in
-    (ap {B = WriteAnswer} Written long, e ∙ ap₂ (λ (format : Format) (length' : ℕ). our_packet format sync text ++ drop length' entry) same long ∙ sym f)
-writes_one terms number sync text entry (Written m) (Refused s) x y (k, p, e) (q, f) =
+    (ap {B = WriteAnswer} Ok long, e ∙ ap₂ (λ (format : Format) (length' : ℕ). our_packet format sync text ++ drop length' entry) same long ∙ sym f)
+writes_one terms number sync text entry (Ok m) (Err s) x y (k, p, e) (q, f) =
     absurd (writes-no-fault terms number text (length entry) k m p s q.fault)
-writes_one terms number sync text entry (Refused r) (Written n) x y (p, e) (l, q, f) =
+writes_one terms number sync text entry (Err r) (Ok n) x y (p, e) (l, q, f) =
     absurd (writes-no-fault terms number text (length entry) l n q r p.fault)
-writes_one terms number sync text entry (Refused r) (Refused s) x y (p, e) (q, f) =
-    (ap {B = WriteAnswer} Refused (write-refuses-one terms number text (length entry) r s p q), e ∙ sym f)
+writes_one terms number sync text entry (Err r) (Err s) x y (p, e) (q, f) =
+    (ap {B = WriteAnswer} Err (write-refuses-one terms number text (length entry) r s p q), e ∙ sym f)

@@ -1,6 +1,6 @@
 -- What the writer answers (RULES, Refusals: 12, 10, 9, 11, 8), and what stands in the packet buffer afterwards.
 -- Assumes nothing.
-use Rattle.std.specs.Prelude.{Bool, List, [], ◌++◌, ◌≡◌, ℕ, ◌≤◌, ◌<◌, length, drop}
+use Rattle.std.specs.Prelude.{Bool, List, [], ◌++◌, ◌≡◌, ℕ, ◌≤◌, ◌<◌, length, drop, Result, Ok, Err}
 use Rattle.header.specs.declared.Format.{Format}
 use Rattle.header.specs.Formats.{format_number}
 use Rattle.formats.specs.Data.{Uncoded, AllCoded, data_of}
@@ -9,8 +9,6 @@ use Rattle.refusals.specs.declared.WriteRefusal.TheVariants.{OtherFormat, Empty,
 use Rattle.refusals.specs.Match.{FirstMatch, writer_turn}
 use Rattle.refusals.specs.Refusals.{write_told}
 use Rattle.terms.specs.declared.Terms.{Terms}
-use Rattle.writer.specs.declared.WriteAnswer.{WriteAnswer}
-use Rattle.writer.specs.declared.WriteAnswer.TheVariants.{Written, Refused}
 use Rattle.packet.specs.Packet.{whole_length, packet_of, header_for}
 
 -- the format of this number, with what the condition says of it
@@ -42,8 +40,12 @@ pub record WriteAccepts (terms : Terms) (number : ℕ) (text : List ℕ) (room :
   pub fits : written ≡ whole_length (length (data_of format text))
   pub held : written ≤ room
 
+-- the answer: how many bytes were written, or the refusal
+abbrev pub WriteAnswer : Type 0
+WriteAnswer = Result ℕ WriteRefusal
+
 -- the answer, and the packet buffer afterwards
 abbrev pub Writes : Terms → ℕ → Bool → List ℕ → List ℕ → WriteAnswer → List ℕ → Type 0
-Writes terms number sync text entry (Written length') exit =
+Writes terms number sync text entry (Ok length') exit =
     (format : Format) × WriteAccepts terms number text (length entry) format length' × (exit ≡ our_packet format sync text ++ drop length' entry)
-Writes terms number sync text entry (Refused refusal) exit = WriteRefuses terms number text (length entry) refusal × (exit ≡ entry)
+Writes terms number sync text entry (Err refusal) exit = WriteRefuses terms number text (length entry) refusal × (exit ≡ entry)

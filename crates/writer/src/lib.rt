@@ -9,26 +9,23 @@ ghost use Rattle.packet.specs.Packet.{whole_length, packet_of, header_for};
 ghost use Rattle.terms.specs.Terms.{MayBeNamed, usual};
 ghost use Rattle.writer.specs.Writer.{our_packet, Writes};
 
-use codes::Needed;
-use header::{Format, Header, WhichFormat};
+use header::{Format, Header};
 use refusals::WriteRefusal;
 use terms::Terms;
 
-#[derive(Clone, Copy)]
-pub enum WriteAnswer {
-    Written(usize),
-    Refused(WriteRefusal),
-}
+// How many bytes the packet has that was written, or why none was.
+pub type WriteAnswer = Result<usize, WriteRefusal>;
 
 // The four bytes of a header, at the front of the packet.
 fn put_header(header: u32, packet: &mut [u8])
     requires { 4 ≤ length packet.old }
     ensures { packet.new ≡ bytes_of header ++ drop 4 packet.old }
 {
-    packet[0] = (header / 0x100_0000 % 256) as u8;
-    packet[1] = (header / 0x1_0000 % 256) as u8;
-    packet[2] = (header / 0x100 % 256) as u8;
-    packet[3] = (header % 256) as u8;
+    let [first, second, third, fourth] = header.to_be_bytes();
+    packet[0] = first;
+    packet[1] = second;
+    packet[2] = third;
+    packet[3] = fourth;
 }
 
 // The n data bytes in sections, each with its checksum behind it, and the header in front.
@@ -58,26 +55,19 @@ fn write_under(terms: Terms, format: u32, sync: bool, text: &[u8], packet: &mut 
     requires { MayBeNamed terms }
     ensures { Writes terms format sync text.now packet.old result packet.new }
 {
-    let which = Header::format_of(format);
-    let WhichFormat::Ours(named) = which else {
-        return WriteAnswer::Refused(WriteRefusal::OtherFormat);
+    let Some(named) = Header::format_of(format) else {
+        return Err(WriteRefusal::OtherFormat);
     };
     if text.len() == 0 {
-        return WriteAnswer::Refused(WriteRefusal::Empty);
+        return Err(WriteRefusal::Empty);
     }
-    let needed = formats::data_length(named, text, terms.most);
-    match needed {
-        Needed::NoCode(index) => WriteAnswer::Refused(WriteRefusal::NoCode(index)),
-        Needed::TooMany => WriteAnswer::Refused(WriteRefusal::TooLong),
-        Needed::Bytes(n) => {
-            let whole = packet::whole_length(n);
-            if packet.len() < whole {
-                return WriteAnswer::Refused(WriteRefusal::NoRoom(whole));
-            }
-            put_packet(named, sync, text, n, packet);
-            WriteAnswer::Written(whole)
-        }
+    let n = formats::data_length(named, text, terms.most)?;
+    let whole = packet::whole_length(n);
+    if packet.len() < whole {
+        return Err(WriteRefusal::NoRoom(whole));
     }
+    put_packet(named, sync, text, n, packet);
+    Ok(whole)
 }
 
 // Writes a text as a packet into a packet buffer, at 1200 bps or else at 300.

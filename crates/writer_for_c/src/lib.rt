@@ -2,7 +2,8 @@
 
 #![tactic(auto)]
 
-ghost use Rattle.writer_for_c.specs.Replies.{RepliesToWrite};
+ghost use Rattle.std.specs.Prelude.{◌≡◌};
+ghost use Rattle.writer_for_c.specs.Replies.{write_reply, RepliesToWrite};
 
 use writer::WriteAnswer;
 
@@ -15,20 +16,27 @@ pub struct WriteReply {
     pub length: usize,
 }
 
+impl From<WriteAnswer> for WriteReply {
+    ghost from_gives = { λ answer reply. reply ≡ write_reply answer };
+
+    fn from(answer: WriteAnswer) -> Self {
+        match answer {
+            Ok(length) => WriteReply {
+                refusal: 0,
+                number: 0,
+                length,
+            },
+            Err(refusal) => WriteReply {
+                refusal: refusal.number(),
+                number: refusal.value(),
+                length: 0,
+            },
+        }
+    }
+}
+
 pub fn write(rate_1200: bool, format: u32, sync: bool, text: &[u8], packet: &mut [u8]) -> WriteReply
     ensures { RepliesToWrite rate_1200 format sync text.now packet.old result packet.new }
 {
-    let answer = writer::write(rate_1200, format, sync, text, packet);
-    match answer {
-        WriteAnswer::Written(length) => WriteReply {
-            refusal: 0,
-            number: 0,
-            length,
-        },
-        WriteAnswer::Refused(refusal) => WriteReply {
-            refusal: refusal.number(),
-            number: refusal.value(),
-            length: 0,
-        },
-    }
+    writer::write(rate_1200, format, sync, text, packet).into()
 }

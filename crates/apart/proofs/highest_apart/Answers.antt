@@ -1,32 +1,11 @@
--- `apart::highest_apart` meets its contract. The invariant: the bytes are the same above the bit.
+-- `apart::highest_apart` meets its contract.
 -- Assumes nothing.
 use native.Mathlib.Omega.{arith}
-use Rattle.apart.proofs.Parted.{same-top, not-lowest, same-below, same_ends}
+use Rattle.apart.proofs.Highest.{not-eight, highest-told}
 use Rattle.apart.proofs.highest_apart.Goals as goal
 
-pub loop-power-init : goal.loop-power-init
-loop-power-init c = same-top _ _ _ (omega arith) (omega arith) (omega arith)
-
-pub overflow_cast-power : goal.overflow_cast-power
-overflow_cast-power c = omega (arith, c.loop-power.invariant.low)
-
-pub overflow_shr-a : goal.overflow_shr-a
-overflow_shr-a c = omega (arith, c.loop-power.invariant.low)
-
-pub overflow_cast-power-in-loop-power : goal.overflow_cast-power-in-loop-power
-overflow_cast-power-in-loop-power c = omega (arith, c.loop-power.invariant.low)
-
-pub overflow_shr-b : goal.overflow_shr-b
-overflow_shr-b c = omega (arith, c.loop-power.invariant.low)
-
-pub overflow_sub-power : goal.overflow_sub-power
-overflow_sub-power c = not-lowest _ _ _ c.requires c.loop-power-test.true
-
-pub loop-power-smaller : goal.loop-power-smaller
-loop-power-smaller c = omega (arith, not-lowest _ _ _ c.requires c.loop-power-test.true)
-
-pub loop-power-preserved : goal.loop-power-preserved
-loop-power-preserved c = same-below c.loop-power.invariant (not-lowest _ _ _ c.requires c.loop-power-test.true) c.loop-power-test.true
+pub overflow_sub-result : goal.overflow_sub-result
+overflow_sub-result c = not-eight c.args.a c.args.b (omega arith) (omega arith) c.requires
 
 pub returns : goal.returns
-returns c = same_ends c.loop-power.invariant c.loop-power-test.false
+returns c = highest-told c.args.a c.args.b (omega arith) (omega arith) c.requires _ (omega arith)

@@ -1,11 +1,9 @@
 -- Two rows of bytes compared.
 -- Assumes nothing.
-use Rattle.std.specs.Prelude.{List, ◌++◌, ◌⊎◌, ◌≡◌, ℕ, suc, ◌/◌, ◌^◌, ◌≤◌, ◌<◌, length, take}
+use Rattle.std.specs.Prelude.{List, ◌++◌, ◌⊎◌, ◌≡◌, ℕ, suc, ◌/◌, ◌^◌, ◌≤◌, ◌<◌, length, take, Option, Some, None}
 use Rattle.bits.specs.Row.{bits}
 use Rattle.codes.specs.Steps.Measure.{countable}
 use Rattle.apart.specs.Apart.{FirstApart}
-use Rattle.apart.specs.declared.Parting.{Parting}
-use Rattle.apart.specs.declared.Parting.TheVariants.{At, Nowhere}
 
 -- two bytes are the same above this bit, and are not with it
 pub record HighestApart (a b power : ℕ) : Type 0 where
@@ -14,9 +12,9 @@ pub record HighestApart (a b power : ℕ) : Type 0 where
   pub apart : a / 2 ^ power ≡ b / 2 ^ power → ⊥
 
 -- the first bit at which the rows differ; or none, where one is the front of the other
-abbrev pub PartsAt : List ℕ → List ℕ → Parting → Type 0
-PartsAt a b (At i) = FirstApart (bits a) (bits b) i
-PartsAt a b Nowhere = (take (length a) b ≡ a) ⊎ (take (length b) a ≡ b)
+abbrev pub PartsAt : List ℕ → List ℕ → Option ℕ → Type 0
+PartsAt a b (Some i) = FirstApart (bits a) (bits b) i
+PartsAt a b None = (take (length a) b ≡ a) ⊎ (take (length b) a ≡ b)
 
 -- rows of which the one is no shorter than the other, and not longer by something behind it
 pub record Comparable (theirs ours : List ℕ) : Type 0 where

@@ -1,7 +1,7 @@
 -- Demand 3, of damage: if only one data byte or two neighbouring ones changed, or only one or both checksum bytes, the reader refuses by checksum and hands
 -- out nothing.
 -- Assumes nothing.
-use Rattle.std.specs.Prelude.{Bool, List, [], ◌∷◌, ◌++◌, ◌≢◌, ◌≡◌, ℕ}
+use Rattle.std.specs.Prelude.{Bool, List, [], ◌∷◌, ◌++◌, ◌≢◌, ◌≡◌, ℕ, Err}
 use Rattle.bits.specs.Row.{Bytes}
 use Rattle.header.specs.declared.Format.{Format}
 use Rattle.header.specs.Fields.{bytes_of}
@@ -10,15 +10,14 @@ use Rattle.checksum.specs.Checksum.{checksum_bytes}
 use Rattle.refusals.specs.declared.ExamineRefusal.TheVariants.{Checksum}
 use Rattle.refusals.specs.declared.ReadRefusal.TheVariants.{Packet}
 use Rattle.terms.specs.declared.Terms.{Terms}
-use Rattle.reader.specs.declared.ReadAnswer.{ReadAnswer}
-use Rattle.reader.specs.declared.ReadAnswer.TheVariants.{Refused}
+use Rattle.reader.specs.Reader.{ReadAnswer}
 use Rattle.demands.specs.Makers.{Flipped}
 use Rattle.at_300.specs.OneSection.Makers.{Made}
 use Rattle.at_300.specs.OneSection.Reader.{Reads}
 
 -- what the reader does with the packet in its slice: it refuses by checksum, and the buffer is as it was
 abbrev pub RefusedByChecksum : List ℕ → ReadAnswer → List ℕ → Type 0
-RefusedByChecksum entry answer exit = (answer ≡ Refused (Packet (Checksum 0))) × (exit ≡ entry)
+RefusedByChecksum entry answer exit = (answer ≡ Err (Packet (Checksum 0))) × (exit ≡ entry)
 
 -- of a packet that was made, and of 32 bits that came for its header, whatever follows it
 pub record Damaged (terms : Terms) : Type 0 where

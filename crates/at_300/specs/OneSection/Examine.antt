@@ -1,7 +1,7 @@
 -- What is found out about a packet without a text buffer (RULES, Refusals: 17, then 1 to 7): the stated condition of each refusal, tested in this order,
 -- first match answers; and when a packet is accepted, with what.
 -- Assumes nothing.
-use Rattle.std.specs.Prelude.{List, ◌⊎◌, ◌≡◌, ℕ, ◌+◌, ◌≤◌, ◌<◌, length}
+use Rattle.std.specs.Prelude.{List, ◌⊎◌, ◌≡◌, ℕ, ◌+◌, ◌≤◌, ◌<◌, length, Ok, Err}
 use Rattle.std.specs.Int.Bits.{bit_xor}
 use Rattle.header.specs.declared.Format.{Format}
 use Rattle.header.specs.Fields.{fields_in}
@@ -18,9 +18,7 @@ use Rattle.refusals.specs.Refusals.{examine_told}
 use Rattle.terms.specs.declared.Terms.{Terms}
 use Rattle.terms.specs.Terms.{MayMend}
 use Rattle.examine.specs.declared.Reading.{Reading}
-use Rattle.examine.specs.declared.ExamineAnswer.{ExamineAnswer}
-use Rattle.examine.specs.declared.ExamineAnswer.TheVariants.{Readable, Refused}
-use Rattle.examine.specs.Examine.{UnderHeader}
+use Rattle.examine.specs.Examine.{ExamineAnswer, UnderHeader}
 use Rattle.at_300.specs.OneSection.Packet.{data_in, sum_in}
 
 -- the stated condition of each refusal
@@ -79,5 +77,5 @@ pub record Accepts (terms : Terms) (packet : List ℕ) (reading : Reading) (text
 
 -- the answer
 abbrev pub Examines : Terms → List ℕ → ExamineAnswer → Type 0
-Examines terms packet (Readable reading) = (text : List ℕ) × Accepts terms packet reading text
-Examines terms packet (Refused refusal) = Refuses terms packet refusal
+Examines terms packet (Ok reading) = (text : List ℕ) × Accepts terms packet reading text
+Examines terms packet (Err refusal) = Refuses terms packet refusal

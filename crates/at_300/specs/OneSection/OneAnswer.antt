@@ -5,8 +5,8 @@ use Rattle.header.specs.Valid.{length_in}
 use Rattle.distance.specs.Distance.{ValidWithin}
 use Rattle.packet.specs.Packet.{received}
 use Rattle.terms.specs.declared.Terms.{Terms}
-use Rattle.examine.specs.declared.ExamineAnswer.{ExamineAnswer}
-use Rattle.reader.specs.declared.ReadAnswer.{ReadAnswer}
+use Rattle.examine.specs.Examine.{ExamineAnswer}
+use Rattle.reader.specs.Reader.{ReadAnswer}
 use Rattle.at_300.specs.OneSection.Examine.{Examines}
 use Rattle.at_300.specs.OneSection.Reader.{Reads}
 

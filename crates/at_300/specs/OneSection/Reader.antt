@@ -1,6 +1,6 @@
 -- What the reader answers (RULES, Refusals: 17, then 1 to 8), and what stands in the text buffer afterwards.
 -- Assumes nothing.
-use Rattle.std.specs.Prelude.{List, ◌++◌, ◌≡◌, ℕ, ◌≤◌, ◌<◌, length, drop}
+use Rattle.std.specs.Prelude.{List, ◌++◌, ◌≡◌, ℕ, ◌≤◌, ◌<◌, length, drop, Ok, Err}
 use Rattle.header.specs.declared.Format.{Format}
 use Rattle.header.specs.Fields.{fields_in}
 use Rattle.header.specs.Formats.{HasFormat}
@@ -10,8 +10,7 @@ use Rattle.refusals.specs.declared.ReadRefusal.TheVariants.{Packet, NoRoom}
 use Rattle.refusals.specs.Match.{FirstMatch, reader_turn}
 use Rattle.refusals.specs.Refusals.{read_told}
 use Rattle.terms.specs.declared.Terms.{Terms}
-use Rattle.reader.specs.declared.ReadAnswer.{ReadAnswer}
-use Rattle.reader.specs.declared.ReadAnswer.TheVariants.{Accepted, Refused}
+use Rattle.reader.specs.Reader.{ReadAnswer}
 use Rattle.examine.specs.Examine.{UnderHeader}
 use Rattle.at_300.specs.OneSection.Examine.{Fault, Accepts}
 use Rattle.at_300.specs.OneSection.Packet.{data_in}
@@ -31,6 +30,6 @@ ReadRefuses terms packet room = FirstMatch ReadRefusal read_told (ReadFault term
 
 -- the answer, and the text buffer afterwards: as it was on refusal; on acceptance the text, and behind it as it was
 abbrev pub Reads : Terms → List ℕ → List ℕ → ReadAnswer → List ℕ → Type 0
-Reads terms packet entry (Accepted reading) exit =
+Reads terms packet entry (Ok reading) exit =
     (text : List ℕ) × Accepts terms packet reading text × (length text ≤ length entry) × (exit ≡ text ++ drop (length text) entry)
-Reads terms packet entry (Refused refusal) exit = ReadRefuses terms packet (length entry) refusal × (exit ≡ entry)
+Reads terms packet entry (Err refusal) exit = ReadRefuses terms packet (length entry) refusal × (exit ≡ entry)

@@ -1,6 +1,6 @@
 -- What the writer answers (RULES, Refusals: 12, 10, 9, 11, 8), and what stands in the packet buffer afterwards.
 -- Assumes nothing.
-use Rattle.std.specs.Prelude.{Bool, List, [], ◌++◌, ◌≡◌, ℕ, ◌+◌, ◌≤◌, ◌<◌, length, drop}
+use Rattle.std.specs.Prelude.{Bool, List, [], ◌++◌, ◌≡◌, ℕ, ◌+◌, ◌≤◌, ◌<◌, length, drop, Ok, Err}
 use Rattle.header.specs.declared.Format.{Format}
 use Rattle.header.specs.Formats.{format_number}
 use Rattle.formats.specs.Data.{Uncoded, AllCoded, data_of}
@@ -10,9 +10,7 @@ use Rattle.refusals.specs.declared.WriteRefusal.TheVariants.{OtherFormat, Empty,
 use Rattle.refusals.specs.Match.{FirstMatch, writer_turn}
 use Rattle.refusals.specs.Refusals.{write_told}
 use Rattle.terms.specs.declared.Terms.{Terms}
-use Rattle.writer.specs.declared.WriteAnswer.{WriteAnswer}
-use Rattle.writer.specs.declared.WriteAnswer.TheVariants.{Written, Refused}
-use Rattle.writer.specs.Writer.{InFormat}
+use Rattle.writer.specs.Writer.{WriteAnswer, InFormat}
 use Rattle.at_300.specs.OneSection.Packet.{packet_of}
 
 -- the packet that our writer makes of a text
@@ -42,6 +40,6 @@ pub record WriteAccepts (terms : Terms) (number : ℕ) (text : List ℕ) (room :
 
 -- the answer, and the packet buffer afterwards
 abbrev pub Writes : Terms → ℕ → Bool → List ℕ → List ℕ → WriteAnswer → List ℕ → Type 0
-Writes terms number sync text entry (Written length') exit =
+Writes terms number sync text entry (Ok length') exit =
     (format : Format) × WriteAccepts terms number text (length entry) format length' × (exit ≡ our_packet format sync text ++ drop length' entry)
-Writes terms number sync text entry (Refused refusal) exit = WriteRefuses terms number text (length entry) refusal × (exit ≡ entry)
+Writes terms number sync text entry (Err refusal) exit = WriteRefuses terms number text (length entry) refusal × (exit ≡ entry)

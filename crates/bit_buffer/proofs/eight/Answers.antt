@@ -8,14 +8,8 @@ use Rattle.bit_buffer.proofs.eight.Goals as goal
 pub returns : goal.returns
 unfolding eight_at four_at
 returns c =
-    let w = c in
-    let s = w.args.s.now in
-    let at = w.args.at in (
-      omega (
-        arith,
-        w.word-upper.ensures.0,
-        c.word-lower.ensures.0,
-        four-at s (at + 4) (at + 5) (at + 6) (at + 7) (omega arith) (omega arith) (omega arith),
-      ),
+    let s = c.args.s.now in
+    let at = c.args.at in (
+      omega (arith, c.from_be_bytes.ensures, four-at s (at + 4) (at + 5) (at + 6) (at + 7) (omega arith) (omega arith) (omega arith)),
       λ i. omega (arith, c.type_inv.s i),
     )

@@ -2,7 +2,6 @@
 use mathlib.Core.Path.{subst⁻¹}
 use Prim.Native.Nat.{ℕ, ◌-◌}
 use native.Mathlib.Omega.{arith}
-use lib.Pow.{pow_pos, pow_mono}
 use Rattle.codes.specs.Steps.BitBuffer.{Window}
 use Rattle.codes.proofs.BitBuffer.{window-whole, window-short, one_shifted, held-shifted}
 use Rattle.bit_buffer.proofs.window.Goals as goal
@@ -11,16 +10,6 @@ pub returns-then-have-ge9 : goal.returns-then-have-ge9
 returns-then-have-ge9 c =
     subst⁻¹ (Window c.args.held c.args.have) (omega arith)
     (window-whole c.args.held c.args.have c.if-have-ge9.true)
-
-pub overflow_sub-result-2 : goal.overflow_sub-result-2
-overflow_sub-result-2 c =
-    let k : ℕ = 9 - c.args.have in
-    omega (arith, one_shifted k (omega arith), pow_pos k)
-
-pub overflow_add-result : goal.overflow_add-result
-overflow_add-result c =
-    let k : ℕ = 9 - c.args.have in
-    omega (arith, one_shifted k (omega arith), pow_mono {i = k} {j = 9} (omega arith))
 
 pub returns : goal.returns
 returns c =

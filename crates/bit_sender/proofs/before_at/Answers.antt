@@ -12,5 +12,4 @@ returns-then-i-eq0 c = search rules
 
 pub returns : goal.returns
 returns c =
-    let e = c in
-    sym (last_taken e.args.text.now e.args.i (omega arith) e.requires)
+    sym (last_taken c.args.text.now c.args.i (omega arith) c.requires)

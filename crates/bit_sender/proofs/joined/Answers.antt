@@ -6,5 +6,4 @@ use Rattle.bit_sender.proofs.joined.Goals as goal
 
 pub returns : goal.returns
 returns c =
-    let e = c in
-    join e.args.first e.args.next e.requires.0 e.requires.1 refl (omega arith) (omega arith)
+    join c.args.first c.args.next c.requires.0 c.requires.1 refl (omega arith) (omega arith)

@@ -1,14 +1,9 @@
--- `formats::all_coded_in` meets its contract. The loop's invariant: whether the characters that were passed have codes.
+-- `formats::all_coded_in`: whether the characters that were passed have codes.
 -- Assumes nothing.
-use Prim.Native.Nat.{◌-◌, ◌≤◌}
-use lib.ListN.{length}
 use Rattle.bits.specs.Says.{Says}
 use Rattle.codes.specs.Coded.{CodedBelow}
 use Rattle.formats.specs.Data.{coded}
 use Rattle.formats.proofs.all_coded_in.Given as goal
 
 abbrev pub invariant-loop-i : goal.invariant-loop-i
-invariant-loop-i l = (l.i ≤ length l.text) × Says l.all (CodedBelow (coded l.format) l.text l.i)
-
-abbrev pub decreases-loop-i : goal.decreases-loop-i
-decreases-loop-i l = length l.text - l.i
+invariant-loop-i l = Says l.all (CodedBelow (coded l.format) l.text l.i)

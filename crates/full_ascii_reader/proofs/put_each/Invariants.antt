@@ -7,7 +7,10 @@ use Rattle.full_ascii.specs.Table.{scheme}
 use Rattle.full_ascii_reader.proofs.put_each.Given as goal
 
 abbrev pub invariant-loop-left : goal.invariant-loop-left
-invariant-loop-left l = (l.count + l.left ≤ l.have) × LaidSoFar scheme (low l.have l.held) (low l.left l.held) l.initial.out l.out l.n (l.n + l.count)
+invariant-loop-left l = record {
+  brief : l.count + l.left ≤ l.have;
+  laid : LaidSoFar scheme (low l.have l.held) (low l.left l.held) l.initial.out l.out l.n (l.n + l.count);
+}
 
 abbrev pub decreases-loop-left : goal.decreases-loop-left
 decreases-loop-left l = l.left

@@ -7,10 +7,10 @@ use Rattle.codes.specs.Steps.Passed.{LaidSoFar}
 use Rattle.full_ascii.specs.Table.{scheme}
 use Rattle.full_ascii_reader.proofs.put_plain.Given as goal
 
-abbrev pub invariant-loop-count : goal.invariant-loop-count
-invariant-loop-count l =
-    (l.left + 6 * l.count ≤ l.have) × (l.have ≤ l.left + 7 * l.count) × (l.count ≤ 8) × (l.top ≡ l.held * 2 ^ (64 - l.left) % 2 ^ 64)
-    × LaidSoFar scheme (low l.have l.held) (low l.left l.held) l.initial.out l.out l.n (l.n + l.count)
-
-abbrev pub decreases-loop-count : goal.decreases-loop-count
-decreases-loop-count l = 8 - l.count
+abbrev pub invariant-loop-k : goal.invariant-loop-k
+invariant-loop-k l = record {
+  most : l.left + 6 * l.k ≤ l.have;
+  least : l.have ≤ l.left + 7 * l.k;
+  top : l.top ≡ l.held * 2 ^ (64 - l.left) % 2 ^ 64;
+  laid : LaidSoFar scheme (low l.have l.held) (low l.left l.held) l.initial.out l.out l.n (l.n + l.k);
+}

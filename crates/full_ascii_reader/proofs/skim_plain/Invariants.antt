@@ -7,10 +7,10 @@ use Rattle.codes.specs.Steps.Passed.{CountedSoFar}
 use Rattle.full_ascii.specs.Table.{scheme}
 use Rattle.full_ascii_reader.proofs.skim_plain.Given as goal
 
-abbrev pub invariant-loop-codes : goal.invariant-loop-codes
-invariant-loop-codes l =
-    (l.left + 6 * l.codes ≤ l.have) × (l.have ≤ l.left + 7 * l.codes) × (l.codes ≤ 8) × (l.top ≡ l.held * 2 ^ (64 - l.left) % 2 ^ 64) × (l.count ≡ l.codes)
-    × CountedSoFar scheme (low l.have l.held) (low l.left l.held) l.count l.codes
-
-abbrev pub decreases-loop-codes : goal.decreases-loop-codes
-decreases-loop-codes l = 8 - l.codes
+abbrev pub invariant-loop : goal.invariant-loop
+invariant-loop l = record {
+  most : l.left + 6 * l.counter ≤ l.have;
+  least : l.have ≤ l.left + 7 * l.counter;
+  top : l.top ≡ l.held * 2 ^ (64 - l.left) % 2 ^ 64;
+  passed : CountedSoFar scheme (low l.have l.held) (low l.left l.held) l.counter l.counter;
+}

@@ -1,16 +1,14 @@
--- Codes passed, of the bits of a number.
+-- The table as it is read, and a word in which each code has six or seven bits.
 -- Assumes nothing.
 use Rattle.std.specs.Prelude.{ℕ, ◌/◌, ◌%◌, ◌^◌, ◌<◌}
-use Rattle.codes.specs.Pack.{low}
-use Rattle.codes.specs.Steps.Passed.{CountedSoFar}
-use Rattle.codes.specs.Steps.Words.{Few}
-use Rattle.codes.specs.declared.Skimmed.{Skimmed}
-use Rattle.full_ascii.specs.Table.{scheme}
+use Rattle.compact.specs.Table.{TableLaws}
+use Rattle.full_ascii.specs.Table.{table}
+use Rattle.full_ascii.proofs.Table.{laws, mutes, briefs}
+
+-- what reading asks of a table
+pub table_laws : TableLaws table
+table_laws = record { laws = laws; mutes = mutes; briefs = briefs 0 }
 
 -- no seven ones in a row
 abbrev pub Plain : ℕ → Type 0
 Plain held = (k : ℕ) → held / 2 ^ k % 128 < 127
-
--- codes of the lowest `have` bits of `held` were passed
-abbrev pub Skims : ℕ → ℕ → Skimmed → Type 0
-Skims held have r = Few have r.left r.count × CountedSoFar scheme (low have held) (low r.left held) r.count r.codes

@@ -1,6 +1,6 @@
 -- `header::check_bits` meets its contract: what the steps still to come leave of the number is what all of them leave of the information.
 -- Assumes nothing.
-use mathlib.Core.Path.{◌≡◌, refl, sym, ◌∙◌, subst}
+use mathlib.Core.Path.{◌≡◌, sym, ◌∙◌, subst}
 use Prim.Native.Nat.{ℕ, ◌+◌, ◌-◌, ◌*◌, ◌/◌, ◌%◌, ◌^◌, ◌≤◌, ◌<◌}
 use native.Mathlib.Omega.{arith}
 use native.Mathlib.Nat.{lt_of_lt_of_le, mod-eq_of_lt}
@@ -53,44 +53,18 @@ turn r k left m le multiple state = subst (λ (n : ℕ). Dividing r k (bit_xor l
     left_over : remainder k (bit_xor left (m * 2 ^ k)) ≡ r
     left_over = sym (taken k 4 left m top multiple.divided) ∙ state.1.1
 
-pub loop-power-init : goal.loop-power-init
-loop-power-init c = (lit≤ tt, (refl, begin c.args.information _ c.requires (lit≤ tt)))
+pub loop-k-init : goal.loop-k-init
+loop-k-init c = begin c.args.information 24 c.requires (lit≤ tt)
 
-pub overflow_sub-power : goal.overflow_sub-power
-overflow_sub-power c = omega arith
-
-pub overflow_add-power : goal.overflow_add-power
-overflow_add-power c = omega arith
-
-pub overflow_shr-left : goal.overflow_shr-left
-overflow_shr-left c = omega arith
-
-pub multiple_for-requires : goal.multiple_for-requires
-multiple_for-requires c = omega arith
-
-pub overflow_shl-left-in-loop-power : goal.overflow_shl-left-in-loop-power
-overflow_shl-left-in-loop-power c = omega arith
-
-pub loop-power-smaller : goal.loop-power-smaller
-loop-power-smaller c = omega arith
-
-pub loop-power-preserved : goal.loop-power-preserved
-loop-power-preserved c =
-    let power = c.loop-power.power in
-    let left = c.loop-power.left in
+pub loop-k-preserved : goal.loop-k-preserved
+loop-k-preserved c =
+    let k = c.loop-k.k in
+    let left = c.loop-k.left in
     let r = check_of c.args.information in
-    let down : power ≡ power - 4 + 4 = omega arith in (
-      omega arith,
-      (
-        omega arith,
-        turn r (power - 4) left c.multiple_for.result (omega arith)
-            (record { upper = omega (arith, c.multiple_for.ensures.upper); divided = c.multiple_for.ensures.divided })
-            (subst (λ (n : ℕ). Dividing r n left) down c.loop-power.invariant.1.1),
-      ),
-    )
+    turn r (4 * (k - 1)) left c.multiple_for.result (omega arith) c.multiple_for.ensures
+    (subst (λ (n : ℕ). Dividing r n left) (let down : 4 * k ≡ 4 * (k - 1) + 4 = omega arith in down) c.loop-k.invariant)
 
 pub returns : goal.returns
 unfolding remainder
 returns c =
-    let none : c.loop-power.power ≡ 0 = omega arith in
-    subst (λ (n : ℕ). remainder n c.loop-power.left ≡ check_of c.args.information) none c.loop-power.invariant.1.1.1.1
+    subst (λ (n : ℕ). remainder n c.loop-k.left ≡ check_of c.args.information) (let none : 4 * c.loop-k.k ≡ 0 = omega arith in none) c.loop-k.invariant.1.1

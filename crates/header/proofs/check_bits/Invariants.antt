@@ -1,7 +1,7 @@
 -- `header::check_bits` meets its contract: what the steps still to come leave of the number is what all of them leave of the information.
 -- Assumes nothing.
 use mathlib.Core.Path.{◌≡◌}
-use Prim.Native.Nat.{ℕ, ◌+◌, ◌%◌, ◌^◌, ◌≤◌, ◌<◌}
+use Prim.Native.Nat.{ℕ, ◌+◌, ◌*◌, ◌^◌, ◌<◌}
 use Rattle.header.specs.Check.{remainder, check_of}
 use Rattle.header.proofs.check_bits.Given as goal
 
@@ -9,8 +9,5 @@ use Rattle.header.proofs.check_bits.Given as goal
 abbrev pub Dividing : ℕ → ℕ → ℕ → Type 0
 Dividing r power left = (left < 2 ^ 31) × ((left < 2 ^ (power + 10)) × (remainder power left ≡ r))
 
-abbrev pub invariant-loop-power : goal.invariant-loop-power
-invariant-loop-power l = (l.power ≤ 24) × ((l.power % 4 ≡ 0) × Dividing (check_of l.information) l.power l.left)
-
-abbrev pub decreases-loop-power : goal.decreases-loop-power
-decreases-loop-power l = l.power
+abbrev pub invariant-loop-k : goal.invariant-loop-k
+invariant-loop-k l = Dividing (check_of l.information) (4 * l.k) l.left

@@ -7,11 +7,8 @@ use Rattle.judge.proofs.judge_one.Goals as goal
 
 pub judge_data-requires : goal.judge_data-requires
 judge_data-requires c =
-    let s = c in
-    may-be-judged s.requires _ (part-is s.args.n s.args.came.now s.requires.few) _ (omega arith) (omega arith)
+    may-be-judged c.requires _ (part-is c.args.n c.args.came.now c.requires.few) _ (omega arith) (omega arith)
 
 pub returns : goal.returns
 returns c =
-    let d = c in
-    let s = d in
-    judged-joined s.requires _ (part-is s.args.n s.args.came.now s.requires.few) d.judge_data.result d.judge_data.ensures
+    judged-joined c.requires _ (part-is c.args.n c.args.came.now c.requires.few) c.judge_data.result c.judge_data.ensures

@@ -5,10 +5,9 @@ use Rattle.header.specs.declared.Format.{Format}
 use Rattle.codes.specs.Steps.Measure.{countable}
 use Rattle.formats.specs.Data.{Carries}
 use Rattle.sections.specs.Sections.{sent_length, joined}
+use Rattle.refusals.specs.declared.ExamineRefusal.{ExamineRefusal}
 use Rattle.refusals.specs.declared.ReadRefusal.{ReadRefusal}
 use Rattle.refusals.specs.declared.ReadRefusal.TheVariants.{Packet, NoRoom}
-use Rattle.judge.specs.declared.JudgeAnswer.{JudgeAnswer}
-use Rattle.judge.specs.declared.JudgeAnswer.TheVariants.{Refused}
 
 -- the longest text of n data bytes, in any format: sixteen characters for each six bits
 abbrev pub longest_of : ℕ → ℕ
@@ -27,6 +26,6 @@ pub record Fits (most : ℕ) (format : Format) (n : ℕ) (came text : List ℕ) 
   pub carries : Carries format text (joined n came)
 
 -- the reader's refusal of a packet is the answer; that there is no room for a text is none that the caller can meet
-abbrev pub RefusesAs : ReadRefusal → JudgeAnswer → Type 0
-RefusesAs (Packet refusal) answer = answer ≡ Refused refusal
+abbrev pub RefusesAs : ReadRefusal → ExamineRefusal → Type 0
+RefusesAs (Packet refusal) answer = answer ≡ refusal
 RefusesAs (NoRoom needed) answer = Unit {0}

@@ -8,10 +8,7 @@ use Rattle.judge_report.specs.Line.{line_of}
 use Rattle.judge_report.proofs.Told.{told, one_number}
 use Rattle.judge_report.proofs.line.Goals as goal
 
-pub returns-in-Judged : goal.returns-in-Judged
-returns-in-Judged c = front_same c.put_judgement.ensures (sym (ap line_of c.in-Judged.is))
-
-pub returns-in-Refused : goal.returns-in-Refused
-returns-in-Refused c =
+pub returns-in-Err : goal.returns-in-Err
+returns-in-Err c =
     front_same c.put_refused.ensures
-    (sym (refused-is _) ∙ told refused (one_number (omega (arith, c.number.ensures))) ∙ sym (ap line_of c.in-Refused.is))
+    (sym (refused-is _) ∙ told refused (one_number (omega (arith, c.number.ensures))) ∙ sym (ap line_of c.in-Err.is))

@@ -3,8 +3,5 @@
 use Rattle.lines.proofs.Putting.{DigitsLeft}
 use Rattle.lines.proofs.put_hexadecimal.Given as goal
 
-abbrev pub invariant-loop-places : goal.invariant-loop-places
-invariant-loop-places l = DigitsLeft l.n l.initial.out l.at l.out l.end l.places
-
-abbrev pub decreases-loop-places : goal.decreases-loop-places
-decreases-loop-places l = l.places
+abbrev pub invariant-loop-place : goal.invariant-loop-place
+invariant-loop-place l = DigitsLeft l.n l.initial.out l.at l.out l.end l.place

@@ -3,15 +3,11 @@
 use mathlib.Core.List.{◌∷◌}
 use mathlib.Core.Path.{refl}
 use native.Mathlib.Omega.{arith}
-use lib.ListN.{length-set}
 use Rattle.lines.specs.Line.{hexadecimal}
 use Rattle.lines.specs.Steps.Put.{PutsRow}
-use Rattle.lines.proofs.Putting.{puts-length, puts-more, puts-as}
+use Rattle.lines.proofs.Putting.{puts-more, puts-as}
 use Rattle.lines.proofs.put_mask.Goals.{After-put_hexadecimal}
 use Rattle.lines.proofs.put_mask.Goals as goal
-
-pub put_hexadecimal-requires : goal.put_hexadecimal-requires
-put_hexadecimal-requires c = simp length-set (omega (arith, c.requires))
 
 -- the space, and the digits behind it
 row_put : (c : After-put_hexadecimal)
@@ -21,9 +17,6 @@ row_put : (c : After-put_hexadecimal)
 row_put c =
     let s = c in
     puts-more (puts-as _ refl refl (omega (arith, s.requires))) c.put_hexadecimal.ensures (omega (arith, s.requires))
-
-pub shape_of-out : goal.shape_of-out
-shape_of-out c = puts-length (row_put (goal.at.shape_of-out c).After-put_hexadecimal) c.requires
 
 pub returns : goal.returns
 returns c = row_put (goal.at.returns c).After-put_hexadecimal

@@ -21,14 +21,14 @@ returns-in_default c =
     r.repair.ensures c.in_default.is
 
 -- what is done to the word
-turned : (c : After-with_parity-header) → Turned c.args.received c.in-Bits.mask c.with_parity-header.result
+turned : (c : After-with_parity-header) → Turned c.args.received c.in-Some.mask c.with_parity-header.result
 turned c =
     let m = c in
     let r = m in
     record {
       account =
-          repaired r.args.received r.difference.result m.in-Bits.mask r.repair.result r.difference.ensures
-          r.repair.ensures m.in-Bits.is;
+          repaired r.args.received r.difference.result m.in-Some.mask r.repair.result r.difference.ensures
+          r.repair.ensures m.in-Some.is;
       bits = omega arith;
       odd = c.with_parity-header.ensures.odd;
       low = c.with_parity-header.ensures.low;

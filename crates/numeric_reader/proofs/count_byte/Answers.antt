@@ -7,12 +7,6 @@ use Rattle.numeric_reader.proofs.Counting.{counted-told}
 use Rattle.numeric_reader.proofs.Pairs.{one-small}
 use Rattle.numeric_reader.proofs.count_byte.Goals as goal
 
-pub overflow_mul-across : goal.overflow_mul-across
-overflow_mul-across c = omega arith
-
-pub overflow_add-across : goal.overflow_add-across
-overflow_add-across c = omega arith
-
 pub overflow_add-result : goal.overflow_add-result
 overflow_add-result c =
     let a = c.args in

@@ -5,7 +5,6 @@ use mathlib.Core.Path.{ap, subst}
 use Prim.Native.Nat.{ℕ, ◌-◌, ◌*◌}
 use native.Mathlib.Omega.{arith}
 use lib.ListN.{get_or, drop_of_length-le}
-use borrow.Author.Tests.{not-false}
 use Rattle.numeric.specs.Steps.Text.{spelled, text_of}
 use Rattle.numeric_reader.specs.Steps.Reached.{Reached}
 use Rattle.numeric_reader.specs.Steps.Signs.{saves, sign_after}
@@ -23,15 +22,6 @@ returns-then-s-eq0 c =
     (subst (λ (l : List ℕ). Reached (text_of s) l 0 0) (ap spelled (drop_of_length-le s {i = 0} (omega arith))) (reached-none (spelled s))) in
     measured s _ _ (omega (arith, end)) (omega arith)
 
-pub bounds-s-0 : goal.bounds-s-0
-bounds-s-0 c = omega arith
-
-pub saved_by-saved-requires : goal.saved_by-saved-requires
-saved_by-saved-requires c = tt
-
-pub overflow_cast-saved : goal.overflow_cast-saved
-overflow_cast-saved c = omega arith
-
 pub loop-i-init : goal.loop-i-init
 loop-i-init c =
     let k = c in
@@ -43,52 +33,6 @@ loop-i-init c =
       omega (arith, c.saved_by-saved.ensures),
       counts-first s (omega arith) (omega (arith, k.type_inv.s 0)) c.saved_by-saved.ensures (omega (arith, c.saved_by-saved.ensures)),
     )
-
-pub block_end-to-requires : goal.block_end-to-requires
-block_end-to-requires c = omega arith
-
-pub count_block-block-requires : goal.count_block-block-requires
-count_block-block-requires c = omega arith
-
-pub measure_each-requires : goal.measure_each-requires
-measure_each-requires c = omega arith
-
-pub returns-then-not-block : goal.returns-then-not-block
-returns-then-not-block c = c.measure_each.ensures
-
-pub overflow_sub-codes : goal.overflow_sub-codes
-overflow_sub-codes c = omega arith
-
-pub overflow_mul-codes : goal.overflow_mul-codes
-overflow_mul-codes c = omega arith
-
-pub overflow_add-codes : goal.overflow_add-codes
-overflow_add-codes c = omega arith
-
-pub overflow_cast-saved-in-loop-i : goal.overflow_cast-saved-in-loop-i
-overflow_cast-saved-in-loop-i c = omega arith
-
-pub overflow_add-saved : goal.overflow_add-saved
-overflow_add-saved c = omega (arith, c.count_block-block.ensures.0)
-
-pub loop-i-smaller : goal.loop-i-smaller
-loop-i-smaller c = omega arith
-
-pub loop-i-preserved : goal.loop-i-preserved
-loop-i-preserved c =
-    let b = c in
-    let a = b in
-    let s = a.args.s.now in
-    let few = b.count_block-block.ensures.0 in (
-      omega arith,
-      omega arith,
-      omega arith,
-      omega arith,
-      b.count_block-block.ensures.1 (not-false _ c.if-not-block.false) (text_of s) (a.loop-i.i * 2 - a.loop-i.saved) _ (omega arith) a.loop-i.invariant.4,
-    )
-
-pub overflow_sub-characters : goal.overflow_sub-characters
-overflow_sub-characters c = omega arith
 
 pub returns : goal.returns
 unfolding spelled

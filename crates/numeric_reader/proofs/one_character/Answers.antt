@@ -10,5 +10,5 @@ returns-then-one-ge2 c = sym (pair-stop _ _ (omega arith) (omega arith))
 pub returns-then-other-lt4 : goal.returns-then-other-lt4
 returns-then-other-lt4 c = sym (pair-minus _ _ (omega arith) (omega arith))
 
-pub returns : goal.returns
-returns c = sym (pair-equals _ _ (omega arith) (omega arith))
+pub returns-else-other-lt4 : goal.returns-else-other-lt4
+returns-else-other-lt4 c = sym (pair-equals _ _ (omega arith) (omega arith))

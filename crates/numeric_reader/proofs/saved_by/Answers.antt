@@ -1,12 +1,15 @@
--- `numeric_reader::saved_by` meets its contract. Assumes nothing.
-use mathlib.Core.Path.{sym, ap, ◌∙◌}
+-- `numeric_reader::saved_by` meets its contract.
+-- Assumes nothing.
+use mathlib.Core.Bool.{Bool, true, false}
+use mathlib.Core.Path.{◌≡◌, refl, ap, ◌∙◌}
+use Rattle.std.specs.Int.{from_bool}
 use Rattle.numeric_reader.specs.Steps.Signs.{one}
 use Rattle.numeric_reader.proofs.saved_by.Goals as goal
 
-pub returns-then-joins : goal.returns-then-joins
+same : (t : Bool) → from_bool t ≡ one t
 unfolding one
-returns-then-joins c = sym (ap one (sym c.joins.ensures ∙ c.if-joins.true))
+same true = refl
+same false = refl
 
-pub returns-else-joins : goal.returns-else-joins
-unfolding one
-returns-else-joins c = sym (ap one (sym c.joins.ensures ∙ c.if-joins.false))
+pub returns : goal.returns
+returns c = c.from.ensures ∙ same c.joins.result ∙ ap one c.joins.ensures

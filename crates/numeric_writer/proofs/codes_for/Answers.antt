@@ -5,21 +5,16 @@ use Rattle.numeric_writer.proofs.codes_for.Goals as goal
 
 pub returns-then-before-c : goal.returns-then-before-c
 returns-then-before-c c =
-    let e = c in
-    (omega (arith, counts-none e.args.before e.args.c c.if-before-c.true), omega arith)
+    (omega (arith, counts-none c.args.before c.args.c c.if-before-c.true), omega arith)
 
 pub returns-then-of_signs-c : goal.returns-then-of_signs-c
-returns-then-of_signs-c c =
-    let o = c in
-    let e = o in (
-      omega (arith, counts_some e.args.before e.args.c (omega arith) e.requires o.if-before-c.false o.of_signs.ensures c.if-of_signs-c.true),
-      omega arith,
-    )
+returns-then-of_signs-c c = (
+  omega (arith, counts_some c.args.before c.args.c (omega arith) c.requires c.if-before-c.false c.of_signs.ensures c.if-of_signs-c.true),
+  omega arith,
+)
 
 pub returns : goal.returns
-returns c =
-    let o = c in
-    let e = o in (
-      omega (arith, counts_some e.args.before e.args.c (omega arith) e.requires o.if-before-c.false o.of_signs.ensures c.if-of_signs-c.false),
-      omega arith,
-    )
+returns c = (
+  omega (arith, counts_some c.args.before c.args.c (omega arith) c.requires c.if-before-c.false c.of_signs.ensures c.if-of_signs-c.false),
+  omega arith,
+)

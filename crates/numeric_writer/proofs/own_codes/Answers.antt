@@ -5,5 +5,4 @@ use Rattle.numeric_writer.proofs.own_codes.Goals as goal
 
 pub returns : goal.returns
 returns c =
-    let e = c in
-    own-some e.args.before e.args.c c.packed_codes-packed.result (omega arith) c.packed_codes-packed.ensures (omega arith) (omega arith)
+    own-some c.args.before c.args.c c.packed_codes-packed.result (omega arith) c.packed_codes-packed.ensures (omega arith) (omega arith)

@@ -9,9 +9,8 @@ use Rattle.pseudo_binary_reader.proofs.buffer_at.Goals as goal
 
 pub returns-then-first-s : goal.returns-then-first-s
 returns-then-first-s c =
-    let e = c in
-    let s = e.args.s.now in
-    let at = e.args.at in
+    let s = c.args.s.now in
+    let at = c.args.at in
     record {
       same = ap (λ (n : ℕ). ahead s 0 n (at / 8)) (let x : 0 ≡ 0 - at % 8 = omega arith in x)
           ∙ ahead-at s 0 0 (at / 8) at (omega arith) (ahead_none s (at / 8));
@@ -20,14 +19,10 @@ returns-then-first-s c =
       enough = λ l. omega arith;
     }
 
-pub overflow_cast-result : goal.overflow_cast-result
-overflow_cast-result c = omega (arith, c.type_inv.s (c.args.at / 8))
-
 pub returns-then-first-s-2 : goal.returns-then-first-s-2
 returns-then-first-s-2 c =
-    let e = c in
-    let s = e.args.s.now in
-    let at = e.args.at in
+    let s = c.args.s.now in
+    let at = c.args.at in
     record {
       same = ahead-at s (get_or s (at / 8) 0) 8 (at / 8 + 1) at (omega arith)
           (ahead-one s (at / 8) (omega (arith, c.if-first-s-2.true)) (omega (arith, c.type_inv.s (at / 8))));
@@ -38,12 +33,11 @@ returns-then-first-s-2 c =
 
 pub returns : goal.returns
 returns c =
-    let e = c in
-    let s = e.args.s.now in
-    let at = e.args.at in
+    let s = c.args.s.now in
+    let at = c.args.at in
     record {
       same = ahead-at s c.pair.result 16 (at / 8 + 2) at (omega arith) c.pair.ensures.0;
-      within = omega (arith, e.requires, c.if-first-s-2.false, c.if-first-s.false);
+      within = omega (arith, c.requires, c.if-first-s-2.false, c.if-first-s.false);
       few = omega arith;
       enough = λ l. omega arith;
     }

@@ -7,8 +7,6 @@ use Rattle.pseudo_binary_reader.proofs.eight_characters.Goals as goal
 
 pub returns : goal.returns
 returns c =
-    let w = c in
-    let e = w in
     λ at place.
-    word-eight e.args.s.now e.args.first e.args.behind at c.spread.result e.requires.0 w.eight.ensures.1 place e.requires.1
-    (subst (λ (x : ℕ). Spread (x / 2 ^ e.args.behind % 2 ^ 48) c.spread.result) w.eight.ensures.0 c.spread.ensures)
+    word-eight c.args.s.now c.args.first c.args.behind at c.spread.result c.requires.0 c.eight.ensures.1 place c.requires.1
+    (subst (λ (x : ℕ). Spread (x / 2 ^ c.args.behind % 2 ^ 48) c.spread.result) c.eight.ensures.0 c.spread.ensures)

@@ -5,5 +5,4 @@ use Rattle.pseudo_binary_reader.proofs.nine_at.Goals as goal
 
 pub returns : goal.returns
 returns c =
-    let e = c in
-    nine-part e.args.s.now c.pair.result e.args.at _ e.requires c.pair.ensures.0 (omega arith)
+    nine-part c.args.s.now c.pair.result c.args.at _ c.requires c.pair.ensures.0 (omega arith)

@@ -4,9 +4,6 @@ use Rattle.pseudo_binary_reader.proofs.put_eight.Goals as goal
 
 pub returns : goal.returns
 returns c =
-    let second = c in
-    let first = second in
-    let e = first in
     λ bs eight.
-    eight-laid bs e.args.out.now first.spill.new.out second.spill-2.new.out e.args.n e.args.word e.requires eight
-    first.spill.ensures second.spill-2.ensures
+    eight-laid bs c.args.out.now c.spill.new.out c.spill-2.new.out c.args.n c.args.word c.requires eight
+    c.spill.ensures c.spill-2.ensures

@@ -2,7 +2,7 @@
 -- what is left. Assumes nothing.
 use mathlib.Core.Path.{◌≡◌}
 use mathlib.Core.List.{List}
-use Prim.Native.Nat.{ℕ, ◌-◌, ◌^◌, ◌≤◌, ◌<◌}
+use Prim.Native.Nat.{ℕ, ◌^◌, ◌≤◌, ◌<◌}
 use lib.ListN.{length}
 use Rattle.codes.specs.Steps.Laid.{laid}
 use Rattle.pseudo_binary_reader.specs.Steps.Taken.{Eight, characters_in}
@@ -15,6 +15,3 @@ invariant-loop-done l =
     × (l.left < 2 ^ 64)
     × (length l.out ≡ length l.initial.out)
     × ((bs : List ℕ) → Eight bs l.word → Left bs l.done l.left × (l.out ≡ laid l.initial.out l.n (characters_in l.done bs)))
-
-abbrev pub decreases-loop-done : goal.decreases-loop-done
-decreases-loop-done l = l.count - l.done

@@ -4,5 +4,4 @@ use Rattle.pseudo_binary_reader.proofs.top_at.Goals as goal
 
 pub returns : goal.returns
 returns c =
-    let e = c in
-    top-word e.args.s.now e.args.at c.eight.result e.requires c.eight.ensures.1 c.eight.ensures.0
+    top-word c.args.s.now c.args.at c.eight.result c.requires c.eight.ensures.1 c.eight.ensures.0

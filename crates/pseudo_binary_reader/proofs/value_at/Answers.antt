@@ -6,27 +6,19 @@ use Rattle.pseudo_binary_reader.proofs.Starts.{ahead-one}
 use Rattle.pseudo_binary_reader.proofs.Taking.{value-part}
 use Rattle.pseudo_binary_reader.proofs.value_at.Goals as goal
 
-pub overflow_cast-result : goal.overflow_cast-result
-overflow_cast-result c = omega (arith, c.type_inv.s (c.args.at / 8))
-
 pub returns-then-before-le2 : goal.returns-then-before-le2
 returns-then-before-le2 c =
-    let e = c in
-    let s = e.args.s.now in
-    let at = e.args.at in (
+    let s = c.args.s.now in
+    let at = c.args.at in (
       value-part s (get_or s (at / 8) 0) 8 (at / 8 + 1) (at / 8) (at % 8) at (2 - at % 8)
-          (ahead-one s (at / 8) (omega (arith, e.requires)) (omega (arith, c.type_inv.s (at / 8)))) (omega arith)
+          (ahead-one s (at / 8) (omega (arith, c.requires)) (omega (arith, c.type_inv.s (at / 8)))) (omega arith)
           (omega (arith, c.if-before-le2.true)),
       omega arith,
     )
 
-pub pair-requires : goal.pair-requires
-pair-requires c = omega (arith, c.requires, c.if-before-le2.false)
-
 pub returns : goal.returns
 returns c =
-    let e = c in
-    let at = e.args.at in (
-      value-part e.args.s.now c.pair.result 16 (at / 8 + 2) (at / 8) (at % 8) at (10 - at % 8) c.pair.ensures.0 (omega arith) (omega arith),
+    let at = c.args.at in (
+      value-part c.args.s.now c.pair.result 16 (at / 8 + 2) (at / 8) (at % 8) at (10 - at % 8) c.pair.ensures.0 (omega arith) (omega arith),
       omega arith,
     )

@@ -18,9 +18,8 @@ run_of-count-requires c = (omega arith, (spaces, spaces-between))
 pub overflow_sub-result : goal.overflow_sub-result
 unfolding is_of
 overflow_sub-result c =
-    let e = c in
-    run-some e.args.text.now e.args.i e.requires.1 spaces 15 c.run_of-count.result
-    (eq-eqb (get_or e.args.text.now e.args.i 0) SPACE c.in-32.is) (c.run_of-count.ensures spaces spaces-between)
+    run-some c.args.text.now c.args.i c.requires.1 spaces 15 c.run_of-count.result
+    (eq-eqb (get_or c.args.text.now c.args.i 0) SPACE c.in-32.is) (c.run_of-count.ensures spaces spaces-between)
 
 pub run_of-count-requires-in-47 : goal.run_of-count-requires-in-47
 run_of-count-requires-in-47 c = (omega arith, (slashes, slashes-between))
@@ -28,47 +27,36 @@ run_of-count-requires-in-47 c = (omega arith, (slashes, slashes-between))
 pub overflow_sub-result-in-47 : goal.overflow_sub-result-in-47
 unfolding is_of
 overflow_sub-result-in-47 c =
-    let e = c in
-    run-some e.args.text.now e.args.i e.requires.1 slashes 15 c.run_of-count-in-47.result
-    (eq-eqb (get_or e.args.text.now e.args.i 0) SLASH c.in-47.is) (c.run_of-count-in-47.ensures slashes slashes-between)
+    run-some c.args.text.now c.args.i c.requires.1 slashes 15 c.run_of-count-in-47.result
+    (eq-eqb (get_or c.args.text.now c.args.i 0) SLASH c.in-47.is) (c.run_of-count-in-47.ensures slashes slashes-between)
 
 pub overflow_add-result : goal.overflow_add-result
 overflow_add-result c =
-    let e = c in
-    omega (arith, c.run_of-count-in-47.ensures slashes slashes-between, run-le slashes 16 (drop e.args.i e.args.text.now))
-
-pub values_at-values-requires : goal.values_at-values-requires
-values_at-values-requires c = let e = c in (e.requires.0, omega arith)
+    omega (arith, c.run_of-count-in-47.ensures slashes slashes-between, run-le slashes 16 (drop c.args.i c.args.text.now))
 
 -- the last arm is that of the values
 is-value : (c : In_default) → is_of values (get_or c.args.text.now c.args.i 0) ≡ true
 is-value c =
-    let e = c in
-    else-value (get_or e.args.text.now e.args.i 0) (e.requires.0 e.args.i e.requires.1) (omega arith) (omega arith)
+    else-value (get_or c.args.text.now c.args.i 0) (c.requires.0 c.args.i c.requires.1) (omega arith) (omega arith)
 
 pub overflow_sub-result-in_default : goal.overflow_sub-result-in_default
 overflow_sub-result-in_default c =
-    let e = c in
-    run-some e.args.text.now e.args.i e.requires.1 values 127 c.values_at-values.result (is-value (goal.at.overflow_sub-result-in_default c).In_default)
+    run-some c.args.text.now c.args.i c.requires.1 values 127 c.values_at-values.result (is-value (goal.at.overflow_sub-result-in_default c).In_default)
     c.values_at-values.ensures
 
 pub overflow_add-result-in_default : goal.overflow_add-result-in_default
 overflow_add-result-in_default c =
-    let e = c in
-    omega (arith, c.values_at-values.ensures, run-le values 128 (drop e.args.i e.args.text.now))
+    omega (arith, c.values_at-values.ensures, run-le values 128 (drop c.args.i c.args.text.now))
 
 pub returns-in-32 : goal.returns-in-32
 returns-in-32 c =
-    let e = c in
-    space-first e.args.text.now e.args.i e.requires.1 c.run_of-count.result c.in-32.is (c.run_of-count.ensures spaces spaces-between)
+    space-first c.args.text.now c.args.i c.requires.1 c.run_of-count.result c.in-32.is (c.run_of-count.ensures spaces spaces-between)
 
 pub returns-in-47 : goal.returns-in-47
 returns-in-47 c =
-    let e = c in
-    slash-first e.args.text.now e.args.i e.requires.1 c.run_of-count-in-47.result c.in-47.is
+    slash-first c.args.text.now c.args.i c.requires.1 c.run_of-count-in-47.result c.in-47.is
     (c.run_of-count-in-47.ensures slashes slashes-between)
 
 pub returns-in_default : goal.returns-in_default
 returns-in_default c =
-    let e = c in
-    value-first e.args.text.now e.args.i e.requires.1 c.values_at-values.result (is-value (goal.at.returns-in_default c).In_default) c.values_at-values.ensures
+    value-first c.args.text.now c.args.i c.requires.1 c.values_at-values.result (is-value (goal.at.returns-in_default c).In_default) c.values_at-values.ensures

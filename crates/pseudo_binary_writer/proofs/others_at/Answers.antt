@@ -9,18 +9,13 @@ use Rattle.pseudo_binary.specs.Writer.{Alike}
 use Rattle.pseudo_binary_writer.proofs.Eight.{others, none-borrowed, front-alike}
 use Rattle.pseudo_binary_writer.proofs.others_at.Goals as goal
 
-pub eight-requires : goal.eight-requires
-eight-requires c = c.requires.1
-
 pub overflow_sub-result : goal.overflow_sub-result
 overflow_sub-result c =
-    let e = c in
-    omega (arith, c.eight.ensures.0, none-borrowed e.args.text.now e.args.i e.requires.1 e.requires.0)
+    omega (arith, c.eight.ensures.0, none-borrowed c.args.text.now c.args.i c.requires.1 c.requires.0)
 
 pub returns : goal.returns
 returns c =
-    let e = c in
-    let s = e.args.text.now in
-    let i = e.args.i in
+    let s = c.args.text.now in
+    let i = c.args.i in
     subst⁻¹ (λ (v : ℕ). Alike values (take (count_leading_zeros 64 (others v) / 8) (drop i s))) c.eight.ensures.0
-    (front-alike s i e.requires.1 e.requires.0)
+    (front-alike s i c.requires.1 c.requires.0)

@@ -10,6 +10,3 @@ use Rattle.pseudo_binary_writer.proofs.run_of.Given as goal
 
 abbrev pub invariant-loop-n : goal.invariant-loop-n
 invariant-loop-n l = (l.n ≤ l.end) × ((k : Kind) → Between k l.character l.character → l.n + run k (l.most - l.n) (drop (l.i + l.n) l.text) ≡ run k l.most (drop l.i l.text))
-
-abbrev pub decreases-loop-n : goal.decreases-loop-n
-decreases-loop-n l = l.end - l.n

@@ -2,15 +2,10 @@
 -- Assumes nothing.
 use mathlib.Core.Path.{◌≡◌}
 use Prim.Native.Nat.{◌+◌, ◌-◌, ◌≤◌}
-use lib.ListN.{length, drop}
+use lib.ListN.{drop}
 use Rattle.pseudo_binary.specs.Table.{values}
 use Rattle.pseudo_binary.specs.Writer.{run}
 use Rattle.pseudo_binary_writer.proofs.values_from.Given as goal
 
 abbrev pub invariant-loop-n : goal.invariant-loop-n
-invariant-loop-n l =
-    (l.n ≤ l.most) × (l.i + l.n ≤ length l.text)
-    × (l.n + run values (l.most - l.n) (drop (l.i + l.n) l.text) ≡ run values l.most (drop l.i l.text))
-
-abbrev pub decreases-loop-n : goal.decreases-loop-n
-decreases-loop-n l = l.most - l.n
+invariant-loop-n l = (l.n ≤ l.end) × (l.n + run values (l.most - l.n) (drop (l.i + l.n) l.text) ≡ run values l.most (drop l.i l.text))

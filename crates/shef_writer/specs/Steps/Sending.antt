@@ -5,7 +5,7 @@ use Rattle.codes.specs.Chain.{codes}
 use Rattle.codes.specs.Coded.{last_of}
 use Rattle.codes.specs.LineEnds.{LF, each_after}
 use Rattle.codes.specs.Pack.{value}
-use Rattle.codes.specs.Steps.Sending.{OneOf, FirstOf}
+use Rattle.codes.specs.Steps.Sending.{OneOf}
 use Rattle.codes.specs.declared.Sent.{Sent}
 use Rattle.shef.specs.Writer.{own}
 
@@ -26,10 +26,6 @@ bits_for before c = length (codes (own before c))
 -- our codes of the text from place i on
 abbrev pub codes_from : List ℕ → ℕ → List ℕ
 codes_from text i = codes (each_after own (last_of (take i text)) (drop i text))
-
--- the first of them, at most so many bits; then come those of the characters that they leave
-abbrev pub FirstCodesOf : List ℕ → ℕ → ℕ → Sent → Type 0
-FirstCodesOf text = FirstOf (codes_from text) (length text)
 
 -- what a character has: the number that is its code, and 64, but for LF, which may be a part of a line end
 unfoldable pub entry_of : ℕ → ℕ

@@ -20,11 +20,6 @@ sent-fit : (f : Header) (format : Format) (number n : ℕ) (sync : Bool) → n <
 sent-fit f format number n sync few e same =
     subst Fit (sym same) (record { message_type = omega arith; extended_type = omega (arith, number_lt format); length = omega arith })
 
-pub to_bits-requires : goal.to_bits-requires
-to_bits-requires c =
-    let a = c in
-    sent-fit c.from_fields.result a.args.format c.number.result a.args.n a.args.sync a.requires.0 c.number.ensures c.from_fields.ensures
-
 pub returns : goal.returns
 unfolding header_for
 returns c =

@@ -1,10 +1,10 @@
 -- `writer::put_header` meets its contract.
 -- Assumes nothing.
 use mathlib.Core.List.{List, [], ◌∷◌}
-use mathlib.Core.Path.{◌≡◌, refl}
+use mathlib.Core.Path.{◌≡◌, refl, ap, ◌∙◌}
 use Prim.Native.Nat.{ℕ, ◌≤◌}
 use native.Mathlib.Omega.{arith}
-use lib.ListN.{length, set, drop, length-set}
+use lib.ListN.{length, get_or, set, drop}
 use Rattle.header.specs.Fields.{bytes_of}
 use Rattle.writer.proofs.put_header.Goals as goal
 
@@ -15,12 +15,9 @@ four (w ∷ x ∷ []) a b c d h = absurd (let no' : ⊥ = omega arith in no')
 four (w ∷ x ∷ y ∷ []) a b c d h = absurd (let no' : ⊥ = omega arith in no')
 four (w ∷ x ∷ y ∷ z ∷ s) a b c d h = refl
 
-pub bounds-packet-1 : goal.bounds-packet-1
-bounds-packet-1 c = simp length-set (omega arith)
-
-pub bounds-packet-2 : goal.bounds-packet-2
-bounds-packet-2 c = simp length-set (omega arith)
-
 pub returns : goal.returns
 unfolding bytes_of
-returns c = four c.args.packet.now _ _ _ _ c.requires
+returns c =
+    let s = c.args.packet.now in
+    four s _ _ _ _ c.requires
+    ∙ ap (λ (l : List ℕ). get_or l 0 0 ∷ get_or l 1 0 ∷ get_or l 2 0 ∷ get_or l 3 0 ∷ drop 4 s) c.to_be_bytes.ensures
