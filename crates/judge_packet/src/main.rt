@@ -7,6 +7,8 @@ use std::process::ExitCode;
 
 fn main(rt: HostRuntime) -> ExitCode {
     standard_input::run(
+        &mut rt.stdin(),
+        &mut rt.stdout(),
         &rt,
         "judge_packet",
         |packet| judge_report::of_packet(packet),

@@ -11,6 +11,7 @@ ghost use Rattle.judge_report.specs.Steps.Put.{PutsLine};
 
 use apart::Judgement;
 use judge::JudgeAnswer;
+use lines::Line;
 use std::fmt;
 use terms::Terms;
 
@@ -68,6 +69,14 @@ pub fn line(answer: JudgeAnswer, out: &mut [u8]) -> usize
     match answer {
         Ok(judgement) => put_judgement(judgement, out),
         Err(refusal) => lines::put_refused(refusal.number() as usize, out),
+    }
+}
+
+impl Line for Report {
+    ghost told = { λ report. line_of report.0 };
+
+    fn put(&self, out: &mut [u8]) -> usize {
+        line(self.0, out)
     }
 }
 

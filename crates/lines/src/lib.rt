@@ -1,11 +1,22 @@
-// Lines of text: words, numbers in decimal and hexadecimal, each after a single space.
+// Lines of text: words, numbers in decimal and hexadecimal, each after a single space; and what is told in a line.
 
 #![tactic(auto)]
 
-ghost use Rattle.std.specs.Prelude.{[], ◌∷◌, ◌++◌, ◌≡◌, ◌+◌, ◌≤◌, ◌<◌, length};
+ghost use Rattle.std.specs.Prelude.{List, ℕ, [], ◌∷◌, ◌++◌, ◌≡◌, ◌+◌, ◌≤◌, ◌<◌, length};
 ghost use Rattle.codes.specs.Steps.Laid.{Fronted};
 ghost use Rattle.lines.specs.Line.{decimal, decimals, hexadecimal_digit, hexadecimal, spaced, refused, line};
 ghost use Rattle.lines.specs.Steps.Put.{room, PutsRow};
+
+// What is told in a line of its own.
+pub trait Line {
+    // the line, with its end
+    ghost told: { Self → List ℕ };
+
+    // The line, at the front of `out`; the place behind it. It cannot fail.
+    fn put(&self, out: &mut [u8]) -> usize
+        requires { room ≤ length out.old }
+        ensures { Fronted (told self.now) out.old out.new result };
+}
 
 // A number in decimal, from place `at` on; the place behind it.
 fn put_decimal(n: usize, out: &mut [u8], at: usize) -> usize

@@ -6,5 +6,11 @@
 use std::process::ExitCode;
 
 fn main(rt: HostRuntime) -> ExitCode {
-    standard_input::run(&rt, "read_packet", |packet| report::of_packet(packet))
+    standard_input::run(
+        &mut rt.stdin(),
+        &mut rt.stdout(),
+        &rt,
+        "read_packet",
+        |packet| report::of_packet(packet),
+    )
 }

@@ -11,6 +11,7 @@ ghost use Rattle.report.specs.Steps.Put.{PutsLine};
 
 use examine::Reading;
 use header::Header;
+use lines::Line;
 use reader::ReadAnswer;
 use std::fmt;
 
@@ -89,6 +90,14 @@ pub fn line(answer: ReadAnswer, out: &mut [u8]) -> usize
     match answer {
         Ok(reading) => put_reading(reading, out),
         Err(refusal) => lines::put_refused(refusal.number() as usize, out),
+    }
+}
+
+impl Line for Report {
+    ghost told = { λ report. line_of report.0 };
+
+    fn put(&self, out: &mut [u8]) -> usize {
+        line(self.0, out)
     }
 }
 

@@ -2,27 +2,31 @@
 
 #![tactic(auto)]
 
-ghost use Rattle.std.specs.Prelude.{◌≤◌, ◌≡◌, length, IfOk, OnOk, IfSome};
+ghost use Rattle.std.specs.Prelude.{◌≤◌, ◌≡◌, length, IfOk, OnOk};
 ghost use Rattle.std.specs.Io.KnownBytes.{Appends};
 ghost use Rattle.std.specs.Process.{exit_status};
 ghost use Rattle.standard_input.specs.Steps.Input.{after_read, Fits, EndsAs};
 
-use std::alloc::Allocator;
+use lines::Line;
+use std::io;
 use std::io::{Read, Write};
+use std::ops::ControlFlow;
 use std::process::ExitCode;
-use std::{fmt, io};
 
 // The bytes of standard input that a program takes (RULES, Reading program; Judging).
 const INPUT: usize = 8192;
 
-// The bytes so far after a read that answered `got`, with `done` bytes before it; none where there is nothing more to come.
-fn taken(done: usize, got: io::Result<usize>) -> io::Result<Option<usize>>
+// The room for a line.
+const LINE: usize = 128;
+
+// The bytes so far after a read that answered `got`, with `done` bytes before it: whether more may come, or these are all.
+fn taken(done: usize, got: io::Result<usize>) -> io::Result<ControlFlow<usize, usize>>
     requires { Fits done got }
     ensures { result ≡ after_read done got }
 {
     match got? {
-        0 => Ok(None),
-        n => Ok(Some(done + n)),
+        0 => Ok(ControlFlow::Break(done)),
+        n => Ok(ControlFlow::Continue(done + n)),
     }
 }
 
@@ -32,10 +36,10 @@ pub fn read_input<R: Read>(reader: &mut R, buffer: &mut [u8]) -> io::Result<usiz
 {
     let mut done: usize = 0;
     while done < buffer.len() {
-        let Some(n) = taken(done, reader.read(&mut buffer[done..]))? else {
-            break;
-        };
-        done = n;
+        match taken(done, reader.read(&mut buffer[done..]))? {
+            ControlFlow::Continue(n) => done = n,
+            ControlFlow::Break(whole) => return Ok(whole),
+        }
     }
     Ok(done)
 }
@@ -48,22 +52,21 @@ fn failed(rt: &impl Eprint, program: &str, what: &str) -> ExitCode
     ExitCode::from(2)
 }
 
-// Prints a line in one piece: what `{}` writes of it.
-pub fn print_line<W: Write, A: Allocator, D: fmt::Display + Drop>(
-    out: &mut W,
-    alloc: A,
-    line: D,
-) -> io::Result<()>
-    ensures { OnOk result (IfSome (D.output line) (Appends (W.contents out.old) (W.contents out.new))) }
+// Prints a line in one piece. It asks for no memory, and fails only where the writing does.
+pub fn print_line<W: Write, L: Line>(out: &mut W, line: &L) -> io::Result<()>
+    ensures { OnOk result (Appends (W.contents out.old) (W.contents out.new) (L.told line.now)) }
 {
-    let text = line.to_string(alloc)?;
-    out.write_all(text.as_bytes())
+    let mut row = [0u8; LINE];
+    let end = line.put(&mut row);
+    out.write_all(&row[..end])
 }
 
-// Reads the packet at the front of standard input and prints the line that is reported of it. The program ends with 0, or with 2 where a read fails, and
+// Reads the packet at the front of the input and prints the line that is reported of it. The program ends with 0, or with 2 where a read fails, and
 // then without a line, or where the line cannot be written.
-pub fn run<D: fmt::Display + Drop, F: FnOnce(&[u8]) -> D>(
-    rt: &(impl Input + Print + Eprint + Alloc),
+pub fn run<R: Read, W: Write, L: Line + Drop, F: FnOnce(&[u8]) -> L>(
+    input: &mut R,
+    out: &mut W,
+    errors: &impl Eprint,
     program: &str,
     report: F,
 ) -> ExitCode
@@ -71,12 +74,12 @@ pub fn run<D: fmt::Display + Drop, F: FnOnce(&[u8]) -> D>(
     ensures { EndsAs result }
 {
     let mut packet = [0u8; INPUT];
-    let Ok(got) = read_input(&mut rt.reader(), &mut packet) else {
-        return failed(rt, program, "standard input cannot be read");
+    let Ok(got) = read_input(input, &mut packet) else {
+        return failed(errors, program, "standard input cannot be read");
     };
     let line = report(&packet[..got]);
-    if print_line(&mut io::writer(rt), rt.alloc(), line).is_err() {
-        return failed(rt, program, "the line could not be written");
+    if print_line(out, &line).is_err() {
+        return failed(errors, program, "the line could not be written");
     }
     ExitCode::SUCCESS
 }

@@ -8,6 +8,8 @@
 
 #![tactic(auto)]
 
+ghost use Rattle.std.specs.Prelude.{◌≤◌, IfSome};
+
 use apart::Judgement;
 use examine::{ExamineAnswer, Reading};
 use header::Header;
@@ -94,7 +96,8 @@ fn print_refused<W: Write>(out: &mut W, refusal: ExamineRefusal) -> io::Result<(
     let number = refusal.number();
     let value = refusal.value();
     let codes = refusal.codes();
-    writeln!(out, "refused {number} {value} {codes}")
+    out.write_all(b"refused")?;
+    writeln!(out, " {number} {value} {codes}")
 }
 
 fn print_examined<W: Write>(out: &mut W, answer: ExamineAnswer) -> io::Result<()> {
@@ -112,9 +115,10 @@ fn print_examined<W: Write>(out: &mut W, answer: ExamineAnswer) -> io::Result<()
             } = reading;
             let format = Header::number(format);
             let sync = u32::from(sync);
+            out.write_all(b"readable")?;
             writeln!(
                 out,
-                "readable {format} {sync} {mended} {mask} {codes} {data_length} {text_length} {used}"
+                " {format} {sync} {mended} {mask} {codes} {data_length} {text_length} {used}"
             )
         }
         Err(refusal) => print_refused(out, refusal),
@@ -124,8 +128,14 @@ fn print_examined<W: Write>(out: &mut W, answer: ExamineAnswer) -> io::Result<()
 fn print_judgement<W: Write>(out: &mut W, judgement: Judgement) -> io::Result<()> {
     let more = judgement.more;
     match judgement.departs_at {
-        None => writeln!(out, "ours {more}"),
-        Some(bit) => writeln!(out, "departs {bit} {more}"),
+        None => {
+            out.write_all(b"ours")?;
+            writeln!(out, " {more}")
+        }
+        Some(bit) => {
+            out.write_all(b"departs")?;
+            writeln!(out, " {bit} {more}")
+        }
     }
 }
 
@@ -145,9 +155,10 @@ fn counts(answer: ReadAnswer) -> (usize, usize) {
 }
 
 fn print_read<W: Write>(out: &mut W, answer: ReadAnswer, text: &[u8]) -> io::Result<()> {
-    let report = Report(answer);
     let (codes, with) = counts(answer);
-    writeln!(out, "{report}codes {codes}")?;
+    standard_input::print_line(out, &Report(answer))?;
+    out.write_all(b"codes")?;
+    writeln!(out, " {codes}")?;
     print_buffer(out, with, text)
 }
 
@@ -178,12 +189,14 @@ fn run_writer<W: Write>(out: &mut W, case: Case, text: &[u8], packet: &mut [u8])
     let answer = writer::write(case.rate_1200, case.named, case.sync, text, packet);
     match answer {
         Ok(length) => {
-            writeln!(out, "written {length}")?;
+            out.write_all(b"written")?;
+            writeln!(out, " {length}")?;
             print_buffer(out, length, packet)
         }
         Err(refusal) => {
             let number = refusal.number();
-            writeln!(out, "refused {number}")?;
+            out.write_all(b"refused")?;
+            writeln!(out, " {number}")?;
             print_buffer(out, refusal.value(), packet)
         }
     }
@@ -197,6 +210,20 @@ fn run_case<W: Write>(out: &mut W, case: Case, given: &[u8], lent: &mut [u8]) ->
     }
 }
 
+// The packet or text of a case, and the calls.
+fn run_next<R: Read, W: Write>(
+    reader: &mut R,
+    out: &mut W,
+    case: Case,
+    given: &mut [u8],
+    lent: &mut [u8],
+) -> io::Result<()> {
+    given.fill(0); // what does not come is 0
+    let _ = standard_input::read_input(reader, given);
+    fill(lent);
+    run_case(out, case, given, lent)
+}
+
 // Three bytes as a number, high byte first.
 fn number(bytes: [u8; 3]) -> u32 {
     let [high, middle, low] = bytes;
@@ -204,7 +231,9 @@ fn number(bytes: [u8; 3]) -> u32 {
 }
 
 // The next case; none at the end, where it is cut, and where more is asked for than a packet or text can have.
-fn next_case<R: Read>(reader: &mut R) -> Option<Case> {
+fn next_case<R: Read>(reader: &mut R) -> Option<Case>
+    ensures { IfSome result (λ case. (case.room ≤ 341504) × (case.length ≤ 341504)) }
+{
     let mut head = [0u8; 11];
     let Ok(11) = standard_input::read_input(reader, &mut head) else {
         return None;
@@ -228,16 +257,19 @@ fn next_case<R: Read>(reader: &mut R) -> Option<Case> {
 fn main(rt: HostRuntime) -> io::Result<()> {
     let mut reader = rt.stdin();
     let mut out = rt.stdout();
+    let mut given = [0u8; LARGEST];
+    let mut lent = [0u8; LARGEST];
     for _ in 0..u32::MAX {
         let Some(case) = next_case(&mut reader) else {
             break;
         };
-        let mut given = vec![in rt.alloc(); 0u8; case.length]?;
-        let mut lent = vec![in rt.alloc(); 0u8; case.room]?;
-        // what does not come is 0
-        let _ = standard_input::read_input(&mut reader, &mut given);
-        fill(&mut lent);
-        run_case(&mut out, case, &given, &mut lent)?;
+        run_next(
+            &mut reader,
+            &mut out,
+            case,
+            &mut given[..case.length],
+            &mut lent[..case.room],
+        )?;
     }
     Ok(())
 }

@@ -1,16 +1,17 @@
 -- Standard input as reads bring it in: a read that fails is not its end.
 -- Assumes nothing.
-use Rattle.std.specs.Prelude.{ℕ, zero, suc, ◌+◌, ◌≡◌, ◌<◌, ◌^◌, ◌⊎◌, Some, None, Ok, Err}
+use Rattle.std.specs.Prelude.{ℕ, zero, suc, ◌+◌, ◌≡◌, ◌<◌, ◌^◌, ◌⊎◌, Ok, Err}
 use Rattle.std.specs.Process.{exit_status}
-use Rattle.std.specs.declared.option.Option.{Option}
+use Rattle.std.specs.declared.ops.ControlFlow.{ControlFlow}
+use Rattle.std.specs.declared.ops.ControlFlow.TheVariants.{Continue, Break}
 use Rattle.std.specs.declared.process.ExitCode.{ExitCode}
 use Rattle.std.specs.declared.result.Result.{Result}
 
 -- the bytes after a read, with so many before it: an error is a failure, 0 the end, and any other number the bytes that came
-abbrev pub after_read : {E : Type 0} → ℕ → Result ℕ E → Result (Option ℕ) E
+abbrev pub after_read : {E : Type 0} → ℕ → Result ℕ E → Result (ControlFlow ℕ ℕ) E
 after_read done (Err e) = Err e
-after_read done (Ok zero) = Ok None
-after_read done (Ok (suc k)) = Ok (Some (done + suc k))
+after_read done (Ok zero) = Ok (Break done)
+after_read done (Ok (suc k)) = Ok (Continue (done + suc k))
 
 -- the bytes can be counted
 abbrev pub Fits : {E : Type 0} → ℕ → Result ℕ E → Type 0
