@@ -15,7 +15,7 @@ use Rattle.apart.specs.declared.Judgement.{Judgement}
 use Rattle.apart.proofs.Once.{one_apart, apart-differ}
 
 -- rows that part nowhere are the same
-nowhere-apart : {theirs ours : List ℕ} → Comparable theirs ours → (take (length theirs) ours ≡ theirs) ⊎ (take (length ours) theirs ≡ ours) → theirs ≡ ours
+pub nowhere-apart : {theirs ours : List ℕ} → Comparable theirs ours → (take (length theirs) ours ≡ theirs) ⊎ (take (length ours) theirs ≡ ours) → theirs ≡ ours
 nowhere-apart {theirs} {ours} c (inl front) = sym front ∙ take_all (length theirs) ours c.no-shorter
 nowhere-apart {theirs} {ours} c (inr front) =
     let rest = drop (length ours) theirs in

@@ -23,13 +23,6 @@ pub struct Buffer {
     pub next: usize,
 }
 
-// The last bits that are to be read: the lowest `have` bits of `held`.
-#[derive(Clone, Copy)]
-pub struct LastBits {
-    pub held: u64,
-    pub have: u64,
-}
-
 // Eight bytes in a row, from place `at` on, as one number.
 pub fn eight(s: &[u8], at: usize) -> u64
     requires { at + 8 ≤ length s.now }
@@ -78,18 +71,19 @@ pub fn push(held: u64, bits: u64, width: u64) -> u64
     (held << width) | bits
 }
 
-// Fewer than eight bytes as one number, and how many of its lowest bits are left without the first `skip` of them.
-pub fn last_bits(rest: &[u8], skip: u64) -> LastBits
+// The last bits in a buffer: fewer than eight bytes, without the first `skip` bits of them. The place behind them is their end.
+pub fn last_bits(rest: &[u8], skip: u64) -> Buffer
     requires { (length rest.now < 8) × (skip ≤ length rest.now * 8) }
-    ensures { Last rest.now skip result.held result.have }
+    ensures { Last rest.now skip result.held result.have result.next }
 {
     let mut held: u64 = 0;
     for byte in rest {
         held = held * 256 + *byte as u64;
     }
-    LastBits {
+    Buffer {
         held,
         have: rest.len() as u64 * 8 - skip,
+        next: rest.len(),
     }
 }
 

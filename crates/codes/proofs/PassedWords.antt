@@ -128,20 +128,22 @@ pub last-fits-word : (held byte k : ℕ) → k ≤ 56 → held < 2 ^ k → byte 
 last-fits-word held byte k small h b = lt_of_lt_of_le (last-small held byte k h b) (pow_mono (let e : k + 8 ≤ 64 = omega arith in e))
 
 -- the last bytes as a number, without the first `skip` bits
-pub last-told : (rest : List ℕ) (held skip have n : ℕ) → n ≡ length rest → held < 2 ^ (n * 8) → low (n * 8) held ++ bits (drop n rest) ≡ bits rest
-    → have + skip ≡ length rest * 8 → Last rest skip held have
-last-told rest held skip have n all small e size =
+pub last-told : (rest : List ℕ) (held skip have end n : ℕ) → n ≡ length rest → held < 2 ^ (n * 8) → low (n * 8) held ++ bits (drop n rest) ≡ bits rest
+    → have + skip ≡ length rest * 8 → end ≡ length rest → Last rest skip held have end
+last-told rest held skip have end n all small e size behind =
     let whole : low (n * 8) held ≡ bits rest = all_passed rest held n (omega (arith, all)) e in
     record {
       whole = sym (value_low (n * 8) held ∙ mod-eq_of_lt small) ∙ ap value whole;
       same = ap (λ k. low k held) (let x : have ≡ n * 8 - skip = omega (arith, all, size) in x)
           ∙ sym (low-drop held (n * 8) skip (omega (arith, all, size))) ∙ ap (drop skip) whole;
       size = size;
+      behind = behind;
     }
 
 -- and so there is one answer
-pub last_one : {rest : List ℕ} {skip held have held' have' : ℕ} → Last rest skip held have → Last rest skip held' have' → (held ≡ held') × (have ≡ have')
-last_one a b = (a.whole ∙ sym b.whole, omega (arith, a.size, b.size))
+pub last_one : {rest : List ℕ} {skip held have end held' have' end' : ℕ} → Last rest skip held have end → Last rest skip held' have' end'
+    → (held ≡ held') × (have ≡ have') × (end ≡ end')
+last_one a b = (a.whole ∙ sym b.whole, omega (arith, a.size, b.size), a.behind ∙ sym b.behind)
 
 -- what they come to, told of the whole; each number with what it must be, so that a wrong one is refused where it stands
 pub last-whole : {scheme : Scheme} {bs row : List ℕ} {n codes k j : ℕ} (at : ℕ) → CountedSoFar scheme bs row n codes → k ≡ n → j ≡ codes

@@ -12,6 +12,7 @@ use Rattle.header.specs.Valid.{length_in}
 use Rattle.sections.specs.Sections.{RightSums, FirstWrong, sent_length, joined}
 use Rattle.codes.specs.Steps.Measure.{TakesApart}
 use Rattle.codes.specs.declared.Extent.{Extent}
+use Rattle.codes.specs.declared.MalformedAt.{MalformedAt}
 use Rattle.codes.specs.declared.Unread.{Unread}
 use Rattle.codes.specs.declared.Unread.TheVariants.{Malformed, TooLong}
 use Rattle.formats.specs.Data.{CarriesIn, UnreadableAfter}
@@ -48,10 +49,10 @@ module _ (terms : Terms) (bytes : OnePacket terms.most) (packet : List ℕ) (fou
   named : MayBeNamed terms
   named = record { bits = h.framed.bits; bytes = bytes }
 
-  long : found.data_length ≡ length_in h.header
+  pub long : found.data_length ≡ length_in h.header
   long = ap (λ (r : Reading). r.data_length) h.is
 
-  whole : whole_length found.data_length ≤ length packet
+  pub whole : whole_length found.data_length ≤ length packet
   whole = omega (arith, long, h.framed.whole)
 
   pub short : found.data_length ≤ 16000
@@ -100,8 +101,46 @@ module _ (terms : Terms) (bytes : OnePacket terms.most) (packet : List ℕ) (fou
         }
     refused-data TooLong many = absurd (let no' : ⊥ = omega (arith, many, short) in no')
 
+    -- the same where it is told apart by hand: the codes with what they must be, so that wrong ones are refused where they stand
+    pub refused-came : (outcome : Result Extent Unread) → Comes outcome → (at : MalformedAt) → outcome ≡ Err (Malformed at) → (codes : ℕ) → codes ≡ at.codes
+        → Refuses terms packet (unread_as (Malformed (record { bit = at.bit; codes = codes })))
+    refused-came outcome taken at e codes d =
+        subst (λ (n : ℕ). Refuses terms packet (unread_as (Malformed (record { bit = at.bit; codes = n })))) (sym d)
+        (refused-data (Malformed at) (subst Comes e taken))
+
     -- the reading that was found, with the text's length and the codes
-    pub accepted : (extent : Extent) → Comes (Ok extent) → (codes n : ℕ) → codes ≡ extent.codes → n ≡ extent.characters
+    pub accepted : (text : List ℕ) (k : ℕ) → CarriesIn h.format (data_in h.header packet) text k → (n codes : ℕ) → n ≡ length text → codes ≡ k
+        → Accepts terms packet
+        (record {
+          format = found.format;
+          sync = found.sync;
+          mended = found.mended;
+          mask = found.mask;
+          codes = codes;
+          data_length = found.data_length;
+          text_length = n;
+          used = found.used;
+        }) text
+    accepted text k carries n codes e d =
+        record {
+          format = h.format;
+          header = h.header;
+          allowed = record { framed = h.framed; summed = summed; carries = carries.0 };
+          is = λ i.
+              record {
+                format = (h.is i).format;
+                sync = (h.is i).sync;
+                mended = (h.is i).mended;
+                mask = (h.is i).mask;
+                codes = (d ∙ sym carries.1) i;
+                data_length = (h.is i).data_length;
+                text_length = e i;
+                used = (h.is i).used;
+              };
+        }
+
+    -- the same of what was measured, with the text that was measured
+    pub accepted-measured : (extent : Extent) → Comes (Ok extent) → (codes n : ℕ) → codes ≡ extent.codes → n ≡ extent.characters
         → (text : List ℕ)
         × Accepts terms packet
         (record {
@@ -114,23 +153,5 @@ module _ (terms : Terms) (bytes : OnePacket terms.most) (packet : List ℕ) (fou
           text_length = n;
           used = found.used;
         }) text
-    accepted extent taken codes n d e =
-        let there = (under (Ok extent) taken).1 in (
-          there.0,
-          record {
-            format = h.format;
-            header = h.header;
-            allowed = record { framed = h.framed; summed = summed; carries = there.2.0 };
-            is = λ i.
-                record {
-                  format = (h.is i).format;
-                  sync = (h.is i).sync;
-                  mended = (h.is i).mended;
-                  mask = (h.is i).mask;
-                  codes = (d ∙ sym there.2.1) i;
-                  data_length = (h.is i).data_length;
-                  text_length = (e ∙ sym there.1) i;
-                  used = (h.is i).used;
-                };
-          },
-        )
+    accepted-measured extent taken codes n d e =
+        let there = (under (Ok extent) taken).1 in (there.0, accepted there.0 extent.codes there.2 n codes (e ∙ sym there.1) d)

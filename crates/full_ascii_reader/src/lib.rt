@@ -91,16 +91,16 @@ fn skim_plain(held: u64, have: u64) -> Skimmed
 {
     let mut top = held << (64 - have);
     let mut left = have;
+    let mut codes: usize = 0;
+    let mut count: usize = 0;
     for _ in 0..8u64 {
         let c = first_plain(top >> 57);
         top <<= c.width;
         left -= c.width;
+        codes += 1;
+        count += c.count;
     }
-    Skimmed {
-        left,
-        codes: 8,
-        count: 8,
-    }
+    Skimmed { left, codes, count }
 }
 
 // The characters of eight codes of six or seven bits, from place n on.

@@ -65,6 +65,7 @@ fn measure_each(s: &[u8]) -> Measured
     requires { length s.now < countable }
     ensures { result ≡ Ok (extent (length (text_of s.now)) (length (spelled s.now))) }
 {
+    let mut codes: usize = 0;
     let mut saved: usize = 0;
     let mut before: u32 = 8;
     for byte in s {
@@ -76,8 +77,8 @@ fn measure_each(s: &[u8]) -> Measured
             saved += p.fewer;
             before = p.before;
         }
+        codes += 2;
     }
-    let codes = s.len() * 2;
     Ok(Extent {
         characters: codes - saved,
         codes,

@@ -114,19 +114,17 @@ fn skim_nine(held: u64, have: u64) -> Skimmed
 {
     let mut top = held << (64 - have);
     let mut left = have;
+    let mut codes: usize = 0;
     let mut count: usize = 0;
     for _ in 0..9u64 {
         let six = top >> 58;
         top = shifted(top, six);
         left -= width_of(six);
+        codes += 1;
         count += count_at(six);
     }
     if count <= 18 {
-        return Skimmed {
-            left,
-            codes: 9,
-            count,
-        };
+        return Skimmed { left, codes, count };
     }
     compact::skim_each::<Shef>(held, have)
 }

@@ -26,4 +26,4 @@ loop-byte-preserved c =
 pub returns : goal.returns
 returns c =
     let i = c.loop-byte.invariant in
-    last-told c.args.rest.now c.loop-byte.held c.args.skip _ c.loop-byte.byte-index (omega arith) i.small i.same (omega (arith, c.requires.1))
+    last-told c.args.rest.now c.loop-byte.held c.args.skip _ _ c.loop-byte.byte-index (omega arith) i.small i.same (omega (arith, c.requires.1)) (omega arith)

@@ -28,8 +28,9 @@ pub record LaidWords (scheme : Scheme) (s entry out rest : List ℕ) (skip n : �
   pub room : n ≤ length entry
   pub laid : LaidSoFar scheme (bits s) (drop skip (bits rest)) entry out 0 n
 
--- the last bytes as a number, whose lowest `have` bits are theirs without the first `skip`
-pub record Last (rest : List ℕ) (skip held have : ℕ) : Type 0 where
+-- the last bytes as a number, whose lowest `have` bits are theirs without the first `skip`; and the place behind them
+pub record Last (rest : List ℕ) (skip held have end : ℕ) : Type 0 where
   pub whole : held ≡ value (bits rest)
   pub same : low have held ≡ drop skip (bits rest)
   pub size : have + skip ≡ length rest * 8
+  pub behind : end ≡ length rest

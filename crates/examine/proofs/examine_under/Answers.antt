@@ -1,7 +1,7 @@
 -- `examine::examine_under` meets its contract.
 -- Assumes nothing.
 use native.Mathlib.Omega.{arith}
-use Rattle.examine.proofs.ExamineAnswers.{refused-on, refused-sum, refused-data, accepted}
+use Rattle.examine.proofs.ExamineAnswers.{refused-on, refused-sum, refused-data, accepted-measured}
 use Rattle.examine.proofs.examine_under.Goals as goal
 
 pub returns-in-Some : goal.returns-in-Some
@@ -16,7 +16,9 @@ returns-in_err-extent c =
     (refused-data c.args.terms c.requires packet _ c.in_ok-found.ensures c.in_default.ensures unread.field-0.0 unread.ensures) _
     c.from_residual-in_err-extent.ensures.1
 
+-- malformed data is refused above, as `?` hands it on
+-- data with a text is read
 pub returns : goal.returns
 returns c =
     let extent = c.in_ok-extent in
-    accepted c.args.terms c.requires c.args.packet.now _ c.in_ok-found.ensures c.in_default.ensures extent.extent extent.ensures _ _ (omega arith) (omega arith)
+    accepted-measured c.args.terms c.requires c.args.packet.now _ c.in_ok-found.ensures c.in_default.ensures extent.extent extent.ensures _ _ (omega arith) (omega arith)

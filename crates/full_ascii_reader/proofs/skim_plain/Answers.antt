@@ -12,7 +12,7 @@ use Rattle.full_ascii_reader.proofs.Seven.{seven-takes}
 use Rattle.full_ascii_reader.proofs.skim_plain.Goals as goal
 
 pub loop-init : goal.loop-init
-loop-init c = record { most = omega arith; least = omega arith; top = refl; passed = counting-none scheme (low c.args.have c.args.held) }
+loop-init c = record { most = omega arith; least = omega arith; taken = omega arith; said = omega arith; top = refl; passed = counting-none scheme (low c.args.have c.args.held) }
 
 pub first_plain-c-requires : goal.first_plain-c-requires
 first_plain-c-requires c =
@@ -28,6 +28,8 @@ loop-preserved c =
     record {
       most = omega (arith, f.0, f.1);
       least = omega (arith, f.1);
+      taken = omega (arith, i.taken);
+      said = omega (arith, i.said, f.2);
       top = top-on c.args.held c.loop.left c.loop.top r.width (omega (arith, f.1)) (omega arith) i.top;
       passed = counted-code mutes (low c.args.have c.args.held) c.args.held c.loop.left t.0 c.loop.counter c.loop.counter r i.passed t.1 t.2
           (omega (arith, f.1)) (omega (arith, f.2)) (omega arith);

@@ -11,6 +11,8 @@ abbrev pub invariant-loop : goal.invariant-loop
 invariant-loop l = record {
   most : l.left + 6 * l.counter ≤ l.have;
   least : l.have ≤ l.left + 7 * l.counter;
+  taken : l.codes ≡ l.counter;
+  said : l.count ≡ l.counter;
   top : l.top ≡ l.held * 2 ^ (64 - l.left) % 2 ^ 64;
   passed : CountedSoFar scheme (low l.have l.held) (low l.left l.held) l.counter l.counter;
 }

@@ -64,7 +64,7 @@ bits-size before [] = pick (eqb before CR)
     pick false = refl
 bits-size before (c ∷ t) = omega (arith, bits-own before c, size-first c t, bits-size c t)
 
-bits-whole : (t : List ℕ) → sum_after bits_for 0 t ≡ length (codes (ours t))
+pub bits-whole : (t : List ℕ) → sum_after bits_for 0 t ≡ length (codes (ours t))
 unfolding size
 bits-whole t = omega (arith, bits-size 0 t)
 
@@ -80,7 +80,7 @@ own-wide c =
     either-wide (eqb c HT) _ _ (lit≤ tt)
     (either-wide (eqb c LF) _ _ (lit≤ tt) (either-wide (eqb c CR) _ _ (lit≤ tt) (either-wide (ltb c 64) (six c) (seven c) (lit≤ tt) (lit≤ tt))))
 
-least-bits : (t : List ℕ) → 9 * length t ≤ 2 * length (codes (ours t))
+pub least-bits : (t : List ℕ) → 9 * length t ≤ 2 * length (codes (ours t))
 unfolding codes pair special low bit
 least-bits =
     ours-has (λ (t : List ℕ) (es : List Entry). 9 * length t ≤ 2 * length (codes es)) (lit≤ tt)

@@ -36,12 +36,12 @@ all-stand text h i l = coded-stands _ (get_or text i 0) (h i l)
 
 -- ---- those of a text
 
-base_sum : (text : List ℕ) → length (base_of text) ≡ sum_after codes_for 0 text
+pub base_sum : (text : List ℕ) → length (base_of text) ≡ sum_after codes_for 0 text
 unfolding base_of
 base_sum text = each-length own 0 text
 
 -- one a character or more
-least-codes : (text : List ℕ) → AllCoded text → length text ≤ length (base_of text)
+pub least-codes : (text : List ℕ) → AllCoded text → length text ≤ length (base_of text)
 unfolding translation itself specials sent characters numbers same saying codes every long own base_of first
 least-codes text h = omega (arith, least-each translation 1 tt (lit≤ tt) text (all-stand text h))
 

@@ -11,6 +11,7 @@ invariant-loop l = record {
   most : l.left + 5 * l.counter ≤ l.have;
   least : l.have ≤ l.left + 6 * l.counter;
   count : l.count ≤ 19 * l.counter;
+  taken : l.codes ≡ l.counter;
   top : l.top ≡ l.held * 2 ^ (64 - l.left) % 2 ^ 64;
   few : l.count ≤ 18 → l.count ≤ 2 * l.counter;
   passed : l.count ≤ 18 → CountedSoFar scheme (low l.have l.held) (low l.left l.held) l.count l.counter;

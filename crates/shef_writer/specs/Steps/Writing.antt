@@ -28,11 +28,11 @@ use Rattle.shef.proofs.Writer.{writer-laws}
 use Rattle.text_sender.specs.Steps.Writes.{WriteLaws}
 
 -- those of a text
-bits-whole : (t : List ℕ) → length (codes (ours t)) ≡ sum_after bits_for 0 t
+pub bits-whole : (t : List ℕ) → length (codes (ours t)) ≡ sum_after bits_for 0 t
 unfolding ours
 bits-whole t = each-length own 0 t
 
-least-bits : (t : List ℕ) → AllCoded t → 3 * length t ≤ length (codes (ours t))
+pub least-bits : (t : List ℕ) → AllCoded t → 3 * length t ≤ length (codes (ours t))
 unfolding table consecutive code_for characters numbers low bit same saying codes every long ours own coded first
 least-bits t h = least-each table 3 tt (lit≤ tt) t h
 
