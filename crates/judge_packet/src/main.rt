@@ -6,7 +6,7 @@
 use std::process::ExitCode;
 
 fn main(rt: HostRuntime) -> ExitCode {
-    standard_input::run(
+    standard_input::run_with(
         &mut rt.stdin(),
         &mut rt.stdout(),
         &rt,

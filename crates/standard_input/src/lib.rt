@@ -1,4 +1,5 @@
-// Standard input, read into a buffer; and a program that reads a packet there.
+// Standard input, read into a buffer; and a program that reads a packet there and prints a line of it: one that is told into a buffer, or (`displayed`) one
+// that `{}` writes.
 
 #![tactic(auto)]
 
@@ -12,6 +13,10 @@ use std::io;
 use std::io::{Read, Write};
 use std::ops::ControlFlow;
 use std::process::ExitCode;
+
+mod displayed;
+
+pub use displayed::{print_line, run};
 
 // The bytes of standard input that a program takes (RULES, Reading program; Judging).
 const INPUT: usize = 8192;
@@ -53,7 +58,7 @@ fn failed(rt: &impl Eprint, program: &str, what: &str) -> ExitCode
 }
 
 // Prints a line in one piece. It asks for no memory, and fails only where the writing does.
-pub fn print_line<W: Write, L: Line>(out: &mut W, line: &L) -> io::Result<()>
+pub fn print_told<W: Write, L: Line>(out: &mut W, line: &L) -> io::Result<()>
     ensures { OnOk result (Appends (W.contents out.old) (W.contents out.new) (L.told line.now)) }
 {
     let mut row = [0u8; LINE];
@@ -63,7 +68,7 @@ pub fn print_line<W: Write, L: Line>(out: &mut W, line: &L) -> io::Result<()>
 
 // Reads the packet at the front of the input and prints the line that is reported of it. The program ends with 0, or with 2 where a read fails, and
 // then without a line, or where the line cannot be written.
-pub fn run<R: Read, W: Write, L: Line + Drop, F: FnOnce(&[u8]) -> L>(
+pub fn run_with<R: Read, W: Write, L: Line + Drop, F: FnOnce(&[u8]) -> L>(
     input: &mut R,
     out: &mut W,
     errors: &impl Eprint,
@@ -78,7 +83,7 @@ pub fn run<R: Read, W: Write, L: Line + Drop, F: FnOnce(&[u8]) -> L>(
         return failed(errors, program, "standard input cannot be read");
     };
     let line = report(&packet[..got]);
-    if print_line(out, &line).is_err() {
+    if print_told(out, &line).is_err() {
         return failed(errors, program, "the line could not be written");
     }
     ExitCode::SUCCESS

@@ -156,7 +156,7 @@ fn counts(answer: ReadAnswer) -> (usize, usize) {
 
 fn print_read<W: Write>(out: &mut W, answer: ReadAnswer, text: &[u8]) -> io::Result<()> {
     let (codes, with) = counts(answer);
-    standard_input::print_line(out, &Report(answer))?;
+    standard_input::print_told(out, &Report(answer))?;
     out.write_all(b"codes")?;
     writeln!(out, " {codes}")?;
     print_buffer(out, with, text)
