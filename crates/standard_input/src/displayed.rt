@@ -10,7 +10,7 @@ use std::io::{Read, Write};
 use std::process::ExitCode;
 use std::{fmt, io};
 
-// Prints a line in one piece: what `{}` writes of it.
+// Prints a line in one piece: what `{}` writes of it. It fails where the writing does, where there is no memory for the line, and where formatting it fails.
 pub fn print_line<W: Write, A: Allocator, D: fmt::Display + Drop>(
     out: &mut W,
     alloc: A,
@@ -23,7 +23,7 @@ pub fn print_line<W: Write, A: Allocator, D: fmt::Display + Drop>(
 }
 
 // Reads the packet at the front of standard input and prints the line that is reported of it. The program ends with 0, or with 2 where a read fails, and
-// then without a line, or where the line cannot be written.
+// then without a line, or where the line cannot be written, for want of memory too.
 pub fn run<D: fmt::Display + Drop, F: FnOnce(&[u8]) -> D>(
     rt: &(impl Input + Print + Eprint + Alloc),
     program: &str,
